@@ -1,0 +1,64 @@
+-- The EVs in their circular order from the cursor on: where each stands, and where so many steps land. By cutting the list at the cursor.
+-- Assumes nothing.
+use mathlib.Core.Path.{_≡_, sym, ap, _∙_}
+use mathlib.Core.List.{List, _++_}
+use mathlib.Core.Logic.{by-cases}
+use Prim.Native.Nat.{ℕ, _+_, _-_, _*_, _%_, _≤_, _<_}
+use native.Mathlib.Nat.{sub-zero, le-of-eq, add-mod-right, mod-eq-of-lt}
+use native.Mathlib.Decide.{decLt}
+use native.Mathlib.Omega.{arith}
+use lib.ListN.{length, take, drop, getD, length-append, length-drop, take-append-drop, List·getD-append}
+use lib.Seq.{take-all, length-take-le, getD-take, getD-drop, getD-append-add}
+use Rattle.paths.specs.Path.{avoided, firstFree, from, steps, landed, choice}
+use Rattle.paths.proofs.Walk.{avoided-append, stays, goes, steps-lt}
+
+-- a number below twice n, modulo n, past the end
+pub once-round : (x n : ℕ) → n ≤ x → x < n + n → x - n ≡ x % n
+once-round x n l h =
+    let e : x ≡ (x - n) + n = omega arith in
+    sym (ap (λ (y : ℕ). y % n) e ∙ add-mod-right (x - n) n ∙ mod-eq-of-lt (omega arith))
+
+module _ (cursor : ℕ) (evs : List ℕ) (inside : cursor < length evs) where
+  pub length-from : length (from cursor evs) ≡ length evs
+  length-from = simp (length-append, length-drop, length-take-le cursor evs (omega arith)) (omega arith)
+
+  -- the order does not change how many are avoided
+  pub avoided-from : (time : ℕ) → avoided time (from cursor evs) ≡ avoided time evs
+  avoided-from time =
+      let whole = ap (avoided time) (take-append-drop cursor evs) in
+      omega (arith, avoided-append time (drop cursor evs) (take cursor evs), avoided-append time (take cursor evs) (drop cursor evs))
+
+  -- the EV that lies k steps from the cursor
+  pub from-at : (k : ℕ) → k < length evs → getD (from cursor evs) k 0 ≡ getD evs ((cursor + k) % length evs) 0
+  from-at k h =
+      let tail = length-drop cursor evs in
+      by-cases (decLt (cursor + k) (length evs))
+      (λ l. List·getD-append (drop cursor evs) (take cursor evs) 0 k (omega arith) ∙ getD-drop cursor evs k 0 ∙ ap (λ (x : ℕ). getD evs x 0) (sym (mod-eq-of-lt l)))
+      (λ l.
+      let j = cursor + k - length evs in
+      let e : k ≡ length (drop cursor evs) + j = omega arith in
+      ap (λ (x : ℕ). getD (from cursor evs) x 0) e ∙ getD-append-add (drop cursor evs) (take cursor evs) j 0 ∙ getD-take cursor evs j 0 (omega arith)
+      ∙ ap (λ (x : ℕ). getD evs x 0) (once-round (cursor + k) (length evs) (omega arith) (omega arith)))
+
+  -- how many EVs the choice passes, in that order
+  module _ (time : ℕ) where
+    pub steps-inside : steps time (from cursor evs) < length evs
+    steps-inside = omega (arith, length-from, steps-lt time (from cursor evs) (omega (arith, length-from)))
+
+    pub over-half : length evs < 2 * avoided time evs → 0 ≡ steps time (from cursor evs)
+    over-half many = stays time (from cursor evs) (omega (arith, length-from, avoided-from time))
+
+    pub half-or-less : 2 * avoided time evs ≤ length evs → firstFree time (from cursor evs) ≡ steps time (from cursor evs)
+    half-or-less few = goes time (from cursor evs) (omega (arith, length-from, avoided-from time))
+
+    -- what the steps over the two parts that are lent make of the choice
+    module _ (s : ℕ) (e : s ≡ steps time (take (length evs - cursor) (drop cursor evs) ++ take (cursor - 0) evs)) where
+      steps-from : s ≡ steps time (from cursor evs)
+      steps-from = e ∙ rw (take-all (length evs - cursor) (drop cursor evs) (le-of-eq (length-drop cursor evs)), sub-zero)
+
+      pub lands-inside : s < length evs
+      lands-inside = omega (arith, steps-from, steps-inside)
+
+      pub lands-on : landed cursor s (length evs) ≡ choice time cursor evs
+      unfolding choice
+      lands-on = ap (λ (x : ℕ). landed cursor x (length evs)) steps-from

@@ -1,0 +1,41 @@
+-- The next path: document 01, "Next path". Entry e of the list is the time of EV e; n, today 256, is the list's length.
+-- Assumes nothing.
+use mathlib.Core.List.{List, [], _∷_, _++_}
+use Prim.Native.Nat.{ℕ, suc, _+_, _*_, _%_}
+use lib.ListN.{length, take, drop, set}
+use Rattle.decide.specs.Branch.{ifLt}
+use Rattle.paths.specs.declared.Choice.{Choice}
+
+-- "that EV's time becomes" until
+abbrev pub withTime : List ℕ → ℕ → ℕ → List ℕ
+withTime evs ev until = set evs ev until
+
+-- "An EV is avoided while its time > now": 1 where it is, else 0
+unfoldable pub avoids : ℕ → ℕ → ℕ
+avoids time until = ifLt time until 1 0
+
+-- "the avoided count"
+unfoldable pub avoided : ℕ → List ℕ → ℕ
+avoided time [] = 0
+avoided time (until ∷ evs) = avoids time until + avoided time evs
+
+-- "the first EV .. not avoided": how many stand before it; all of them where every one is avoided
+unfoldable pub firstFree : ℕ → List ℕ → ℕ
+firstFree time [] = 0
+firstFree time (until ∷ evs) = ifLt time until (suc (firstFree time evs)) 0
+
+-- "from the cursor on, circularly": the times in that order
+abbrev pub from : ℕ → List ℕ → List ℕ
+from cursor evs = drop cursor evs ++ take cursor evs
+
+-- "Twice the avoided count over 256: take the cursor. Else the first EV from the cursor on": how many EVs, of those in that order, are passed
+unfoldable pub steps : ℕ → List ℕ → ℕ
+steps time evs = ifLt (length evs) (2 * avoided time evs) 0 (firstFree time evs)
+
+-- the EV that lies s steps from the cursor; "Cursor becomes that EV + 1, modulo 256"
+unfoldable pub landed : ℕ → ℕ → ℕ → Choice
+landed cursor s n = record { ev = (cursor + s) % n; cursor = ((cursor + s) % n + 1) % n }
+
+-- the next path
+unfoldable pub choice : ℕ → ℕ → List ℕ → Choice
+choice time cursor evs = landed cursor (steps time (from cursor evs)) (length evs)

@@ -1,0 +1,105 @@
+// The next path: until when each entropy value (EV) is avoided, and which EV is taken next. Document 01, "Next path".
+// `evs[e]` is the time of EV e; there are as many EVs as times are lent.
+ghost use mathlib.Core.Path.{_≡_};
+ghost use mathlib.Core.List.{_++_};
+ghost use Prim.Native.Nat.{_+_, _%_, _^_, _≤_, _<_};
+ghost use lib.ListN.{length};
+ghost use Rattle.paths.specs.Path.{withTime, avoids, avoided, firstFree, steps, landed, choice};
+
+// The EV that is taken, and the cursor after it.
+pub struct Choice {
+    pub ev: usize,
+    pub cursor: usize,
+}
+
+// Sets the time of an EV. An inner step: its caller proves that there is such an EV.
+pub fn avoid_until(evs: &mut [u64], ev: usize, until: u64)
+    requires { ⌜ ev < length (now evs) ⌝ }
+    ensures { λ r. ⌜ now (evs .exit) ≡ withTime (now (evs .entry)) ev until ⌝ }
+{
+    evs[ev] = until;
+}
+
+// 1 for an EV that is avoided, 0 for another.
+fn one_avoided(until: u64, time: u64) -> usize
+    ensures { λ r. ⌜ r ≡ avoids time until ⌝ }
+{
+    if time < until { 1 } else { 0 }
+}
+
+// How many EVs are avoided.
+fn count_avoided(evs: &[u64], time: u64) -> usize
+    ensures { λ r. ⌜ (r ≡ avoided time (now (evs .entry))) × (r ≤ length (now (evs .entry))) ⌝ }
+{
+    let mut count: usize = 0;
+    let mut i = 0;
+    while i < evs.len() {
+        count += one_avoided(evs[i], time);
+        i += 1;
+    }
+    count
+}
+
+// The place of the first EV that is not avoided; the length where every one is.
+fn first_free(evs: &[u64], time: u64) -> usize
+    ensures { λ r. ⌜ (r ≡ firstFree time (now (evs .entry))) × (r ≤ length (now (evs .entry))) ⌝ }
+{
+    let mut i = 0;
+    while i < evs.len() {
+        if evs[i] <= time {
+            return i;
+        }
+        i += 1;
+    }
+    i
+}
+
+// x modulo n, of an x below twice n: no division.
+fn wrap(x: usize, n: usize) -> usize
+    requires { ⌜ x < n + n ⌝ }
+    ensures { λ r. ⌜ r ≡ x % n ⌝ }
+{
+    if x < n {
+        return x;
+    }
+    x - n
+}
+
+// How many EVs the choice passes: `tail` are the EVs from the cursor on, `head` those before it.
+// Two walks: one counts, one searches.
+fn steps(tail: &[u64], head: &[u64], time: u64) -> usize
+    requires { ⌜ length (now tail) + length (now head) < 2 ^ 60 ⌝ }
+    ensures { λ r. ⌜ r ≡ steps time (now (tail .entry) ++ now (head .entry)) ⌝ }
+{
+    let n = tail.len() + head.len();
+    let a = count_avoided(tail, time);
+    let b = count_avoided(head, time);
+    if n < 2 * (a + b) {
+        return 0;
+    }
+    let k = first_free(tail, time);
+    if k < tail.len() {
+        return k;
+    }
+    let j = first_free(head, time);
+    k + j
+}
+
+// The EV that lies s steps from the cursor, and the cursor after it, of n EVs.
+fn land(cursor: usize, s: usize, n: usize) -> Choice
+    requires { ⌜ (cursor < n) × (s < n) × (n < 2 ^ 60) ⌝ }
+    ensures { λ r. ⌜ r ≡ landed cursor s n ⌝ }
+{
+    let ev = wrap(cursor + s, n);
+    let next = wrap(ev + 1, n);
+    Choice { ev, cursor: next }
+}
+
+// The next path. An inner step: its caller proves that the cursor is an EV.
+pub fn choose(evs: &[u64], cursor: usize, time: u64) -> Choice
+    requires { ⌜ cursor < length (now evs) ⌝ }
+    ensures { λ r. ⌜ r ≡ choice time cursor (now (evs .entry)) ⌝ }
+{
+    let s = steps(&evs[cursor..], &evs[0..cursor], time);
+    land(cursor, s, evs.len())
+}

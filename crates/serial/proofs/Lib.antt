@@ -1,0 +1,4 @@
+-- Laws of wrapped numbers, over plain numbers.
+pub mod Wraps
+pub mod Counts
+pub mod Cover
