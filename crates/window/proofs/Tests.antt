@@ -1,0 +1,144 @@
+-- The tests of refusals 1 and 2 hold exactly where the facts do; the fresh window is held; a sample exists exactly as document 01 has it.
+-- Assumes nothing.
+use mathlib.Core.Path.{_≡_, sym, ap}
+use mathlib.Core.Bool.{Bool, true, false, _&&_}
+use mathlib.Core.Logic.{_⊎_, inl, inr}
+use Prim.Native.Nat.{ℕ, _+_, _-_, _≤_, _<_, min}
+use lib.Dec.{eqb}
+use borrow.Author.Tests.{eqb-true, eq-eqb}
+use borrow.Author.Needs.{needs}
+use native.Mathlib.Omega.{arith}
+use Rattle.decide.specs.Branch.{so-both, lt-both, so-yes, so-no, lt-yes}
+use Rattle.decide.specs.Test.{inside, both, whole, inside-tells, inside-yes}
+use Rattle.window.specs.Limits.{mtuLeast, mtuMost, windowMost, delayMost, gainMost, alphaMost, parts, periodMost, thresholdMost}
+use Rattle.window.specs.Limits.{sampleMost, avgMost, incStop, tallyStop, laterEnd, ceilingOf}
+use Rattle.window.specs.Range.{inRange, InRange}
+use Rattle.window.specs.Held.{isHeld, Held, freshOf}
+use Rattle.window.specs.Delays.{oneSend, sampleOf, Sampled}
+use Rattle.window.specs.declared.Settings.{Settings}
+use Rattle.window.specs.declared.Window.{Window}
+use Rattle.window.specs.declared.Sample.{Sample}
+use Rattle.window.specs.declared.Sample.the-variants.{Ticks, Absent}
+use Rattle.window.proofs.Ceilings.{ceiling-fresh}
+
+-- the last row of a list of ranges, and the rows before it
+row : (rest : Bool) (low x high : ℕ) → (rest && inside low x high) ≡ true → (rest ≡ true) × ((low ≤ x) × (x ≤ high))
+row rest low x high e =
+    let p = both rest (inside low x high) e in
+    (p .0, inside-tells low x high (p .1))
+
+pub range-facts : (s : Settings) → inRange s ≡ true → InRange s
+unfolding inRange
+range-facts s e =
+    let threshold = row _ 0 (s .«qa_threshold») thresholdMost e in
+    let bytes = row _ 1 (s .«adjust_bytes») windowMost (threshold .0) in
+    let period = row _ 1 (s .«adjust_period») periodMost (bytes .0) in
+    let jump = row _ 0 (s .«max_md_jump») parts (period .0) in
+    let gamma = row _ 0 (s .gamma) parts (jump .0) in
+    let alpha = row _ 0 (s .alpha) alphaMost (gamma .0) in
+    let eta = row _ 0 (s .eta) gainMost (alpha .0) in
+    let fi = row _ 0 (s .fi) gainMost (eta .0) in
+    let target = row _ 1 (s .«target_qdelay») delayMost (fi .0) in
+    let rtt = row _ 1 (s .«config_base_rtt») delayMost (target .0) in
+    let maxwnd = row (inside mtuLeast (s .mtu) mtuMost) (s .mtu) (s .maxwnd) windowMost (rtt .0) in
+    let mtu = inside-tells mtuLeast (s .mtu) mtuMost (maxwnd .0) in
+    omega arith
+
+pub range-test : (s : Settings) → InRange s → inRange s ≡ true
+unfolding inRange
+range-test s R = search (needs, whole, inside-yes) depth 20
+
+pub held-facts : (s : Settings) (clock : ℕ) (w : Window) → isHeld s clock w ≡ true → Held s clock w
+unfolding isHeld
+held-facts s clock w e =
+    let dec = row _ 0 (w .«last_dec») clock e in
+    let adjust = row _ 0 (w .«last_adjust») clock (dec .0) in
+    let end = row _ 0 (w .«qa_end») (laterEnd - 1) (adjust .0) in
+    let fi = row _ 0 (w .«fi_count») tallyStop (end .0) in
+    let ignore = row _ 0 (w .«bytes_to_ignore») (s .maxwnd) (fi .0) in
+    let ignored = row _ 0 (w .ignored) tallyStop (ignore .0) in
+    let achieved = row _ 0 (w .achieved) tallyStop (ignored .0) in
+    let received = row _ 0 (w .received) tallyStop (achieved .0) in
+    let inc = row _ 0 (w .«inc_bytes») incStop (received .0) in
+    let avg = row _ 0 (w .avg) avgMost (inc .0) in
+    let base = row (inside (s .mtu) (w .cwnd) (ceilingOf s (w .base))) 1 (w .base) (s .«config_base_rtt») (avg .0) in
+    let cwnd = inside-tells (s .mtu) (w .cwnd) (ceilingOf s (w .base)) (base .0) in
+    omega arith
+
+pub held-test : (s : Settings) (clock : ℕ) (w : Window) → Held s clock w → isHeld s clock w ≡ true
+unfolding isHeld
+held-test s clock w H =
+    let end : w .«qa_end» ≤ laterEnd - 1 = omega arith in
+    search (needs, whole, inside-yes) depth 20
+
+pub fresh-held : {s : Settings} → InRange s → Held s 0 (freshOf s)
+unfolding freshOf
+fresh-held R = omega (arith, ceiling-fresh R)
+
+-- a window that is held stays so while the clock moves on
+pub held-later : {s : Settings} {a b : ℕ} {w : Window} → Held s a w → a ≤ b → Held s b w
+held-later H h = omega arith
+
+-- "its resend count is 0 with the retx flag clear, or 1 with it set"
+abbrev pub OneCopy : ℕ → Bool → Type 0
+OneCopy resent retx = ((resent ≡ 0) × (retx ≡ false)) ⊎ ((resent ≡ 1) × (retx ≡ true))
+
+-- "A sample exists if the trigger packet is flying or marked before the ACK, and .., and now - sent - service is at least 1."
+pub record Exists (outstanding : Bool) (resent : ℕ) (retx : Bool) (time sent service : ℕ) : Type 0 where
+  pub known : outstanding ≡ true
+  pub copy : OneCopy resent retx
+  pub late : sent + service + 1 ≤ time
+
+one-copy : (resent : ℕ) (retx : Bool) → OneCopy resent retx → oneSend resent retx ≡ true
+unfolding oneSend
+one-copy resent retx (inl p) = sym (so-no retx true _ (eqb resent 0) (p .1) (sym (eq-eqb resent 0 (p .0))))
+one-copy resent retx (inr p) = sym (so-yes retx true (eqb resent 1) _ (p .1) (sym (eq-eqb resent 1 (p .0))))
+
+copy-one : (resent : ℕ) (retx : Bool) → oneSend resent retx ≡ true → OneCopy resent retx
+unfolding oneSend
+copy-one resent retx =
+    so-both (λ b. b ≡ true → OneCopy resent retx) retx (eqb resent 1) (eqb resent 0)
+    (λ set e. inr (eqb-true resent 1 e, set))
+    (λ clear e. inl (eqb-true resent 0 e, clear))
+
+module _ (outstanding : Bool) (resent : ℕ) (retx : Bool) (time sent service : ℕ) where
+  -- where 01's conditions hold the sample is now - sent - service, cut at 2^20 ..
+  pub sample-exists :
+      Exists outstanding resent retx time sent service →
+      sampleOf outstanding resent retx time sent service ≡ Ticks (min (time - sent - service) sampleMost)
+  unfolding sampleOf
+  sample-exists x =
+      let cut : min (time - sent - service) sampleMost ≡ min (time - (sent + service)) sampleMost = omega arith in
+      let copy = one-copy resent retx (x .copy) in
+      let late : sent + service < time = omega arith in
+      sym (so-yes _ _ _ _ (x .known) (so-yes _ _ _ _ copy (lt-yes _ _ _ _ _ late (ap Ticks cut))))
+
+  -- .. and where there is a sample they hold, and it is that
+  pub exists-sample :
+      (t : ℕ) → sampleOf outstanding resent retx time sent service ≡ Ticks t →
+      Exists outstanding resent retx time sent service × (t ≡ min (time - sent - service) sampleMost)
+  unfolding sampleOf
+  exists-sample t =
+      let P : Sample → Type 0 =
+      λ p. p ≡ Ticks t → Exists outstanding resent retx time sent service × (t ≡ min (time - sent - service) sampleMost) in
+      so-both P outstanding _ _
+      (λ known.
+      so-both P (oneSend resent retx) _ _
+      (λ copy.
+      lt-both P (sent + service) time _ _
+      (λ late e.
+      let is : min (time - (sent + service)) sampleMost ≡ t = cc in
+      (record { known = known; copy = copy-one resent retx copy; late = omega arith }, omega arith))
+      (λ late e. never e))
+      (λ copy e. never e))
+      (λ known e. never e)
+    where
+      never : {A : Type 0} {t : ℕ} → Absent ≡ Ticks t → A
+      never e = let z : _≡_ {A = ℕ} 0 1 = cc in absurd (let k : ⊥ = omega arith in k)
+
+  pub sample-held : Sampled (sampleOf outstanding resent retx time sent service)
+  sample-held =
+      record {
+        low = λ t e. let x = exists-sample t e in omega (arith, x .0 .late, x .1);
+        high = λ t e. let x = exists-sample t e in omega (arith, x .1);
+      }

@@ -1,0 +1,61 @@
+-- Document 01, "Samples and delay".
+-- Assumes nothing.
+use mathlib.Core.Path.{_≡_}
+use mathlib.Core.Bool.{Bool}
+use Prim.Native.Nat.{ℕ, _+_, _-_, _*_, _/_, _≤_, min}
+use lib.Dec.{eqb}
+use Rattle.decide.specs.Branch.{ifSo, ifLt}
+use Rattle.window.specs.Limits.{sampleMost, parts}
+use Rattle.window.specs.Fields.{withBase, withAvg}
+use Rattle.window.specs.declared.Settings.{Settings}
+use Rattle.window.specs.declared.Window.{Window}
+use Rattle.window.specs.declared.Delayed.{Delayed}
+use Rattle.window.specs.declared.Sample.{Sample}
+use Rattle.window.specs.declared.Sample.the-variants.{Ticks, Absent}
+
+-- "its resend count is 0 with the retx flag clear, or 1 with it set"
+unfoldable pub oneSend : ℕ → Bool → Bool
+oneSend resent retx = ifSo retx (eqb resent 1) (eqb resent 0)
+
+-- "A sample exists if the trigger packet is flying or marked before the ACK, and its resend count .., and now - sent - service is at least 1."
+-- "A sample above 2^20 counts as 2^20."
+unfoldable pub sampleOf : Bool → ℕ → Bool → ℕ → ℕ → ℕ → Sample
+sampleOf outstanding resent retx time sent service =
+    ifSo outstanding
+    (ifSo (oneSend resent retx)
+    (ifLt (sent + service) time (Ticks (min (time - (sent + service)) sampleMost)) Absent)
+    Absent)
+    Absent
+
+-- the average, read in whole ticks: "held in 1/1,024 tick, read by dividing by 1,024"
+unfoldable pub averageOf : ℕ → ℕ
+averageOf avg = avg / parts
+
+-- "Fed x: avg = (79·avg + 1,024·x) / 80"
+unfoldable pub fedBy : ℕ → ℕ → ℕ
+fedBy avg x = (79 * avg + 1024 * x) / 80
+
+-- "For an ACK x = delay, but x = base/4 when unmarked and target < delay ≤ 5·base."
+unfoldable pub feedOf : ℕ → ℕ → Bool → ℕ → ℕ
+feedOf target base marked delay = ifSo marked delay (ifLt target delay (ifLt (5 * base) delay delay (base / 4)) delay)
+
+-- "base = min(base, sample)"
+unfoldable pub loweredOf : Sample → Window → Window
+loweredOf (Ticks t) w = withBase (min (w .base) t) w
+loweredOf Absent w = w
+
+-- "delay = sample - base", and the filter is fed. "No sample on an ACK (H): delay is the average, the filter is not fed."
+unfoldable pub measuredOf : Settings → Bool → Sample → Window → Delayed
+measuredOf s marked (Ticks t) w =
+    let base = min (w .base) t in
+    let delay = t - base in
+    record {
+      window = withAvg (fedBy (w .avg) (feedOf (s .«target_qdelay») base marked delay)) (withBase base w);
+      delay = delay;
+    }
+measuredOf s marked Absent w = record { window = w; delay = averageOf (w .avg) }
+
+-- a sample is at least 1 and at most 2^20
+pub record Sampled (p : Sample) : Type 0 where
+  pub low : (t : ℕ) → p ≡ Ticks t → 1 ≤ t
+  pub high : (t : ℕ) → p ≡ Ticks t → t ≤ sampleMost

@@ -1,0 +1,43 @@
+-- Refusal 1: "a setting is outside its range". The ranges, row by row as document 01 gives them.
+-- Assumes nothing.
+use Prim.Native.Nat.{ℕ, _≤_}
+use mathlib.Core.Bool.{Bool, _&&_}
+use Rattle.decide.specs.Test.{inside}
+use Rattle.window.specs.Limits.{mtuLeast, mtuMost, windowMost, delayMost, gainMost, alphaMost, parts, periodMost, thresholdMost}
+use Rattle.window.specs.declared.Settings.{Settings}
+
+unfoldable pub inRange : Settings → Bool
+inRange s =
+    inside mtuLeast (s .mtu) mtuMost
+    && inside (s .mtu) (s .maxwnd) windowMost
+    && inside 1 (s .«config_base_rtt») delayMost
+    && inside 1 (s .«target_qdelay») delayMost
+    && inside 0 (s .fi) gainMost
+    && inside 0 (s .eta) gainMost
+    && inside 0 (s .alpha) alphaMost
+    && inside 0 (s .gamma) parts
+    && inside 0 (s .«max_md_jump») parts
+    && inside 1 (s .«adjust_period») periodMost
+    && inside 1 (s .«adjust_bytes») windowMost
+    && inside 0 (s .«qa_threshold») thresholdMost
+
+-- the same as facts
+pub record InRange (s : Settings) : Type 0 where
+  pub mtu-low : mtuLeast ≤ s .mtu
+  pub mtu-high : s .mtu ≤ mtuMost
+  pub maxwnd-low : s .mtu ≤ s .maxwnd
+  pub maxwnd-high : s .maxwnd ≤ windowMost
+  pub rtt-low : 1 ≤ s .«config_base_rtt»
+  pub rtt-high : s .«config_base_rtt» ≤ delayMost
+  pub target-low : 1 ≤ s .«target_qdelay»
+  pub target-high : s .«target_qdelay» ≤ delayMost
+  pub fi-high : s .fi ≤ gainMost
+  pub eta-high : s .eta ≤ gainMost
+  pub alpha-high : s .alpha ≤ alphaMost
+  pub gamma-high : s .gamma ≤ parts
+  pub jump-high : s .«max_md_jump» ≤ parts
+  pub period-low : 1 ≤ s .«adjust_period»
+  pub period-high : s .«adjust_period» ≤ periodMost
+  pub bytes-low : 1 ≤ s .«adjust_bytes»
+  pub bytes-high : s .«adjust_bytes» ≤ windowMost
+  pub threshold-high : s .«qa_threshold» ≤ thresholdMost

@@ -1,0 +1,73 @@
+// The ranges of the settings, the bounds of the window's numbers, and the fresh window.
+use crate::Settings;
+use crate::Window;
+use decide::within;
+ghost use mathlib.Core.Path.{_≡_};
+ghost use Rattle.window.specs.Limits.{ceilingOf};
+ghost use Rattle.window.specs.Range.{inRange};
+ghost use Rattle.window.specs.Held.{isHeld, freshOf};
+
+// max_wnd: the ceiling of the window at a base round trip.
+pub fn ceiling(s: Settings, base: u64) -> u64
+    ensures { λ r. ⌜ r ≡ ceilingOf s base ⌝ }
+{
+    s.maxwnd
+}
+
+// Whether every setting is in its range; where not, setting up is refused with 1.
+pub fn in_range(s: Settings) -> bool
+    ensures { λ r. ⌜ r ≡ inRange s ⌝ }
+{
+    within(crate::MTU_LEAST, s.mtu, crate::MTU_MOST)
+        & within(s.mtu, s.maxwnd, crate::WINDOW_MOST)
+        & within(1, s.config_base_rtt, crate::DELAY_MOST)
+        & within(1, s.target_qdelay, crate::DELAY_MOST)
+        & within(0, s.fi, crate::GAIN_MOST)
+        & within(0, s.eta, crate::GAIN_MOST)
+        & within(0, s.alpha, crate::ALPHA_MOST)
+        & within(0, s.gamma, crate::PARTS)
+        & within(0, s.max_md_jump, crate::PARTS)
+        & within(1, s.adjust_period, crate::PERIOD_MOST)
+        & within(1, s.adjust_bytes, crate::WINDOW_MOST)
+        & within(0, s.qa_threshold, crate::THRESHOLD_MOST)
+}
+
+// Whether the window's numbers are in their bounds at a clock: the window's part of refusal 2.
+pub fn is_held(s: Settings, clock: u64, w: Window) -> bool
+    ensures { λ r. ⌜ r ≡ isHeld s clock w ⌝ }
+{
+    within(s.mtu, w.cwnd, ceiling(s, w.base))
+        & within(1, w.base, s.config_base_rtt)
+        & within(0, w.avg, crate::AVG_MOST)
+        & within(0, w.inc_bytes, crate::INC_STOP)
+        & within(0, w.received, crate::TALLY_STOP)
+        & within(0, w.achieved, crate::TALLY_STOP)
+        & within(0, w.ignored, crate::TALLY_STOP)
+        & within(0, w.bytes_to_ignore, s.maxwnd)
+        & within(0, w.fi_count, crate::TALLY_STOP)
+        & within(0, w.qa_end, crate::LATER_END - 1)
+        & within(0, w.last_adjust, clock)
+        & within(0, w.last_dec, clock)
+}
+
+// The window of a fresh state.
+pub fn fresh(s: Settings) -> Window
+    ensures { λ r. ⌜ r ≡ freshOf s ⌝ }
+{
+    Window {
+        cwnd: s.maxwnd,
+        base: s.config_base_rtt,
+        avg: 0,
+        inc_bytes: 0,
+        received: 0,
+        achieved: 0,
+        ignored: 0,
+        bytes_to_ignore: 0,
+        fi_count: 0,
+        fast: false,
+        trigger: false,
+        qa_end: 0,
+        last_adjust: 0,
+        last_dec: 0,
+    }
+}

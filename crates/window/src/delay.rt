@@ -1,0 +1,111 @@
+// Samples and delay.
+use crate::Delayed;
+use crate::Sample;
+use crate::Settings;
+use crate::Window;
+use decide::least;
+ghost use mathlib.Core.Path.{_≡_};
+ghost use Prim.Native.Nat.{_≤_};
+ghost use Rattle.window.specs.Limits.{delayMost, sampleMost, avgMost};
+ghost use Rattle.window.specs.Delays.{oneSend, sampleOf, averageOf, fedBy, feedOf, loweredOf, measuredOf, Sampled};
+
+// Whether a resend count and a retx flag tell which copy of the packet an answer is to.
+fn one_send(resent: u64, retx: bool) -> bool
+    ensures { λ r. ⌜ r ≡ oneSend resent retx ⌝ }
+{
+    if retx {
+        return resent == 1;
+    }
+    resent == 0
+}
+
+// The round-trip sample of an ACK, or of a NACK with service 0. `outstanding`: the packet is flying or marked.
+pub fn sample(
+    outstanding: bool,
+    resent: u64,
+    retx: bool,
+    time: u64,
+    sent: u64,
+    service: u64,
+) -> Sample
+    ensures { λ r. ⌜ r ≡ sampleOf outstanding resent retx time sent service ⌝ }
+{
+    if !outstanding {
+        return Sample::Absent;
+    }
+    if !one_send(resent, retx) {
+        return Sample::Absent;
+    }
+    if time <= sent {
+        return Sample::Absent;
+    }
+    if time - sent <= service {
+        return Sample::Absent;
+    }
+    Sample::Ticks(least(time - sent - service, crate::SAMPLE_MOST))
+}
+
+// The average in whole ticks.
+pub(crate) fn average(avg: u64) -> u64
+    ensures { λ r. ⌜ r ≡ averageOf avg ⌝ }
+{
+    avg / crate::PARTS
+}
+
+// One step of the filter.
+pub(crate) fn fed(avg: u64, x: u64) -> u64
+    requires { ⌜ (avg ≤ avgMost) × (x ≤ sampleMost) ⌝ }
+    ensures { λ r. ⌜ r ≡ fedBy avg x ⌝ }
+{
+    (79 * avg + 1024 * x) / 80
+}
+
+// What the filter is fed of an ACK's delay.
+fn feed(target: u64, base: u64, marked: bool, delay: u64) -> u64
+    requires { ⌜ base ≤ delayMost ⌝ }
+    ensures { λ r. ⌜ r ≡ feedOf target base marked delay ⌝ }
+{
+    if marked {
+        return delay;
+    }
+    if delay <= target {
+        return delay;
+    }
+    if 5 * base < delay {
+        return delay;
+    }
+    base / 4
+}
+
+// The base once a sample is taken.
+pub(crate) fn lowered(sample: Sample, w: Window) -> Window
+    ensures { λ r. ⌜ r ≡ loweredOf sample w ⌝ }
+{
+    let Sample::Ticks(t) = sample else {
+        return w;
+    };
+    let mut n = w;
+    n.base = least(w.base, t);
+    n
+}
+
+// Sample and filter of an ACK. Without a sample the delay is the average, and the filter is not fed.
+pub(crate) fn measured(s: Settings, marked: bool, sample: Sample, w: Window) -> Delayed
+    requires { ⌜ Sampled sample ⌝ }
+    requires { ⌜ (w .base ≤ delayMost) × (w .avg ≤ avgMost) ⌝ }
+    ensures { λ r. ⌜ r ≡ measuredOf s marked sample w ⌝ }
+{
+    let Sample::Ticks(t) = sample else {
+        return Delayed {
+            window: w,
+            delay: average(w.avg),
+        };
+    };
+    let base = least(w.base, t);
+    let delay = t - base;
+    let avg = fed(w.avg, feed(s.target_qdelay, base, marked, delay));
+    let mut n = w;
+    n.base = base;
+    n.avg = avg;
+    Delayed { window: n, delay }
+}
