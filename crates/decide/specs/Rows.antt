@@ -1,8 +1,8 @@
 -- Refusals as rows: each has a test and the number that it gives. Of several that apply, the first row's number is given; 0 where none applies.
 -- Assumes nothing.
-use mathlib.Core.Path.{_≡_, refl, _∙_}
+use mathlib.Core.Path.{_≡_, refl}
 use mathlib.Core.Bool.{Bool, true, false}
-use mathlib.Core.List.{List, [], _∷_, _++_}
+use mathlib.Core.List.{List, [], _∷_}
 use Prim.Native.Nat.{ℕ, _<_}
 use native.Mathlib.Omega.{arith}
 use Rattle.decide.specs.Branch.{ifSo, so-yes, so-no}

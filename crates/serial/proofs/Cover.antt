@@ -1,7 +1,7 @@
 -- PSNs and what an ACK covers: sums and differences modulo 2^32, by `minus-is`; a map's highest set bit; the wrapped comparison at 32 bits, by `wrap`.
 -- Assumes nothing.
 use mathlib.Core.Path.{_≡_, refl, sym, ap, _∙_}
-use mathlib.Core.Bool.{Bool, true, false, _||_, and-false}
+use mathlib.Core.Bool.{true, false, and-false}
 use mathlib.Core.Logic.{by-cases}
 use Prim.Native.Nat.{ℕ, zero, suc, _+_, _-_, _*_, _/_, _%_, _^_, _≤_, _<_}
 use native.Mathlib.Nat.{mod-add-mod, add-assoc, div-eq-of-lt, div-eq-of-lt-le, le-div-iff-mul-le, lt-of-lt-of-le, not-le-of-lt, pow-suc}
@@ -11,6 +11,7 @@ use lib.Pow.{pow-mono, pow-pos}
 use lib.Dec.{leb, ltb}
 use lib.Count.{leadingZeros, leading-length, leading-top}
 use borrow.Author.Tests.{lt-ltb, le-ltb, le-leb, lt-leb, ltb-false}
+use Rattle.decide.specs.Test.{neither}
 use Rattle.serial.specs.Wrap.{minus}
 use Rattle.serial.specs.Psn.{psns, reach, plus, bitOf, covered, backOf, spanOf, unsentOrOld}
 use Rattle.serial.proofs.Wraps.{minus-lt, minus-is, laps, minus-turns, minus-back, wrap}
@@ -113,11 +114,6 @@ bit-top map p l =
     let e : 64 - leadingZeros 64 map - 1 ≡ t .0 = omega (arith, t .1) in
     let one : map / 2 ^ t .0 ≡ 1 = div-eq-of-lt-le (2 ^ t .0) (omega (arith, t .2)) (omega (arith, t .3, pow-suc 2 (t .0))) in
     rw (e, one, lt-ltb (t .0) 64 (omega (arith, t .1)))
-
--- neither part of a test holds where the whole does not
-neither : (a b : Bool) → (a || b) ≡ false → (a ≡ false) × (b ≡ false)
-neither false b e = (refl, e)
-neither true b e = let z : _≡_ {A = ℕ} 0 1 = cc in absurd (let k : ⊥ = omega arith in k)
 
 -- an ACK that isn't refused with 9 lies at most 2^30 back, and its map ends before next
 pub sent-facts : (next cum map : ℕ) → unsentOrOld next cum map ≡ false → (backOf next cum ≤ reach) × (spanOf map ≤ backOf next cum)

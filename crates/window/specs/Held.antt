@@ -1,7 +1,7 @@
 -- The window's part of refusal 2, and the fresh window.
 -- Assumes nothing.
 use mathlib.Core.Path.{_≡_}
-use mathlib.Core.Bool.{Bool, true, false, _&&_}
+use mathlib.Core.Bool.{Bool, false, _&&_}
 use Prim.Native.Nat.{ℕ, _-_, _≤_, _<_}
 use Rattle.decide.specs.Test.{inside}
 use Rattle.window.specs.Limits.{avgMost, incStop, tallyStop, laterEnd, ceilingOf}

@@ -1,6 +1,6 @@
 -- Refusal 1: "a setting is outside its range". The ranges, row by row as document 01 gives them.
 -- Assumes nothing.
-use Prim.Native.Nat.{ℕ, _≤_}
+use Prim.Native.Nat.{_≤_}
 use mathlib.Core.Bool.{Bool, _&&_}
 use Rattle.decide.specs.Test.{inside}
 use Rattle.window.specs.Limits.{mtuLeast, mtuMost, windowMost, delayMost, gainMost, alphaMost, parts, periodMost, thresholdMost}

@@ -6,7 +6,7 @@ use crate::delay::average;
 use decide::least;
 use decide::most;
 ghost use mathlib.Core.Path.{_≡_};
-ghost use Prim.Native.Nat.{_≤_, _<_, _^_, min};
+ghost use Prim.Native.Nat.{_≤_, _<_};
 ghost use Rattle.window.specs.Limits.{parts, windowMost, alphaMost, delayMost, avgMost, tallyStop, incStop, newlyEnd};
 ghost use Rattle.window.specs.Range.{InRange};
 ghost use Rattle.window.specs.Held.{Held};

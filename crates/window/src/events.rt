@@ -20,7 +20,7 @@ ghost use Rattle.window.specs.Range.{InRange};
 ghost use Rattle.window.specs.Held.{Held, Kept};
 ghost use Rattle.window.specs.Delays.{Sampled};
 ghost use Rattle.window.specs.Quick.{aboveZero};
-ghost use Rattle.window.specs.Events.{ackOf, shrunkOf, lossOf, rttFed, nackOf};
+ghost use Rattle.window.specs.Events.{ackOf, shrunkOf, lossOf, nackOf};
 
 // The window after an ACK that brings newly bytes.
 pub fn ack(

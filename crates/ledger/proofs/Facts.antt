@@ -1,0 +1,462 @@
+-- What coherence says, fact by fact, and the way back: a queue of live packets, laid out, with a flow that counts it, holds together (`stands-laid`).
+-- By the laws of walks and the ring's geometry.
+-- Assumes nothing.
+use mathlib.Core.Path.{_≡_, refl, sym, ap, _∙_, subst}
+use mathlib.Core.Bool.{Bool, true, false, _&&_}
+use mathlib.Core.Logic.{by-cases}
+use mathlib.Core.List.{List, [], _∷_}
+use Prim.Native.Nat.{ℕ, _+_, _-_, _*_, _^_, _≤_, _<_}
+use native.Mathlib.Nat.{le-refl, mul-le-mul}
+use native.Mathlib.Decide.{decLt}
+use native.Mathlib.Omega.{arith}
+use lib.IntN.{ℤ, pos, negsuc}
+use lib.ListN.{length, getD, List·getD-eq-default}
+use lib.Dec.{leb, ltb, eqb}
+use borrow.Author.Tests.{leb-true, ltb-true, eqb-true, le-leb, lt-leb, lt-ltb, eq-eqb, ne-eqb, not-true}
+use Rattle.decide.specs.Branch.{lt-yes, lt-no, eq-both}
+use Rattle.decide.specs.Test.{inside, both, whole, inside-tells, inside-yes}
+use Rattle.serial.specs.Count.{counts}
+use Rattle.ledger.specs.Packets.{flyingStatus, doneStatus, none, isDone, flyingOne, markedOne, markedSize, sumOf}
+use Rattle.ledger.specs.Bounds.{sizeLeast, resentMost, backlogMost, inBounds, Flown}
+use Rattle.ledger.specs.Ring.{Ring, Ledger, ledger, tabulate, capOf, packetAt, placeOf, longOf, laid, queueOf, packets, offsetOf, packetOf}
+use Rattle.ledger.specs.Coherent.{allTo, isCapacity, isRing, isLive, isZero, slotOk, headOk, stands, tallies, coherent, Even, Coheres, Tallied}
+use Rattle.ledger.specs.declared.Flow.{Flow}
+use Rattle.ledger.specs.declared.Totals.{Totals}
+use Rattle.ledger.specs.declared.Packet.{Packet}
+use Rattle.ledger.proofs.Walks.{all-none, all-more, all-at, all-of, sum-append, sum-one, sum-bound}
+use Rattle.ledger.proofs.Geometry.{
+  Cap,
+  cap-facts,
+  queue-long,
+  queue-at,
+  queue-more,
+  laid-cap,
+  laid-even,
+  laid-at,
+  queue-laid,
+  laid-queue,
+  packet-none,
+}
+
+-- ---- one slot
+
+-- a slot in low..next-1
+pub record Live (mtu clock : ℕ) (x : Packet) : Type 0 where
+  pub status-least : flyingStatus ≤ x .status
+  pub status-most : x .status ≤ doneStatus
+  pub size-least : sizeLeast ≤ x .size
+  pub size-most : x .size ≤ mtu
+  pub sent-most : x .sent ≤ clock
+  pub resent-most : x .resent ≤ resentMost
+
+-- four numbers make a packet
+packets-same : {a b c d e f g h : ℕ} → a ≡ e → b ≡ f → c ≡ g → d ≡ h
+    → _≡_ {A = Packet} (record { status = a; size = b; sent = c; resent = d }) (record { status = e; size = f; sent = g; resent = h })
+packets-same i j k l = rw (i, j, k, l)
+
+module _ (mtu clock : ℕ) (x : Packet) where
+  live-facts : isLive mtu clock x ≡ true → Live mtu clock x
+  unfolding isLive
+  live-facts e =
+      let a = inside flyingStatus (x .status) doneStatus in
+      let b = a && inside sizeLeast (x .size) mtu in
+      let p = both (b && leb (x .sent) clock) (leb (x .resent) resentMost) e in
+      let q = both b (leb (x .sent) clock) (p .0) in
+      let r = both a (inside sizeLeast (x .size) mtu) (q .0) in
+      let s = inside-tells flyingStatus (x .status) doneStatus (r .0) in
+      let t = inside-tells sizeLeast (x .size) mtu (r .1) in
+      record {
+        status-least = s .0;
+        status-most = s .1;
+        size-least = t .0;
+        size-most = t .1;
+        sent-most = leb-true (x .sent) clock (q .1);
+        resent-most = leb-true (x .resent) resentMost (p .1);
+      }
+
+  live-test : Live mtu clock x → isLive mtu clock x ≡ true
+  unfolding isLive
+  live-test l =
+      whole
+      (whole
+      (whole (inside-yes flyingStatus (x .status) doneStatus (l .status-least) (l .status-most))
+      (inside-yes sizeLeast (x .size) mtu (l .size-least) (l .size-most)))
+      (le-leb (x .sent) clock (l .sent-most)))
+      (le-leb (x .resent) resentMost (l .resent-most))
+
+  zero-facts : isZero x ≡ true → x ≡ none
+  unfolding isZero
+  zero-facts e =
+      let a = eqb (x .status) 0 in
+      let b = a && eqb (x .size) 0 in
+      let p = both (b && eqb (x .sent) 0) (eqb (x .resent) 0) e in
+      let q = both b (eqb (x .sent) 0) (p .0) in
+      let r = both a (eqb (x .size) 0) (q .0) in
+      packets-same (eqb-true (x .status) 0 (r .0)) (eqb-true (x .size) 0 (r .1)) (eqb-true (x .sent) 0 (q .1)) (eqb-true (x .resent) 0 (p .1))
+
+  zero-test : x ≡ none → isZero x ≡ true
+  unfolding isZero
+  zero-test e = rw e refl
+
+-- a live packet stays so while the clock goes on
+pub live-later : {mtu a b : ℕ} {x : Packet} → a ≤ b → Live mtu a x → Live mtu b x
+live-later h l =
+    record {
+      status-least = l .status-least;
+      status-most = l .status-most;
+      size-least = l .size-least;
+      size-most = l .size-most;
+      sent-most = omega (arith, l .sent-most);
+      resent-most = l .resent-most;
+    }
+
+-- the slot k after low, of which the first n are low..next-1
+module _ (mtu clock : ℕ) (r : Ring) (low n k : ℕ) where
+  pub slot-live : k < n → slotOk mtu clock r low n k ≡ isLive mtu clock (packetAt r (placeOf (capOf r) low k))
+  unfolding slotOk
+  slot-live h =
+      let x = packetAt r (placeOf (capOf r) low k) in
+      sym (lt-yes k n (isLive mtu clock x) (isLive mtu clock x) (isZero x) h refl)
+
+  pub slot-zero : n ≤ k → slotOk mtu clock r low n k ≡ isZero (packetAt r (placeOf (capOf r) low k))
+  unfolding slotOk
+  slot-zero h =
+      let x = packetAt r (placeOf (capOf r) low k) in
+      sym (lt-no k n (isZero x) (isLive mtu clock x) (isZero x) h refl)
+
+module _ (r : Ring) (low n : ℕ) where
+  head-facts : headOk r low n ≡ true → 0 < n → isDone (packetAt r (placeOf (capOf r) low 0)) ≡ false
+  unfolding headOk
+  head-facts e h = not-true (isDone (packetAt r (placeOf (capOf r) low 0))) (simp (ne-eqb n 0 (λ q. omega arith)) at e)
+
+  head-test : (0 < n → isDone (packetAt r (placeOf (capOf r) low 0)) ≡ false) → headOk r low n ≡ true
+  unfolding headOk
+  head-test h = by-cases (decLt 0 n) (λ p. simp (ne-eqb n 0 (λ q. omega arith), h p)) (λ p. simp (eq-eqb n 0 (omega arith)))
+
+-- ---- the ring
+
+module _ (r : Ring) where
+  ring-facts : isRing r ≡ true → (isCapacity (capOf r) ≡ true) × Even r
+  unfolding isRing
+  ring-facts e =
+      let a = isCapacity (capOf r) in
+      let b = a && eqb (length (r .size)) (capOf r) in
+      let p = both (b && eqb (length (r .sent)) (capOf r)) (eqb (length (r .resent)) (capOf r)) e in
+      let q = both b (eqb (length (r .sent)) (capOf r)) (p .0) in
+      let s = both a (eqb (length (r .size)) (capOf r)) (q .0) in
+      let C = cap-facts (capOf r) (s .0) in (
+        s .0,
+        record {
+          some = omega (arith, C .least);
+          few = C .most;
+          size = eqb-true (length (r .size)) (capOf r) (s .1);
+          sent = eqb-true (length (r .sent)) (capOf r) (q .1);
+          resent = eqb-true (length (r .resent)) (capOf r) (p .1);
+        },
+      )
+
+  pub ring-cap : isRing r ≡ true → isCapacity (capOf r) ≡ true
+  ring-cap e = ring-facts e .0
+
+  pub ring-even : isRing r ≡ true → Even r
+  ring-even e = ring-facts e .1
+
+  ring-test : isCapacity (capOf r) ≡ true → Even r → isRing r ≡ true
+  unfolding isRing
+  ring-test e E =
+      whole
+      (whole (whole e (eq-eqb (length (r .size)) (capOf r) (E .size))) (eq-eqb (length (r .sent)) (capOf r) (E .sent)))
+      (eq-eqb (length (r .resent)) (capOf r) (E .resent))
+
+-- ---- a flow and its ring
+
+pub record Facts (mtu clock : ℕ) (f : Flow) (r : Ring) : Type 0 where
+  pub cap : isCapacity (capOf r) ≡ true
+  pub even : Even r
+  pub fits : longOf f ≤ capOf r
+  pub live : (k : ℕ) → k < longOf f → Live mtu clock (getD (packets f r) k none)
+  pub laid-so : r ≡ laid (capOf r) (f .low) (packets f r)
+  pub head : 0 < longOf f → isDone (getD (packets f r) 0 none) ≡ false
+  pub held : f .held < counts
+  pub backlog : f .backlog ≤ backlogMost
+
+pub packets-long : (f : Flow) (r : Ring) → length (packets f r) ≡ longOf f
+unfolding packets
+packets-long f r = queue-long r (f .low) (longOf f)
+
+module _ (mtu clock : ℕ) (f : Flow) (r : Ring) where
+  pub stands-facts : stands mtu clock f r ≡ true → Facts mtu clock f r
+  unfolding stands packets
+  stands-facts e =
+      let n = longOf f in
+      let slot = slotOk mtu clock r (f .low) n in
+      let a = isRing r in
+      let b = a && leb n (capOf r) in
+      let d = b && allTo slot (capOf r) in
+      let g = d && headOk r (f .low) n in
+      let p = both (g && ltb (f .held) counts) (leb (f .backlog) backlogMost) e in
+      let q = both g (ltb (f .held) counts) (p .0) in
+      let s = both d (headOk r (f .low) n) (q .0) in
+      let t = both b (allTo slot (capOf r)) (s .0) in
+      let u = both a (leb n (capOf r)) (t .0) in
+      let R = ring-facts r (u .0) in
+      let le : n ≤ capOf r = leb-true n (capOf r) (u .1) in
+      let ok = all-at slot (capOf r) (t .1) in
+      record {
+        cap = R .0;
+        even = R .1;
+        fits = le;
+        live =
+            λ k h. rw (queue-at r (f .low) n k h)
+            (live-facts mtu clock (packetAt r (placeOf (capOf r) (f .low) k)) (sym (slot-live mtu clock r (f .low) n k h) ∙ ok k (omega arith)));
+        laid-so =
+            laid-queue (capOf r) (cap-facts (capOf r) (R .0)) (f .low) r n (R .1) refl le
+            (λ k h l.
+            zero-facts mtu clock (packetAt r (placeOf (capOf r) (f .low) k)) (sym (slot-zero mtu clock r (f .low) n k h) ∙ ok k l));
+        head = λ h. rw (queue-at r (f .low) n 0 h) (head-facts r (f .low) n (s .1) h);
+        held = ltb-true (f .held) counts (q .1);
+        backlog = leb-true (f .backlog) backlogMost (p .1);
+      }
+
+  -- the packet of a PSN: live in low..next-1
+  pub packet-live : Facts mtu clock f r → (psn : ℕ) → offsetOf f psn < longOf f → Live mtu clock (packetOf f r psn)
+  unfolding packetOf
+  packet-live F psn h = F .live (offsetOf f psn) h
+
+-- a PSN that has a packet lies in low..next-1
+pub packet-some : (f : Flow) (r : Ring) (psn : ℕ) → 0 < packetOf f r psn .status → offsetOf f psn < longOf f
+packet-some f r psn h =
+    by-cases (decLt (offsetOf f psn) (longOf f)) (λ p. p)
+    (λ p. absurd (let e = ap (λ (x : Packet). x .status) (packet-none f r psn (omega arith)) in let z : ⊥ = omega arith in z))
+
+module _ (cap : ℕ) (f : Flow) (xs : List Packet) (ok : isCapacity cap ≡ true) where
+  C : Cap cap
+  C = cap-facts cap ok
+
+  -- the packets of a layout are the queue
+  pub packets-laid : longOf f ≡ length xs → length xs ≤ cap → packets f (laid cap (f .low) xs) ≡ xs
+  unfolding packets
+  packets-laid e fit = queue-laid cap C (f .low) xs (longOf f) (sym e) (omega arith)
+
+  at : (k : ℕ) → k < cap → packetAt (laid cap (f .low) xs) (placeOf (capOf (laid cap (f .low) xs)) (f .low) k) ≡ getD xs k none
+  at k h =
+      ap (λ (c : ℕ). packetAt (laid cap (f .low) xs) (placeOf c (f .low) k)) (laid-cap cap (f .low) xs) ∙ laid-at cap C (f .low) xs k h
+
+  -- THE KEEPING THEOREM: the layout of a queue of live packets that does not begin with a done one holds together with a flow that counts it
+  pub stands-laid : (mtu clock : ℕ) → length xs ≤ cap → ((k : ℕ) → k < length xs → Live mtu clock (getD xs k none))
+      → (0 < length xs → isDone (getD xs 0 none) ≡ false) → longOf f ≡ length xs → f .held < counts → f .backlog ≤ backlogMost
+      → stands mtu clock f (laid cap (f .low) xs) ≡ true
+  unfolding stands
+  stands-laid mtu clock fit live head e held backlog =
+      let r = laid cap (f .low) xs in
+      let c : capOf r ≡ cap = laid-cap cap (f .low) xs in
+      let slots : allTo (slotOk mtu clock r (f .low) (longOf f)) (capOf r) ≡ true =
+      all-of (slotOk mtu clock r (f .low) (longOf f)) (capOf r)
+      (λ k l.
+      by-cases (decLt k (longOf f))
+      (λ p.
+      slot-live mtu clock r (f .low) (longOf f) k p
+      ∙ live-test mtu clock _ (rw (at k (omega arith)) (live k (omega arith))))
+      (λ p.
+      slot-zero mtu clock r (f .low) (longOf f) k (omega arith)
+      ∙ zero-test mtu clock _ (at k (omega arith) ∙ List·getD-eq-default xs none (omega arith)))) in
+      let first : headOk r (f .low) (longOf f) ≡ true =
+      head-test r (f .low) (longOf f) (λ h. rw (at 0 (omega arith)) (head (omega arith))) in
+      whole
+      (whole
+      (whole (whole (whole (ring-test r (rw c ok) (laid-even cap C (f .low) xs)) (le-leb (longOf f) (capOf r) (omega arith))) slots) first)
+      (lt-ltb (f .held) counts held))
+      (le-leb (f .backlog) backlogMost backlog)
+
+-- the clock may go on
+pub stands-later : (mtu a b : ℕ) (f : Flow) (r : Ring) → stands mtu a f r ≡ true → a ≤ b → stands mtu b f r ≡ true
+stands-later mtu a b f r e h =
+    let F = stands-facts mtu a f r e in
+    let n : length (packets f r) ≡ longOf f = packets-long f r in
+    subst (λ (s : Ring). stands mtu b f s ≡ true) (sym (F .laid-so))
+    (stands-laid (capOf r) f (packets f r) (F .cap) mtu b (omega (arith, F .fits)) (λ k l. live-later h (F .live k (omega arith)))
+    (λ l. F .head (omega arith)) (sym n) (F .held) (F .backlog))
+
+-- ---- the totals
+
+pub flown-facts : (maxwnd : ℕ) (z : ℤ) → inBounds maxwnd z ≡ true → Flown maxwnd z
+unfolding inBounds
+flown-facts maxwnd (pos n) e = record { low = omega arith; high = leb-true n maxwnd (both true (leb n maxwnd) e .1) }
+flown-facts maxwnd (negsuc n) e = record { low = omega (arith, leb-true n (2 ^ 24 - 1) (both (leb n (2 ^ 24 - 1)) true e .0)); high = omega arith }
+
+pub flown-test : (maxwnd : ℕ) (z : ℤ) → Flown maxwnd z → inBounds maxwnd z ≡ true
+unfolding inBounds
+flown-test maxwnd (pos n) f = whole refl (le-leb n maxwnd (f .high))
+flown-test maxwnd (negsuc n) f = whole (le-leb n (2 ^ 24 - 1) (omega (arith, f .low))) refl
+
+module _ (maxwnd : ℕ) (t : Totals) (xs : List Packet) where
+  pub tallies-facts : tallies maxwnd t xs ≡ true
+      → (t .flying ≡ sumOf flyingOne xs) × (t .marked ≡ sumOf markedOne xs) × (t .«marked_bytes» ≡ sumOf markedSize xs)
+      × Flown maxwnd (t .«in_flight»)
+  unfolding tallies
+  tallies-facts e =
+      let a = eqb (t .flying) (sumOf flyingOne xs) in
+      let b = a && eqb (t .marked) (sumOf markedOne xs) in
+      let p = both (b && eqb (t .«marked_bytes») (sumOf markedSize xs)) (inBounds maxwnd (t .«in_flight»)) e in
+      let q = both b (eqb (t .«marked_bytes») (sumOf markedSize xs)) (p .0) in
+      let r = both a (eqb (t .marked) (sumOf markedOne xs)) (q .0) in (
+        eqb-true (t .flying) (sumOf flyingOne xs) (r .0),
+        eqb-true (t .marked) (sumOf markedOne xs) (r .1),
+        eqb-true (t .«marked_bytes») (sumOf markedSize xs) (q .1),
+        flown-facts maxwnd (t .«in_flight») (p .1),
+      )
+
+  pub tallies-test : t .flying ≡ sumOf flyingOne xs → t .marked ≡ sumOf markedOne xs → t .«marked_bytes» ≡ sumOf markedSize xs
+      → Flown maxwnd (t .«in_flight») → tallies maxwnd t xs ≡ true
+  unfolding tallies
+  tallies-test fl mk by fn =
+      whole
+      (whole (whole (eq-eqb (t .flying) (sumOf flyingOne xs) fl) (eq-eqb (t .marked) (sumOf markedOne xs) mk))
+      (eq-eqb (t .«marked_bytes») (sumOf markedSize xs) by))
+      (flown-test maxwnd (t .«in_flight») fn)
+
+-- ---- the ledger
+
+module _ (mtu maxwnd clock : ℕ) (l : Ledger) where
+  pub coherent-parts : coherent mtu maxwnd clock l ≡ true
+      → (stands mtu clock (l .flow) (l .slots) ≡ true) × (tallies maxwnd (l .totals) (packets (l .flow) (l .slots)) ≡ true)
+  unfolding coherent
+  coherent-parts e = both (stands mtu clock (l .flow) (l .slots)) (tallies maxwnd (l .totals) (packets (l .flow) (l .slots))) e
+
+  pub coherent-whole : stands mtu clock (l .flow) (l .slots) ≡ true → tallies maxwnd (l .totals) (packets (l .flow) (l .slots)) ≡ true
+      → coherent mtu maxwnd clock l ≡ true
+  unfolding coherent
+  coherent-whole e f = whole e f
+
+  -- at most 4,096 packets, each of at most 2^14 bytes
+  few-sum : (adds : Packet → ℕ) (b : ℕ) → Facts mtu clock (l .flow) (l .slots) → ((x : Packet) → x .size ≤ mtu → adds x ≤ b)
+      → sumOf adds (packets (l .flow) (l .slots)) ≤ 4096 * b
+  few-sum adds b F h =
+      let n = packets-long (l .flow) (l .slots) in
+      let s = sum-bound adds b (packets (l .flow) (l .slots)) (λ k i. h _ (F .live k (omega arith) .size-most)) in
+      let m : length (packets (l .flow) (l .slots)) ≤ 4096 = omega (arith, F .fits, F .even .few) in
+      omega (arith, s, mul-le-mul m (le-refl b))
+
+  pub coherent-coheres : mtu ≤ 2 ^ 14 → maxwnd ≤ 2 ^ 26 → coherent mtu maxwnd clock l ≡ true → Coheres l
+  unfolding flyingOne markedOne markedSize
+  coherent-coheres hm hw e =
+      let p = coherent-parts e in
+      let F = stands-facts mtu clock (l .flow) (l .slots) (p .0) in
+      let T = tallies-facts maxwnd (l .totals) (packets (l .flow) (l .slots)) (p .1) in
+      record {
+        mtu = mtu;
+        maxwnd = maxwnd;
+        clock = clock;
+        mtu-high = hm;
+        maxwnd-high = hw;
+        stands-so = p .0;
+        flying-least = omega (arith, T .0);
+        flying-most = omega (arith, T .0, few-sum flyingOne 1 F (λ x s. eq-both (λ (a : ℕ). a ≤ 1) (x .status) 1 1 0 (λ q. omega arith) (λ q. omega arith)));
+        marked-least = omega (arith, T .1);
+        marked-most = omega (arith, T .1, few-sum markedOne 1 F (λ x s. eq-both (λ (a : ℕ). a ≤ 1) (x .status) 2 1 0 (λ q. omega arith) (λ q. omega arith)));
+        bytes-least = omega (arith, T .2);
+        bytes-most =
+            omega (arith, T .2, few-sum markedSize (2 ^ 14) F (λ x s. eq-both (λ (a : ℕ). a ≤ 2 ^ 14) (x .status) 2 (x .size) 0 (λ q. omega arith) (λ q. omega arith)));
+        flown = T .3;
+      }
+
+pub coheres-facts : {l : Ledger} (c : Coheres l) → Facts (c .mtu) (c .clock) (l .flow) (l .slots)
+coheres-facts {l} c = stands-facts (c .mtu) (c .clock) (l .flow) (l .slots) (c .stands-so)
+
+-- ---- the walks of the test
+
+-- the first k of the n packets from low on have been looked at
+pub record Tallying (mtu clock : ℕ) (r : Ring) (low n k : ℕ) (sound : Bool) (flying marked bytes : ℕ) : Type 0 where
+  pub within : k ≤ n
+  pub sound-is : sound ≡ allTo (slotOk mtu clock r low n) k
+  pub flying-is : flying ≡ sumOf flyingOne (queueOf r low k)
+  pub marked-is : marked ≡ sumOf markedOne (queueOf r low k)
+  pub bytes-is : bytes ≡ sumOf markedSize (queueOf r low k)
+  pub flying-few : flying ≤ k
+  pub marked-few : marked ≤ k
+  pub bytes-few : bytes ≤ k * 2 ^ 32
+
+module _ (mtu clock : ℕ) (r : Ring) (low n : ℕ) where
+  pub tally-none : Tallying mtu clock r low n 0 true 0 0 0
+  unfolding sumOf queueOf tabulate
+  tally-none =
+      record {
+        within = omega arith;
+        sound-is = sym (all-none (slotOk mtu clock r low n));
+        flying-is = refl;
+        marked-is = refl;
+        bytes-is = refl;
+        flying-few = omega arith;
+        marked-few = omega arith;
+        bytes-few = omega arith;
+      }
+
+  sum-more : (adds : Packet → ℕ) (k a b : ℕ) → a ≡ sumOf adds (queueOf r low k) → b ≡ adds (packetAt r (placeOf (capOf r) low k))
+      → a + b ≡ sumOf adds (queueOf r low (k + 1))
+  sum-more adds k a b e f =
+      let x = packetAt r (placeOf (capOf r) low k) in
+      rw (queue-more r low k, e, f) (sym (sum-append adds (queueOf r low k) (x ∷ []) ∙ ap (λ (m : ℕ). sumOf adds (queueOf r low k) + m) (sum-one adds x)))
+
+  -- one packet more
+  module _ (k : ℕ) (x : Packet) (at : x ≡ packetAt r (placeOf (capOf r) low k)) where
+    pub tally-more : (s t : Bool) (a b d fl mk by : ℕ) → Tallying mtu clock r low n k s fl mk by → k < n → x .size < 2 ^ 32 → t ≡ isLive mtu clock x
+        → (a ≡ flyingOne x) × (a ≤ 1) → (b ≡ markedOne x) × (b ≤ 1) → (d ≡ markedSize x) × (d ≤ x .size)
+        → Tallying mtu clock r low n (k + 1) (s && t) (fl + a) (mk + b) (by + d)
+    tally-more s t a b d fl mk by T h small live fa mb sd =
+        record {
+          within = omega arith;
+          sound-is =
+              rw (T .sound-is, live, at) (ap (λ (q : Bool). allTo (slotOk mtu clock r low n) k && q) (sym (slot-live mtu clock r low n k h)))
+              ∙ sym (all-more (slotOk mtu clock r low n) k);
+          flying-is = sum-more flyingOne k fl a (T .flying-is) (fa .0 ∙ ap flyingOne at);
+          marked-is = sum-more markedOne k mk b (T .marked-is) (mb .0 ∙ ap markedOne at);
+          bytes-is = sum-more markedSize k by d (T .bytes-is) (sd .0 ∙ ap markedSize at);
+          flying-few = omega (arith, T .flying-few);
+          marked-few = omega (arith, T .marked-few);
+          bytes-few = omega (arith, T .bytes-few);
+        }
+
+    -- one slot more behind them
+    pub rest-more : (s t : Bool) → s ≡ allTo (slotOk mtu clock r low n) k → n ≤ k → t ≡ isZero x → (s && t) ≡ allTo (slotOk mtu clock r low n) (k + 1)
+    rest-more s t e h zero =
+        rw (e, zero, at) (ap (λ (q : Bool). allTo (slotOk mtu clock r low n) k && q) (sym (slot-zero mtu clock r low n k h)))
+        ∙ sym (all-more (slotOk mtu clock r low n) k)
+
+  pub tally-all : (k : ℕ) (s : Bool) (fl mk by : ℕ) → Tallying mtu clock r low n k s fl mk by → n ≤ k → Tallied mtu clock r low n s fl mk by
+  tally-all k s fl mk by T h =
+      let e : k ≡ n = omega (arith, T .within) in
+      record {
+        sound-is = T .sound-is ∙ ap (allTo (slotOk mtu clock r low n)) e;
+        flying-is = T .flying-is ∙ ap (λ (m : ℕ). sumOf flyingOne (queueOf r low m)) e;
+        marked-is = T .marked-is ∙ ap (λ (m : ℕ). sumOf markedOne (queueOf r low m)) e;
+        bytes-is = T .bytes-is ∙ ap (λ (m : ℕ). sumOf markedSize (queueOf r low m)) e;
+      }
+
+-- ---- the test of the ledger, as it is made
+
+regroup : (s a b c d : Bool) → (s && a && b && c && d) ≡ (s && (a && b && c && d))
+regroup true a b c d = refl
+regroup false a b c d = refl
+
+module _ (mtu maxwnd clock : ℕ) (f : Flow) (t : Totals) (r : Ring) (n : ℕ) (e : n ≡ longOf f) where
+  pub not-ring : isRing r ≡ false → false ≡ coherent mtu maxwnd clock (ledger f t r)
+  unfolding coherent stands
+  not-ring h = simp h
+
+  pub too-long : isRing r ≡ true → capOf r < n → false ≡ coherent mtu maxwnd clock (ledger f t r)
+  unfolding coherent stands
+  too-long h l = simp (h, lt-leb (longOf f) (capOf r) (rw e at l))
+
+  pub all-tests : isRing r ≡ true → n ≤ capOf r → (s a h b : Bool) (x y z : ℕ) → Tallied mtu clock r (f .low) n s x y z
+      → a ≡ allTo (slotOk mtu clock r (f .low) n) (capOf r) → h ≡ headOk r (f .low) n → b ≡ inBounds maxwnd (t .«in_flight»)
+      → (a && h && ltb (f .held) counts && leb (f .backlog) backlogMost && eqb (t .flying) x && eqb (t .marked) y && eqb (t .«marked_bytes») z && b)
+      ≡ coherent mtu maxwnd clock (ledger f t r)
+  unfolding coherent stands tallies packets
+  all-tests ok l s a h b x y z T ea eh eb =
+      rw (ea, eh, eb, T .flying-is, T .marked-is, T .bytes-is, e, ok, le-leb (longOf f) (capOf r) (rw e at l))
+      (regroup
+      (allTo (slotOk mtu clock r (f .low) (longOf f)) (capOf r) && headOk r (f .low) (longOf f) && ltb (f .held) counts && leb (f .backlog) backlogMost)
+      (eqb (t .flying) (sumOf flyingOne (packets f r)))
+      (eqb (t .marked) (sumOf markedOne (packets f r)))
+      (eqb (t .«marked_bytes») (sumOf markedSize (packets f r)))
+      (inBounds maxwnd (t .«in_flight»)))

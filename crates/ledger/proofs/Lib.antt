@@ -1,0 +1,12 @@
+-- The laws that the proofs of `ledger` share.
+pub mod Walks
+pub mod Geometry
+pub mod Facts
+pub mod Queues
+pub mod Covering
+pub mod Retiring
+pub mod Acked
+pub mod Signs
+pub mod Judging
+pub mod Sends
+pub mod Marks

@@ -1,0 +1,27 @@
+-- `judge_resend` tests the row of a resend on the packet that it finds.
+use borrow.Author.Needs.{needs}
+use Rattle.ledger.specs.Ring.{Ring, ring}
+use Rattle.ledger.proofs.Judging.{resend-8, resend-0}
+use Rattle.ledger.proofs.judge.judge_resend.Statement.{statement}
+use Rattle.ledger.proofs.judge.judge_resend.Tie as tie
+
+abbrev slots : tie.Start → Ring
+slots s = ring (s .args .status .now) (s .args .size .now) (s .args .sent .now) (s .args .resent .now)
+
+find-requires : tie.Need-find-requires
+find-requires c κs = search needs
+
+returns : tie.Need-returns
+returns c =
+    let f = c .before .before .before in
+    let s = f .before .before .before .before .before in
+    resend-8 (s .args .flow) (slots s) (s .args .psn) (s .args .bytes) (f .find .result) (f .find .ensures) (c .if1 .taken)
+
+returns-2 : tie.Need-returns-2
+returns-2 c =
+    let f = c .before .before .before in
+    let s = f .before .before .before .before .before in
+    resend-0 (s .args .flow) (slots s) (s .args .psn) (s .args .bytes) (f .find .result) (f .find .ensures) (c .if1 .left)
+
+pub judge-resend-spec : {M : Type 1} → statement M
+judge-resend-spec = tie.close (tie.spec find-requires returns returns-2)

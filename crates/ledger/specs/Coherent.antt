@@ -1,0 +1,112 @@
+-- The ledger's part of refusal 2: "Number 2 is: bad lengths; .. numbers outside the bounds here; .. next - low (modulo 2^32) over capacity; a slot in
+-- low..next-1 that isn't flying, marked or done, or has size outside 41..MTU, send time past the clock or resend count over 2; another slot not all
+-- zero; low done while low and next differ; totals of flying packets, marked packets or marked bytes that differ from the ring's".
+-- Assumes nothing.
+use mathlib.Core.Bool.{Bool, true, not, _&&_, _||_}
+use mathlib.Core.List.{List}
+use Prim.Native.Nat.{ℕ, zero, suc, _^_, _≤_, _<_}
+use mathlib.Core.Path.{_≡_}
+use lib.ListN.{length}
+use lib.Dec.{leb, ltb, eqb}
+use Rattle.decide.specs.Branch.{ifLt}
+use Rattle.decide.specs.Test.{inside}
+use Rattle.serial.specs.Count.{counts}
+use Rattle.ledger.specs.Packets.{flyingStatus, doneStatus, isDone, flyingOne, markedOne, markedSize, sumOf}
+use Rattle.ledger.specs.Bounds.{sizeLeast, resentMost, backlogMost, inBounds, Flown}
+use Rattle.ledger.specs.Ring.{Ring, Ledger, capOf, packetAt, placeOf, longOf, queueOf, packets}
+use Rattle.ledger.specs.declared.Flow.{Flow}
+use Rattle.ledger.specs.declared.Totals.{Totals}
+use Rattle.ledger.specs.declared.Packet.{Packet}
+
+-- a test that holds at each of 0 .. n - 1
+unfoldable pub allTo : (ℕ → Bool) → ℕ → Bool
+allTo f zero = true
+allTo f (suc n) = allTo f n && f n
+
+-- "capacity a power of two, 64..4,096"
+unfoldable pub isCapacity : ℕ → Bool
+isCapacity n = eqb n 64 || eqb n 128 || eqb n 256 || eqb n 512 || eqb n 1024 || eqb n 2048 || eqb n 4096
+
+-- four slices of one length, a capacity
+unfoldable pub isRing : Ring → Bool
+isRing r =
+    isCapacity (capOf r)
+    && eqb (length (r .size)) (capOf r)
+    && eqb (length (r .sent)) (capOf r)
+    && eqb (length (r .resent)) (capOf r)
+
+-- a slot in low..next-1
+unfoldable pub isLive : ℕ → ℕ → Packet → Bool
+isLive mtu clock x =
+    inside flyingStatus (x .status) doneStatus
+    && inside sizeLeast (x .size) mtu
+    && leb (x .sent) clock
+    && leb (x .resent) resentMost
+
+-- another slot
+unfoldable pub isZero : Packet → Bool
+isZero x = eqb (x .status) 0 && eqb (x .size) 0 && eqb (x .sent) 0 && eqb (x .resent) 0
+
+-- the slot k after low, of which the first n are low..next-1
+unfoldable pub slotOk : ℕ → ℕ → Ring → ℕ → ℕ → ℕ → Bool
+slotOk mtu clock r low n k =
+    let x = packetAt r (placeOf (capOf r) low k) in
+    ifLt k n (isLive mtu clock x) (isZero x)
+
+-- low is not done while low and next differ
+unfoldable pub headOk : Ring → ℕ → ℕ → Bool
+headOk r low n = eqb n 0 || not (isDone (packetAt r (placeOf (capOf r) low 0)))
+
+-- a flow and its ring: lengths, the window of PSNs, every slot, the first one, the held count and the backlog
+unfoldable pub stands : ℕ → ℕ → Flow → Ring → Bool
+stands mtu clock f r =
+    isRing r
+    && leb (longOf f) (capOf r)
+    && allTo (slotOk mtu clock r (f .low) (longOf f)) (capOf r)
+    && headOk r (f .low) (longOf f)
+    && ltb (f .held) counts
+    && leb (f .backlog) backlogMost
+
+-- the totals are those of the packets, and in-flight is in its bounds
+unfoldable pub tallies : ℕ → Totals → List Packet → Bool
+tallies maxwnd t xs =
+    eqb (t .flying) (sumOf flyingOne xs)
+    && eqb (t .marked) (sumOf markedOne xs)
+    && eqb (t .«marked_bytes») (sumOf markedSize xs)
+    && inBounds maxwnd (t .«in_flight»)
+
+-- the ledger holds together
+unfoldable pub coherent : ℕ → ℕ → ℕ → Ledger → Bool
+coherent mtu maxwnd clock l = stands mtu clock (l .flow) (l .slots) && tallies maxwnd (l .totals) (packets (l .flow) (l .slots))
+
+-- four slices of one length, which is not 0 and at most 4,096
+pub record Even (r : Ring) : Type 0 where
+  pub some : 0 < capOf r
+  pub few : capOf r ≤ 4096
+  pub size : length (r .size) ≡ capOf r
+  pub sent : length (r .sent) ≡ capOf r
+  pub resent : length (r .resent) ≡ capOf r
+
+-- What a step relies on, for some settings and clock: the flow and its ring hold together, the totals are at least those of its packets and
+-- leave room, and in-flight is in its bounds. (At least and not equal: the totals may be over other packets too.)
+pub record Coheres (l : Ledger) : Type 0 where
+  pub mtu : ℕ
+  pub maxwnd : ℕ
+  pub clock : ℕ
+  pub mtu-high : mtu ≤ 2 ^ 14
+  pub maxwnd-high : maxwnd ≤ 2 ^ 26
+  pub stands-so : stands mtu clock (l .flow) (l .slots) ≡ true
+  pub flying-least : sumOf flyingOne (packets (l .flow) (l .slots)) ≤ l .totals .flying
+  pub flying-most : l .totals .flying < 2 ^ 31
+  pub marked-least : sumOf markedOne (packets (l .flow) (l .slots)) ≤ l .totals .marked
+  pub marked-most : l .totals .marked < 2 ^ 31
+  pub bytes-least : sumOf markedSize (packets (l .flow) (l .slots)) ≤ l .totals .«marked_bytes»
+  pub bytes-most : l .totals .«marked_bytes» < 2 ^ 62
+  pub flown : Flown maxwnd (l .totals .«in_flight»)
+
+-- what one walk over the n packets from low on finds
+pub record Tallied (mtu clock : ℕ) (r : Ring) (low n : ℕ) (sound : Bool) (flying marked bytes : ℕ) : Type 0 where
+  pub sound-is : sound ≡ allTo (slotOk mtu clock r low n) n
+  pub flying-is : flying ≡ sumOf flyingOne (queueOf r low n)
+  pub marked-is : marked ≡ sumOf markedOne (queueOf r low n)
+  pub bytes-is : bytes ≡ sumOf markedSize (queueOf r low n)

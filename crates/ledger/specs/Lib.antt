@@ -1,0 +1,8 @@
+-- What the contracts of `ledger` cite.
+pub mod Packets
+pub mod Ring
+pub mod Coherent
+pub mod Steps
+pub mod Rows
+pub mod Bounds
+pub mod Delivery

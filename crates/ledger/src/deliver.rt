@@ -1,0 +1,182 @@
+// An ACK's ledger step: what it covers is done, done packets at the front leave the ring, the count is taken in.
+use crate::Books;
+use crate::Flow;
+use crate::Packet;
+use crate::Totals;
+use crate::judge::less;
+use crate::judge::newly;
+use crate::slots::after;
+use crate::slots::long;
+use crate::slots::place;
+use crate::slots::write;
+ghost use mathlib.Core.Path.{_≡_};
+ghost use mathlib.Core.Bool.{_&&_, _||_};
+ghost use Prim.Native.Nat.{_+_, _-_, _≤_};
+ghost use lib.Dec.{eqb};
+ghost use Rattle.decide.specs.Branch.{ifSo};
+ghost use Rattle.decide.specs.Rows.{firstOf};
+ghost use Rattle.ledger.specs.Packets.{flyingStatus, markedStatus, doneStatus};
+ghost use Rattle.ledger.specs.Ring.{ring, ledger};
+ghost use Rattle.ledger.specs.Coherent.{Coheres};
+ghost use Rattle.ledger.specs.Steps.{heldOf, ackedOf};
+ghost use Rattle.ledger.specs.Rows.{ackRows};
+ghost use Rattle.ledger.specs.Delivery.{Laid, Cover, Covered, Retired};
+
+// The status of a packet, covered or not: flying or marked becomes done.
+fn cover_one(hit: bool, status: u8) -> u8
+    ensures { λ r. ⌜ r ≡ ifSo (hit && (eqb status flyingStatus || eqb status markedStatus)) doneStatus status ⌝ }
+{
+    if hit & ((status == crate::FLYING) | (status == crate::MARKED)) {
+        return crate::DONE;
+    }
+    status
+}
+
+// 1 or 0; some bytes or none.
+fn one_if(b: bool) -> u32
+    ensures { λ r. ⌜ r ≡ ifSo b 1 0 ⌝ }
+{
+    if b { 1 } else { 0 }
+}
+
+fn size_if(b: bool, size: u32) -> u64
+    ensures { λ r. ⌜ r ≡ ifSo b size 0 ⌝ }
+{
+    if b { size as u64 } else { 0 }
+}
+
+// The first `reach` packets from low on are looked at; the ACK covers none beyond. What is covered leaves the totals.
+fn cover<'a, 'b>(
+    status: &'a mut [u8],
+    size: &'b [u32],
+    sent: &'b [u64],
+    resent: &'b [u8],
+    flow: Flow,
+    reach: u32,
+    cum: u32,
+    map: u64,
+    totals: Totals,
+) -> Totals
+    requires { ⌜ Cover (ledger flow totals (ring (now status) (now size) (now sent) (now resent))) reach cum map ⌝ }
+    ensures { λ r. ⌜ Covered (ledger flow totals (ring (now (status .entry)) (now (size .entry)) (now (sent .entry)) (now (resent .entry)))) cum map r (ring (now (status .exit)) (now (size .entry)) (now (sent .entry)) (now (resent .entry))) ⌝ }
+{
+    let cap = status.len();
+    let mut flying = totals.flying;
+    let mut marked = totals.marked;
+    let mut marked_bytes = totals.marked_bytes;
+    let mut i = place(cap, flow.low);
+    let mut k: u32 = 0;
+    while k < reach {
+        let hit = serial::covers(cum, map, serial::psn_plus(flow.low, k));
+        let s = status[i];
+        k += 1;
+        flying -= one_if(hit & (s == crate::FLYING));
+        marked -= one_if(hit & (s == crate::MARKED));
+        marked_bytes -= size_if(hit & (s == crate::MARKED), size[i]);
+        status[i] = cover_one(hit, s);
+        i = after(cap, i);
+    }
+    Totals {
+        flying,
+        marked,
+        marked_bytes,
+        in_flight: totals.in_flight,
+    }
+}
+
+// The done packets at the front leave the ring, at most n; how many.
+fn retire<'a, 'b, 'c, 'd>(
+    status: &'a mut [u8],
+    size: &'b mut [u32],
+    sent: &'c mut [u64],
+    resent: &'d mut [u8],
+    low: u32,
+    n: u32,
+) -> u32
+    requires { ⌜ Laid (ring (now status) (now size) (now sent) (now resent)) low n ⌝ }
+    ensures { λ r. ⌜ Retired (ring (now (status .entry)) (now (size .entry)) (now (sent .entry)) (now (resent .entry))) low n r (ring (now (status .exit)) (now (size .exit)) (now (sent .exit)) (now (resent .exit))) ⌝ }
+{
+    let cap = status.len();
+    let mut i = place(cap, low);
+    let mut k: u32 = 0;
+    while k < n {
+        if status[i] != crate::DONE {
+            return k;
+        }
+        k += 1;
+        write(
+            status,
+            size,
+            sent,
+            resent,
+            i,
+            Packet {
+                status: crate::EMPTY,
+                size: 0,
+                sent: 0,
+                resent: 0,
+            },
+        );
+        i = after(cap, i);
+    }
+    k
+}
+
+// How many packets from low on an ACK can cover: none beyond the one of its highest set bit.
+fn reach(n: u32, back: u32, span: u32) -> u32
+    requires { ⌜ (n ≤ 4096) × (span ≤ 64) ⌝ }
+    ensures { λ r. ⌜ r ≡ n + span - back ⌝ }
+{
+    if n + span <= back {
+        return 0;
+    }
+    n + span - back
+}
+
+// The held count after a count came in.
+fn held_after(count: u32, held: u32) -> u32
+    ensures { λ r. ⌜ r ≡ heldOf count held ⌝ }
+{
+    if serial::is_old(count, held) {
+        return held;
+    }
+    count
+}
+
+// The ledger after an ACK. An inner step: the caller proves that the ledger holds together and that no row refuses the ACK.
+pub fn ack<'a, 'b, 'c, 'd>(
+    cum: u32,
+    map: u64,
+    count: u32,
+    books: Books,
+    status: &'a mut [u8],
+    size: &'b mut [u32],
+    sent: &'c mut [u64],
+    resent: &'d mut [u8],
+) -> Books
+    requires { ⌜ Coheres (ledger (books .flow) (books .totals) (ring (now status) (now size) (now sent) (now resent))) ⌝ }
+    requires { ⌜ firstOf (ackRows (books .flow) (books .totals .«in_flight») cum map count) ≡ 0 ⌝ }
+    ensures { λ r. ⌜ ledger (r .flow) (r .totals) (ring (now (status .exit)) (now (size .exit)) (now (sent .exit)) (now (resent .exit))) ≡ ackedOf cum map count (ledger (books .flow) (books .totals) (ring (now (status .entry)) (now (size .entry)) (now (sent .entry)) (now (resent .entry)))) ⌝ }
+{
+    let mut flow = books.flow;
+    let low = flow.low;
+    let held = flow.held;
+    let n = long(flow);
+    let far = reach(n, serial::back(flow.next, cum), serial::span(map));
+    let mut totals = cover(
+        status,
+        size,
+        sent,
+        resent,
+        flow,
+        far,
+        cum,
+        map,
+        books.totals,
+    );
+    let gone = retire(status, size, sent, resent, low, n);
+    totals.in_flight = less(totals.in_flight, newly(count, held));
+    flow.low = serial::psn_plus(low, gone);
+    flow.held = held_after(count, held);
+    Books { flow, totals }
+}

@@ -1,0 +1,132 @@
+// The ledger's refusals, each event's in document 01's order: the number of the first that applies, 0 where none does. Nothing is changed.
+// Inner steps: the caller proves that the ledger holds together.
+use crate::Books;
+use crate::Flow;
+use crate::slots::find;
+use crate::slots::long;
+ghost use mathlib.Core.Path.{_≡_};
+ghost use Prim.Native.Nat.{_<_, _*_, _^_};
+ghost use lib.IntN.{pos, _-ℤ_};
+ghost use Rattle.decide.specs.Rows.{firstOf};
+ghost use Rattle.ledger.specs.Bounds.{sinks, Flown};
+ghost use Rattle.ledger.specs.Ring.{ring};
+ghost use Rattle.ledger.specs.Coherent.{Even};
+ghost use Rattle.ledger.specs.Steps.{newlyOf};
+ghost use Rattle.ledger.specs.Rows.{newRows, resendRows, ackRows, markRows};
+
+// The refusal numbers of document 01's table that the ledger gives.
+pub const OVER_BACKLOG: u32 = 5;
+
+pub const RING_FULL: u32 = 7;
+
+pub const WRONG_PSN: u32 = 8;
+
+pub const UNSENT_OR_OLD: u32 = 9;
+
+pub const NOT_FLYING: u32 = 10;
+
+pub const SINKS: u32 = 11;
+
+// Bytes that an ACK newly reports.
+pub fn newly(count: u32, held: u32) -> u64
+    ensures { λ r. ⌜ (r ≡ newlyOf count held) × (r < 2 ^ 31) ⌝ }
+{
+    crate::UNIT * serial::forward(count, held)
+}
+
+// In-flight, lower by some bytes.
+pub(crate) fn less(in_flight: i64, bytes: u64) -> i64
+    requires { ⌜ Flown (2 ^ 26) «in_flight» ⌝ }
+    requires { ⌜ bytes < 2 ^ 32 ⌝ }
+    ensures { λ r. ⌜ r ≡ «in_flight» -ℤ pos bytes ⌝ }
+{
+    in_flight - bytes as i64
+}
+
+// Whether in-flight would fall below -2^24.
+fn would_sink(in_flight: i64, bytes: u64) -> bool
+    requires { ⌜ Flown (2 ^ 26) «in_flight» ⌝ }
+    requires { ⌜ bytes < 2 ^ 32 ⌝ }
+    ensures { λ r. ⌜ r ≡ sinks «in_flight» bytes ⌝ }
+{
+    less(in_flight, bytes) < crate::IN_FLIGHT_LEAST
+}
+
+// A new packet: 8, 5, 7.
+pub fn judge_new(flow: Flow, cap: usize, psn: u32, size: u32) -> u32
+    ensures { λ r. ⌜ r ≡ firstOf (newRows flow cap psn size) ⌝ }
+{
+    let next = flow.next;
+    let backlog = flow.backlog;
+    if psn != next {
+        return WRONG_PSN;
+    }
+    if backlog < size as u64 {
+        return OVER_BACKLOG;
+    }
+    if long(flow) as usize == cap {
+        return RING_FULL;
+    }
+    0
+}
+
+// A resend: 8.
+pub fn judge_resend<'a>(
+    flow: Flow,
+    status: &'a [u8],
+    size: &'a [u32],
+    sent: &'a [u64],
+    resent: &'a [u8],
+    psn: u32,
+    bytes: u32,
+) -> u32
+    requires { ⌜ Even (ring (now status) (now size) (now sent) (now resent)) ⌝ }
+    ensures { λ r. ⌜ r ≡ firstOf (resendRows flow (ring (now (status .entry)) (now (size .entry)) (now (sent .entry)) (now (resent .entry))) psn bytes) ⌝ }
+{
+    let x = find(flow, status, size, sent, resent, psn);
+    if (x.status != crate::MARKED) | (bytes != x.size) {
+        return WRONG_PSN;
+    }
+    0
+}
+
+// An ACK: 9, 11.
+pub fn judge_ack(books: Books, cum: u32, map: u64, count: u32) -> u32
+    requires { ⌜ Flown (2 ^ 26) (books .totals .«in_flight») ⌝ }
+    ensures { λ r. ⌜ r ≡ firstOf (ackRows (books .flow) (books .totals .«in_flight») cum map count) ⌝ }
+{
+    let flow = books.flow;
+    let totals = books.totals;
+    if serial::unsent_or_old(flow.next, cum, map) {
+        return UNSENT_OR_OLD;
+    }
+    if would_sink(totals.in_flight, newly(count, flow.held)) {
+        return SINKS;
+    }
+    0
+}
+
+// A NACK or a loss: 10, 11.
+pub fn judge_mark<'a>(
+    books: Books,
+    status: &'a [u8],
+    size: &'a [u32],
+    sent: &'a [u64],
+    resent: &'a [u8],
+    psn: u32,
+) -> u32
+    requires { ⌜ Even (ring (now status) (now size) (now sent) (now resent)) ⌝ }
+    requires { ⌜ Flown (2 ^ 26) (books .totals .«in_flight») ⌝ }
+    ensures { λ r. ⌜ r ≡ firstOf (markRows (books .flow) (books .totals .«in_flight») (ring (now (status .entry)) (now (size .entry)) (now (sent .entry)) (now (resent .entry))) psn) ⌝ }
+{
+    let flow = books.flow;
+    let totals = books.totals;
+    let x = find(flow, status, size, sent, resent, psn);
+    if x.status != crate::FLYING {
+        return NOT_FLYING;
+    }
+    if would_sink(totals.in_flight, x.size as u64) {
+        return SINKS;
+    }
+    0
+}

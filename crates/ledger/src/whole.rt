@@ -1,0 +1,207 @@
+// Whether the ledger holds together: its part of refusal 2.
+use crate::Books;
+use crate::Packet;
+use crate::slots::after;
+use crate::slots::long;
+use crate::slots::place;
+use crate::slots::read;
+ghost use mathlib.Core.Path.{_≡_};
+ghost use mathlib.Core.Bool.{true};
+ghost use Prim.Native.Nat.{_<_, _≤_};
+ghost use Rattle.ledger.specs.Packets.{flyingOne, markedOne, markedSize};
+ghost use Rattle.ledger.specs.Bounds.{inBounds};
+ghost use Rattle.ledger.specs.Ring.{ring, ledger, capOf};
+ghost use Rattle.ledger.specs.Coherent.{allTo, isCapacity, isRing, isLive, isZero, slotOk, headOk, coherent, Even, Tallied};
+
+// What one walk over the packets finds: whether each slot is in order, and what they add up to.
+pub struct Sums {
+    pub sound: bool,
+    pub flying: u32,
+    pub marked: u32,
+    pub marked_bytes: u64,
+}
+
+// Whether a length is a capacity.
+fn is_capacity(n: usize) -> bool
+    ensures { λ r. ⌜ r ≡ isCapacity n ⌝ }
+{
+    (n == 64) | (n == 128) | (n == 256) | (n == 512) | (n == 1024) | (n == 2048) | (n == 4096)
+}
+
+// Whether the four slices have one length, and it is a capacity.
+pub fn is_ring<'a>(status: &'a [u8], size: &'a [u32], sent: &'a [u64], resent: &'a [u8]) -> bool
+    ensures { λ r. ⌜ r ≡ isRing (ring (now (status .entry)) (now (size .entry)) (now (sent .entry)) (now (resent .entry))) ⌝ }
+{
+    let cap = status.len();
+    is_capacity(cap) & (size.len() == cap) & (sent.len() == cap) & (resent.len() == cap)
+}
+
+// Whether a slot in low..next-1 is in order.
+fn is_live(mtu: u64, clock: u64, x: Packet) -> bool
+    ensures { λ r. ⌜ r ≡ isLive mtu clock x ⌝ }
+{
+    decide::within(crate::FLYING as u64, x.status as u64, crate::DONE as u64)
+        & decide::within(crate::SIZE_LEAST as u64, x.size as u64, mtu)
+        & (x.sent <= clock)
+        & (x.resent <= crate::RESENT_MOST)
+}
+
+// Whether another slot is all zero.
+fn is_zero(x: Packet) -> bool
+    ensures { λ r. ⌜ r ≡ isZero x ⌝ }
+{
+    (x.status == crate::EMPTY) & (x.size == 0) & (x.sent == 0) & (x.resent == 0)
+}
+
+// What a packet adds to the flying packets, to the marked packets, and to the marked bytes.
+fn flying_one(x: Packet) -> u32
+    ensures { λ r. ⌜ (r ≡ flyingOne x) × (r ≤ 1) ⌝ }
+{
+    if x.status == crate::FLYING { 1 } else { 0 }
+}
+
+fn marked_one(x: Packet) -> u32
+    ensures { λ r. ⌜ (r ≡ markedOne x) × (r ≤ 1) ⌝ }
+{
+    if x.status == crate::MARKED { 1 } else { 0 }
+}
+
+fn marked_size(x: Packet) -> u64
+    ensures { λ r. ⌜ (r ≡ markedSize x) × (r ≤ x .size) ⌝ }
+{
+    if x.status == crate::MARKED {
+        x.size as u64
+    } else {
+        0
+    }
+}
+
+// The n packets from low on.
+fn tally<'a>(
+    status: &'a [u8],
+    size: &'a [u32],
+    sent: &'a [u64],
+    resent: &'a [u8],
+    mtu: u64,
+    clock: u64,
+    low: u32,
+    n: u32,
+) -> Sums
+    requires { ⌜ Even (ring (now status) (now size) (now sent) (now resent)) ⌝ }
+    requires { ⌜ n ≤ capOf (ring (now status) (now size) (now sent) (now resent)) ⌝ }
+    requires { ⌜ isCapacity (capOf (ring (now status) (now size) (now sent) (now resent))) ≡ true ⌝ }
+    ensures { λ r. ⌜ Tallied mtu clock (ring (now (status .entry)) (now (size .entry)) (now (sent .entry)) (now (resent .entry))) low n (r .sound) (r .flying) (r .marked) (r .«marked_bytes») ⌝ }
+{
+    let cap = status.len();
+    let mut sound = true;
+    let mut flying: u32 = 0;
+    let mut marked: u32 = 0;
+    let mut marked_bytes: u64 = 0;
+    let mut i = place(cap, low);
+    let mut k: u32 = 0;
+    while k < n {
+        let x = read(status, size, sent, resent, i);
+        k += 1;
+        sound = sound & is_live(mtu, clock, x);
+        flying += flying_one(x);
+        marked += marked_one(x);
+        marked_bytes += marked_size(x);
+        i = after(cap, i);
+    }
+    Sums {
+        sound,
+        flying,
+        marked,
+        marked_bytes,
+    }
+}
+
+// The slots behind the n packets from low on; `sound`: those before are in order.
+fn rest<'a>(
+    status: &'a [u8],
+    size: &'a [u32],
+    sent: &'a [u64],
+    resent: &'a [u8],
+    mtu: u64,
+    clock: u64,
+    low: u32,
+    n: u32,
+    sound: bool,
+) -> bool
+    requires { ⌜ Even (ring (now status) (now size) (now sent) (now resent)) ⌝ }
+    requires { ⌜ n ≤ capOf (ring (now status) (now size) (now sent) (now resent)) ⌝ }
+    requires { ⌜ isCapacity (capOf (ring (now status) (now size) (now sent) (now resent))) ≡ true ⌝ }
+    requires { ⌜ sound ≡ allTo (slotOk mtu clock (ring (now status) (now size) (now sent) (now resent)) low n) n ⌝ }
+    ensures { λ r. ⌜ r ≡ allTo (slotOk mtu clock (ring (now (status .entry)) (now (size .entry)) (now (sent .entry)) (now (resent .entry))) low n) (capOf (ring (now (status .entry)) (now (size .entry)) (now (sent .entry)) (now (resent .entry)))) ⌝ }
+{
+    let cap = status.len();
+    let mut sound = sound;
+    let mut i = place(cap, serial::psn_plus(low, n));
+    let mut k = n as usize;
+    while k < cap {
+        let x = read(status, size, sent, resent, i);
+        k += 1;
+        sound = sound & is_zero(x);
+        i = after(cap, i);
+    }
+    sound
+}
+
+// Whether low is not done while low and next differ.
+fn head_ok<'a>(
+    status: &'a [u8],
+    size: &'a [u32],
+    sent: &'a [u64],
+    resent: &'a [u8],
+    low: u32,
+    n: u32,
+) -> bool
+    requires { ⌜ Even (ring (now status) (now size) (now sent) (now resent)) ⌝ }
+    ensures { λ r. ⌜ r ≡ headOk (ring (now (status .entry)) (now (size .entry)) (now (sent .entry)) (now (resent .entry))) low n ⌝ }
+{
+    let x = read(status, size, sent, resent, place(status.len(), low));
+    (n == 0) | (x.status != crate::DONE)
+}
+
+// Whether in-flight is in its bounds.
+fn in_bounds(maxwnd: u64, in_flight: i64) -> bool
+    ensures { λ r. ⌜ r ≡ inBounds maxwnd «in_flight» ⌝ }
+{
+    if in_flight < 0 {
+        return crate::IN_FLIGHT_LEAST <= in_flight;
+    }
+    in_flight as u64 <= maxwnd
+}
+
+// Whether the ledger holds together.
+pub fn is_coherent<'a>(
+    books: Books,
+    status: &'a [u8],
+    size: &'a [u32],
+    sent: &'a [u64],
+    resent: &'a [u8],
+    mtu: u64,
+    maxwnd: u64,
+    clock: u64,
+) -> bool
+    ensures { λ r. ⌜ r ≡ coherent mtu maxwnd clock (ledger (books .flow) (books .totals) (ring (now (status .entry)) (now (size .entry)) (now (sent .entry)) (now (resent .entry)))) ⌝ }
+{
+    let flow = books.flow;
+    let totals = books.totals;
+    if !is_ring(status, size, sent, resent) {
+        return false;
+    }
+    let n = long(flow);
+    if status.len() < n as usize {
+        return false;
+    }
+    let t = tally(status, size, sent, resent, mtu, clock, flow.low, n);
+    rest(status, size, sent, resent, mtu, clock, flow.low, n, t.sound)
+        & head_ok(status, size, sent, resent, flow.low, n)
+        & (flow.held < serial::COUNTS)
+        & (flow.backlog <= crate::BACKLOG_MOST)
+        & (totals.flying == t.flying)
+        & (totals.marked == t.marked)
+        & (totals.marked_bytes == t.marked_bytes)
+        & in_bounds(maxwnd, totals.in_flight)
+}
