@@ -1,0 +1,322 @@
+-- What the refusals of document 01's table promise, over the definitions that the entry points' contracts cite: a refused event leaves everything
+-- as it was (`refused-same`), the number is that of the first row whose test holds (`rows-exact`), a send for which 01 names no refusal is accepted
+-- (`permitted-new`, `permitted-resend`), and a number fixes the outcome (`one-outcome`).
+-- Assumes nothing.
+use mathlib.Core.Path.{_≡_, refl, sym, ap, ap₂, _∙_}
+use mathlib.Core.Bool.{Bool, true, false, not, cond, _||_}
+use mathlib.Core.List.{List, [], _∷_, _++_, append-nil}
+use Prim.Native.Nat.{ℕ, _≤_, _<_}
+use lib.Dec.{eqb}
+use borrow.Author.Tests.{le-ltb, lt-leb, eq-eqb}
+use Rattle.decide.specs.Branch.{ifSo, eq-yes, so-yes}
+use Rattle.decide.specs.Test.{inside, whole, inside-yes}
+use Rattle.decide.specs.Rows.{Row, firstOf, first-later}
+use Rattle.window.specs.declared.Settings.{Settings}
+use Rattle.ledger.specs.Packets.{isMarked}
+use Rattle.ledger.specs.Bounds.{sizeLeast}
+use Rattle.ledger.specs.Ring.{Ring, capOf, longOf, packetOf}
+use Rattle.ledger.specs.Rows.{sendRows}
+use Rattle.ledger.proofs.Judging.{new-0, resend-0}
+use Rattle.sender.specs.Limits.{timeEnd}
+use Rattle.sender.specs.World.{World, world, Answered, answered, Routing, routed}
+use Rattle.sender.specs.Named.{hasRoom}
+use Rattle.sender.specs.Bounds.{roomAfter}
+use Rattle.sender.specs.Sound.{sound}
+use Rattle.sender.specs.Numbers.{rowOf, numberOf, pathNumber, pathEv}
+use Rattle.sender.specs.Rows.{withSound, newDataRows, sendAllRows, ackAllRows, nackAllRows, lossAllRows, pathRows, setUpRows}
+use Rattle.sender.specs.Steps.{sendStep}
+use Rattle.sender.specs.Start.{noSettings, freshState, zeros, clearRing, onSetUp}
+use Rattle.sender.specs.Events.{decided, onNewData, onSend, onAck, onNack, onLoss, onPath}
+use Rattle.sender.specs.declared.Controller.{Controller}
+use Rattle.sender.specs.declared.Send.{Send}
+use Rattle.sender.specs.declared.Ack.{Ack}
+use Rattle.sender.specs.declared.Nack.{Nack}
+use Rattle.sender.specs.declared.Loss.{Loss}
+use Rattle.sender.specs.declared.Refusal.{Refusal}
+use Rattle.sender.specs.declared.Refusal.the-variants.{Setting, Unsound, Time, Field, Backlog, WindowFull, RingFull, WrongPsn, UnsentOrOld, NotFlying, Sinks}
+use Rattle.sender.specs.declared.Outcome.{Outcome}
+use Rattle.sender.specs.declared.Outcome.the-variants as outcome
+use Rattle.sender.specs.declared.Route.{Route}
+use Rattle.sender.specs.declared.Route.the-variants as route
+use Rattle.sender.proofs.Rowing.{silent, numbered, none-silent, first-past, send-numbered, send-all-numbered, rows-new, rows-resend, room-row, answer, taken, untaken, answer-number, answer-other, decided-yes}
+
+-- ---- "the state as given .., and lent memory untouched"
+
+-- whatever an event would have done, a number other than 0 leaves the world as it was
+pub refused-same : (n : ℕ) (w after : World) → (decided n w after .number ≡ 0 → ⊥) → decided n w after .after ≡ w
+unfolding decided
+refused-same n w after h = ap (λ (x : Answered). x .after) (answer-other (λ (x : Answered). x .number) n (answer 0 after) (answer n w) refl h)
+
+module _ (time : ℕ) (w : World) where
+  pub new-data-same : (bytes : ℕ) → (onNewData time bytes w .number ≡ 0 → ⊥) → onNewData time bytes w .after ≡ w
+  unfolding onNewData
+  new-data-same bytes = refused-same _ w _
+
+  pub send-same : (a : Send) → (onSend time a w .number ≡ 0 → ⊥) → onSend time a w .after ≡ w
+  unfolding onSend
+  send-same a = refused-same _ w _
+
+  pub ack-same : (a : Ack) → (onAck time a w .number ≡ 0 → ⊥) → onAck time a w .after ≡ w
+  unfolding onAck
+  ack-same a = refused-same _ w _
+
+  pub nack-same : (a : Nack) → (onNack time a w .number ≡ 0 → ⊥) → onNack time a w .after ≡ w
+  unfolding onNack
+  nack-same a = refused-same _ w _
+
+  pub loss-same : (a : Loss) → (onLoss time a w .number ≡ 0 → ⊥) → onLoss time a w .after ≡ w
+  unfolding onLoss
+  loss-same a = refused-same _ w _
+
+  -- and a refused path choice names the EV 0
+  pub path-same : (onPath time w .number ≡ 0 → ⊥) → (onPath time w .after ≡ w) × (onPath time w .ev ≡ 0)
+  unfolding onPath
+  path-same h =
+      let n = firstOf (withSound w (pathRows time (w .state))) in
+      let o = answer-other (λ (x : Routing). x .number) n (taken time w) (untaken n w) refl h in
+      (ap (λ (x : Routing). x .after) o, ap (λ (x : Routing). x .ev) o)
+
+-- "a refused setting up: a state of zeros"
+abbrev cleared : Settings → Ring → List ℕ → Answered
+cleared g r times = answered 0 (freshState g) (clearRing r) (zeros times)
+
+abbrev blank : ℕ → Ring → List ℕ → Answered
+blank n r times = answered n (freshState noSettings) r times
+
+pub set-up-same : (g : Settings) (r : Ring) (times : List ℕ) → (onSetUp g r times .number ≡ 0 → ⊥)
+    → onSetUp g r times .after ≡ world (freshState noSettings) r times
+unfolding onSetUp
+set-up-same g r times h =
+    let n = firstOf (setUpRows g r times) in
+    ap (λ (x : Answered). x .after) (answer-other (λ (x : Answered). x .number) n (cleared g r times) (blank n r times) refl h)
+
+-- ---- "Of several that apply, the first in the order below is given."
+
+-- a row of this number has a test that holds, and no test before it does
+pub record First (n : ℕ) (rows : List Row) : Type 0 where
+  pub before : List Row
+  pub here : Row
+  pub after : List Row
+  pub order : rows ≡ before ++ (here ∷ after)
+  pub number-is : here .number ≡ n
+  pub applies : here .test ≡ true
+  pub none-before : silent before ≡ true
+
+-- the number that is given, told by the rows and by nothing else
+pub record Exact (rows : List Row) (number : ℕ) : Type 0 where
+  pub refused : (n : ℕ) → (n ≡ 0 → ⊥) → number ≡ n → First n rows
+  pub first : (n : ℕ) → First n rows → number ≡ n
+  pub accepted : number ≡ 0 → silent rows ≡ true
+  pub none : silent rows ≡ true → number ≡ 0
+
+-- the first row that applies
+found : (rows : List Row) (n : ℕ) → (n ≡ 0 → ⊥) → firstOf rows ≡ n → First n rows
+unfolding firstOf ifSo silent
+found [] n h e = absurd (h (sym e))
+found (x ∷ xs) n h e = go (x .test) refl e (found xs n h)
+  where
+    go : (t : Bool) → x .test ≡ t → ifSo t (x .number) (firstOf xs) ≡ n → (firstOf xs ≡ n → First n xs) → First n (x ∷ xs)
+    go true q f later = record { before = []; here = x; after = xs; order = refl; number-is = f; applies = q; none-before = refl }
+    go false q f later =
+        let l = later f in
+        record {
+          before = x ∷ l .before;
+          here = l .here;
+          after = l .after;
+          order = ap (λ (ys : List Row). x ∷ ys) (l .order);
+          number-is = l .number-is;
+          applies = l .applies;
+          none-before = whole (ap not q) (l .none-before);
+        }
+
+first-given : (rows : List Row) (n : ℕ) → First n rows → firstOf rows ≡ n
+unfolding firstOf ifSo
+first-given rows n f =
+    ap firstOf (f .order) ∙ first-past (f .before) (f .here ∷ f .after) (f .none-before) ∙ rw (f .applies) (f .number-is)
+
+silent-none : (rows : List Row) → silent rows ≡ true → firstOf rows ≡ 0
+unfolding firstOf
+silent-none rows e = ap firstOf (sym (append-nil rows)) ∙ first-past rows [] e
+
+-- of any rows whose numbers are not 0
+pub rows-exact : (most : ℕ) (rows : List Row) → numbered most rows ≡ true → Exact rows (firstOf rows)
+rows-exact most rows e =
+    record { refused = found rows; first = first-given rows; accepted = none-silent most rows e; none = silent-none rows }
+
+decided-number : (n : ℕ) (w after : World) → n ≡ decided n w after .number
+unfolding decided
+decided-number n w after = answer-number (λ (x : Answered). x .number) n (answer 0 after) (answer n w) refl refl
+
+decided-exact : (most : ℕ) (rows : List Row) (w after : World) → numbered most rows ≡ true → Exact rows (decided (firstOf rows) w after .number)
+decided-exact most rows w after e = rw (← decided-number (firstOf rows) w after) (rows-exact most rows e)
+
+-- of each event: the rows that its contract cites
+module _ (time : ℕ) (w : World) where
+  pub new-data-exact : (bytes : ℕ) → Exact (withSound w (newDataRows time bytes (w .state))) (onNewData time bytes w .number)
+  unfolding onNewData numbered inside
+  new-data-exact bytes = decided-exact 11 _ w _ refl
+
+  pub send-exact : (a : Send) → Exact (withSound w (sendAllRows time a (w .state) (w .slots))) (onSend time a w .number)
+  unfolding onSend numbered inside
+  send-exact a = decided-exact 11 _ w _ (send-all-numbered time a (w .state) (w .slots))
+
+  pub ack-exact : (a : Ack) → Exact (withSound w (ackAllRows time a (w .state))) (onAck time a w .number)
+  unfolding onAck numbered inside
+  ack-exact a = decided-exact 11 _ w _ refl
+
+  pub nack-exact : (a : Nack) → Exact (withSound w (nackAllRows time a (w .state) (w .slots))) (onNack time a w .number)
+  unfolding onNack numbered inside
+  nack-exact a = decided-exact 11 _ w _ refl
+
+  pub loss-exact : (a : Loss) → Exact (withSound w (lossAllRows time a (w .state) (w .slots))) (onLoss time a w .number)
+  unfolding onLoss numbered inside
+  loss-exact a = decided-exact 11 _ w _ refl
+
+  pub path-exact : Exact (withSound w (pathRows time (w .state))) (onPath time w .number)
+  unfolding onPath numbered inside
+  path-exact =
+      let n = firstOf (withSound w (pathRows time (w .state))) in
+      rw (← answer-number (λ (x : Routing). x .number) n (taken time w) (untaken n w) refl refl) (rows-exact 11 (withSound w (pathRows time (w .state))) refl)
+
+-- and of setting up
+pub set-up-exact : (g : Settings) (r : Ring) (times : List ℕ) → Exact (setUpRows g r times) (onSetUp g r times .number)
+unfolding onSetUp numbered inside
+set-up-exact g r times =
+    let n = firstOf (setUpRows g r times) in
+    rw (← answer-number (λ (x : Answered). x .number) n (cleared g r times) (blank n r times) refl refl)
+    (rows-exact 11 (setUpRows g r times) refl)
+
+-- ---- a permitted send is accepted
+
+-- a send for which 01 names no refusal, but for the packet itself
+pub record Permitted (time : ℕ) (a : Send) (w : World) : Type 0 where
+  -- not 2: state and buffers hold together
+  pub holds-together : sound w ≡ true
+  -- not 3: "time before the held clock, or 2^48 or more"
+  pub not-before : w .state .clock ≤ time
+  pub in-time : time < timeEnd
+  -- not 4: "size outside 41..MTU on a send"
+  pub size-least : 41 ≤ a .size
+  pub size-most : a .size ≤ w .state .settings .mtu
+  -- not 6: "in-flight + MTU > cwnd on a send"
+  pub room : hasRoom (w .state .settings .mtu) (w .state .window .cwnd) (w .state .totals .«in_flight») ≡ true
+
+-- a new packet
+pub record PermittedNew (time : ℕ) (a : Send) (w : World) : Type 0 where
+  pub is-new : a .resend ≡ false
+  pub permitted : Permitted time a w
+  -- not 8: "new packet's PSN is not next"
+  pub psn-next : a .psn ≡ w .state .flow .next
+  -- not 5: "new packet larger than backlog"
+  pub in-backlog : a .size ≤ w .state .flow .backlog
+  -- not 7: "next - low = capacity on a new packet"
+  pub slot-free : longOf (w .state .flow) ≡ capOf (w .slots) → ⊥
+
+-- a resend
+pub record PermittedResend (time : ℕ) (a : Send) (w : World) : Type 0 where
+  pub is-resend : a .resend ≡ true
+  pub permitted : Permitted time a w
+  -- not 8: "a resend's PSN is not marked, or its size differs from the record"
+  pub psn-marked : isMarked (packetOf (w .state .flow) (w .slots) (a .psn)) ≡ true
+  pub same-size : a .size ≡ packetOf (w .state .flow) (w .slots) (a .psn) .size
+
+-- no row applies to a permitted send
+permitted-none : (time : ℕ) (a : Send) (w : World) → Permitted time a w → firstOf (sendRows (w .state .flow) (w .slots) (a .psn) (a .size) (a .resend)) ≡ 0
+    → 0 ≡ firstOf (withSound w (sendAllRows time a (w .state) (w .slots)))
+unfolding roomAfter
+permitted-none time a w p e =
+    first-later 0 2 _ _ (ap not (p .holds-together))
+    (first-later 0 3 _ _ (ap₂ _||_ (le-ltb time (w .state .clock) (p .not-before)) (lt-leb timeEnd time (p .in-time)))
+    (first-later 0 4 _ _ (ap not (inside-yes sizeLeast (a .size) (w .state .settings .mtu) (p .size-least) (p .size-most)))
+    (eq-yes _ 0 0 _ _ e (so-yes _ 0 0 6 (p .room) refl)
+    ∙ room-row (w .state) (sendRows (w .state .flow) (w .slots) (a .psn) (a .size) (a .resend))
+    (send-numbered (w .state .flow) (w .slots) (a .psn) (a .size) (a .resend)))))
+
+permitted-send : (time : ℕ) (a : Send) (w : World) → Permitted time a w → firstOf (sendRows (w .state .flow) (w .slots) (a .psn) (a .size) (a .resend)) ≡ 0
+    → onSend time a w ≡ answer 0 (sendStep time a w)
+unfolding onSend
+permitted-send time a w p e =
+    sym (decided-yes (firstOf (withSound w (sendAllRows time a (w .state) (w .slots)))) w (sendStep time a w) (sym (permitted-none time a w p e)))
+
+pub permitted-new : (time : ℕ) (a : Send) (w : World) → PermittedNew time a w → onSend time a w ≡ answer 0 (sendStep time a w)
+permitted-new time a w p =
+    let f = w .state .flow in
+    permitted-send time a w (p .permitted)
+    (sym (new-0 f (capOf (w .slots)) (a .psn) (a .size) (p .psn-next) (p .in-backlog) (p .slot-free)
+    ∙ rows-new f (w .slots) (a .psn) (a .size) (a .resend) (p .is-new)))
+
+pub permitted-resend : (time : ℕ) (a : Send) (w : World) → PermittedResend time a w → onSend time a w ≡ answer 0 (sendStep time a w)
+unfolding isMarked
+permitted-resend time a w p =
+    let f = w .state .flow in
+    let x = packetOf f (w .slots) (a .psn) in
+    permitted-send time a w (p .permitted)
+    (sym (resend-0 f (w .slots) (a .psn) (a .size) x refl
+    (ap₂ (λ m s. not m || not s) (p .psn-marked) (eq-eqb (a .size) (x .size) (p .same-size)))
+    ∙ rows-resend f (w .slots) (a .psn) (a .size) (a .resend) (p .is-resend)))
+
+-- ---- a number is one outcome's
+
+-- the refusal of a number
+refusalOf : ℕ → Refusal
+refusalOf n =
+    cond (eqb n 1) Setting
+    (cond (eqb n 2) Unsound
+    (cond (eqb n 3) Time
+    (cond (eqb n 4) Field
+    (cond (eqb n 5) Backlog
+    (cond (eqb n 6) WindowFull
+    (cond (eqb n 7) RingFull
+    (cond (eqb n 8) WrongPsn
+    (cond (eqb n 9) UnsentOrOld
+    (cond (eqb n 10) NotFlying Sinks)))))))))
+
+-- a refusal's number is not 0, and tells the refusal
+row-back : (r : Refusal) → (eqb (rowOf r) 0 ≡ false) × (refusalOf (rowOf r) ≡ r)
+unfolding rowOf refusalOf
+row-back Setting = (refl, refl)
+row-back Unsound = (refl, refl)
+row-back Time = (refl, refl)
+row-back Field = (refl, refl)
+row-back Backlog = (refl, refl)
+row-back WindowFull = (refl, refl)
+row-back RingFull = (refl, refl)
+row-back WrongPsn = (refl, refl)
+row-back UnsentOrOld = (refl, refl)
+row-back NotFlying = (refl, refl)
+row-back Sinks = (refl, refl)
+
+outcomeOf : ℕ → Outcome
+outcomeOf n = cond (eqb n 0) outcome.Accepted (outcome.Refused (refusalOf n))
+
+outcome-back : (o : Outcome) → outcomeOf (numberOf o) ≡ o
+unfolding outcomeOf numberOf
+outcome-back outcome.Accepted = refl
+outcome-back (outcome.Refused r) = rw (row-back r .0) (ap outcome.Refused (row-back r .1))
+
+pub outcome-one : (o p : Outcome) → numberOf o ≡ numberOf p → o ≡ p
+outcome-one o p e = sym (outcome-back o) ∙ ap outcomeOf e ∙ outcome-back p
+
+routeFrom : ℕ → ℕ → Route
+routeFrom n ev = cond (eqb n 0) (route.Chosen ev) (route.Refused (refusalOf n))
+
+route-back : (o : Route) → routeFrom (pathNumber o) (pathEv o) ≡ o
+unfolding routeFrom pathNumber pathEv
+route-back (route.Chosen ev) = refl
+route-back (route.Refused r) = rw (row-back r .0) (ap route.Refused (row-back r .1))
+
+pub route-one : (o p : Route) → pathNumber o ≡ pathNumber p → pathEv o ≡ pathEv p → o ≡ p
+route-one o p e f = sym (route-back o) ∙ ap₂ routeFrom e f ∙ route-back p
+
+-- no two outcomes satisfy one contract: whatever the right side, it fixes outcome, state, ring and times
+pub one-outcome : (x : Answered) (o p : Outcome) (c d : Controller) (r s : Ring) (t u : List ℕ)
+    → answered (numberOf o) c r t ≡ x → answered (numberOf p) d s u ≡ x → (o ≡ p) × (world c r t ≡ world d s u)
+one-outcome x o p c d r s t u e f =
+    let g = e ∙ sym f in
+    (outcome-one o p (ap (λ (y : Answered). y .number) g), ap (λ (y : Answered). y .after) g)
+
+pub one-route : (x : Routing) (o p : Route) (c d : Controller) (r s : Ring) (t u : List ℕ)
+    → routed (pathNumber o) (pathEv o) c r t ≡ x → routed (pathNumber p) (pathEv p) d s u ≡ x → (o ≡ p) × (world c r t ≡ world d s u)
+one-route x o p c d r s t u e f =
+    let g = e ∙ sym f in
+    (route-one o p (ap (λ (y : Routing). y .number) g) (ap (λ (y : Routing). y .ev) g), ap (λ (y : Routing). y .after) g)

@@ -1,0 +1,246 @@
+-- Laws of rows of refusals: where no row applies, rows after rows, the numbers that rows give, the rows of each event as its judge walks them; and
+-- what an event answers by their number.
+-- Assumes nothing.
+use mathlib.Core.Path.{_≡_, refl, sym, ap, ap₂, _∙_}
+use mathlib.Core.Bool.{Bool, true, false, not, _&&_, _||_}
+use mathlib.Core.List.{List, [], _∷_, _++_}
+use Prim.Native.Nat.{ℕ, _+_, _-_, _≤_, _<_}
+use native.Mathlib.Omega.{arith}
+use lib.Dec.{ltb, leb}
+use borrow.Author.Tests.{ltb-true, ltb-false, lt-ltb, le-ltb, not-true}
+use Rattle.decide.specs.Branch.{ifSo, ifEq, eq-yes, eq-no, eq-both}
+use Rattle.decide.specs.Test.{inside, both, whole, inside-tells}
+use Rattle.decide.specs.Rows.{Row, row, firstOf, first-here, first-later}
+use Rattle.ledger.specs.Ring.{Ring, capOf}
+use Rattle.ledger.specs.Rows.{sendRows, newRows, resendRows}
+use Rattle.ledger.specs.declared.Flow.{Flow}
+use Rattle.sender.specs.Limits.{timeEnd}
+use Rattle.sender.specs.World.{World, world, Answered, answered, Routing}
+use Rattle.sender.specs.Named.{hasRoom}
+use Rattle.sender.specs.Bounds.{roomAfter}
+use Rattle.sender.specs.Sound.{sound}
+use Rattle.sender.specs.Rows.{withSound, sendAllRows, pathRows}
+use Rattle.sender.specs.Steps.{routeOf, pathStep}
+use Rattle.sender.specs.Events.{decided}
+use Rattle.sender.specs.declared.Controller.{Controller}
+use Rattle.sender.specs.declared.Send.{Send}
+
+-- ---- any rows
+
+-- no row's test holds
+unfoldable pub silent : List Row → Bool
+silent [] = true
+silent (x ∷ xs) = not (x .test) && silent xs
+
+-- every row's number is one of 1 .. most
+unfoldable pub numbered : ℕ → List Row → Bool
+numbered most [] = true
+numbered most (x ∷ xs) = inside 1 (x .number) most && numbered most xs
+
+-- a list's number is at most the greatest that a row has
+pub first-most : (most : ℕ) (xs : List Row) → numbered most xs ≡ true → firstOf xs ≤ most
+unfolding firstOf numbered ifSo
+first-most most [] e = omega arith
+first-most most (x ∷ xs) e =
+    let p = both (inside 1 (x .number) most) (numbered most xs) e in
+    go (x .test) (inside-tells 1 (x .number) most (p .0) .1) (first-most most xs (p .1))
+  where
+    go : (t : Bool) → x .number ≤ most → firstOf xs ≤ most → ifSo t (x .number) (firstOf xs) ≤ most
+    go true here later = here
+    go false here later = later
+
+-- a number that rows give and that is not 0 is one of the table's
+pub in-table : (xs : List Row) → numbered 11 xs ≡ true → (n : ℕ) → n ≡ firstOf xs → (n ≡ 0 → ⊥) → (0 < n) × (n ≤ 11)
+in-table xs e n f h = let m = first-most 11 xs e in (omega arith, omega arith)
+
+-- rows of which no test holds are passed
+pub first-past : (xs ys : List Row) → silent xs ≡ true → firstOf (xs ++ ys) ≡ firstOf ys
+unfolding firstOf silent ifSo
+first-past [] ys e = refl
+first-past (x ∷ xs) ys e =
+    let p = both (not (x .test)) (silent xs) e in
+    rw (not-true (x .test) (p .0)) (first-past xs ys (p .1))
+
+-- where none applies, no test holds
+pub none-silent : (most : ℕ) (xs : List Row) → numbered most xs ≡ true → firstOf xs ≡ 0 → silent xs ≡ true
+unfolding firstOf numbered silent ifSo
+none-silent most [] e f = refl
+none-silent most (x ∷ xs) e f =
+    let p = both (inside 1 (x .number) most) (numbered most xs) e in
+    go (x .test) (inside-tells 1 (x .number) most (p .0) .0) f (none-silent most xs (p .1))
+  where
+    go : (t : Bool) → 1 ≤ x .number → ifSo t (x .number) (firstOf xs) ≡ 0 → (firstOf xs ≡ 0 → silent xs ≡ true) → (not t && silent xs) ≡ true
+    go true here f later = absurd (omega arith)
+    go false here f later = later f
+
+-- rows after rows: the second list is asked where the first gives none
+pub first-append : (most : ℕ) (xs ys : List Row) → numbered most xs ≡ true → ifEq (firstOf xs) 0 (firstOf ys) (firstOf xs) ≡ firstOf (xs ++ ys)
+unfolding firstOf numbered ifSo
+first-append most [] ys e = sym (eq-yes 0 0 (firstOf ys) (firstOf ys) 0 refl refl)
+first-append most (x ∷ xs) ys e =
+    let p = both (inside 1 (x .number) most) (numbered most xs) e in
+    go (x .test) (inside-tells 1 (x .number) most (p .0) .0) (first-append most xs ys (p .1))
+  where
+    go : (t : Bool) → 1 ≤ x .number → ifEq (firstOf xs) 0 (firstOf ys) (firstOf xs) ≡ firstOf (xs ++ ys)
+        → ifEq (ifSo t (x .number) (firstOf xs)) 0 (firstOf ys) (ifSo t (x .number) (firstOf xs)) ≡ ifSo t (x .number) (firstOf (xs ++ ys))
+    go true here later = sym (eq-no (x .number) 0 (x .number) (firstOf ys) (x .number) (λ z. omega arith) refl)
+    go false here later = later
+
+pub numbered-append : (most : ℕ) (xs ys : List Row) → numbered most xs ≡ true → numbered most ys ≡ true → numbered most (xs ++ ys) ≡ true
+unfolding numbered
+numbered-append most [] ys e f = f
+numbered-append most (x ∷ xs) ys e f =
+    let p = both (inside 1 (x .number) most) (numbered most xs) e in
+    whole (p .0) (numbered-append most xs ys (p .1) f)
+
+-- a number from k on, but not k
+pub past : (n k : ℕ) → k ≤ n → (n ≡ k → ⊥) → k + 1 ≤ n
+past n k h f = omega arith
+
+-- ---- 3, then 4, then the rows of one event
+
+module _ (late bad : Bool) (xs : List Row) where
+  pub judged-3 : late ≡ true → 3 ≡ firstOf (row late 3 ∷ row bad 4 ∷ xs)
+  judged-3 e = first-here 3 3 late (row bad 4 ∷ xs) e refl
+
+  module _ (in-time : late ≡ false) where
+    pub judged-4 : bad ≡ true → 4 ≡ firstOf (row late 3 ∷ row bad 4 ∷ xs)
+    judged-4 e = first-later 4 3 late (row bad 4 ∷ xs) in-time (first-here 4 4 bad xs e refl)
+
+    pub judged-on : bad ≡ false → (n : ℕ) → n ≡ firstOf xs → n ≡ firstOf (row late 3 ∷ row bad 4 ∷ xs)
+    judged-on e n f = first-later n 3 late (row bad 4 ∷ xs) in-time (first-later n 4 bad xs e f)
+
+-- a path choice is refused with 3 alone
+pub path-late : (time : ℕ) (c : Controller) → (firstOf (pathRows time c) ≡ 0 → ⊥) → 3 ≡ firstOf (pathRows time c)
+unfolding firstOf ifSo
+path-late time c = go (ltb time (c .clock) || leb timeEnd time)
+  where
+    go : (t : Bool) → (_≡_ {A = ℕ} (ifSo t 3 0) 0 → ⊥) → _≡_ {A = ℕ} 3 (ifSo t 3 0)
+    go true h = refl
+    go false h = absurd (h refl)
+
+-- a sum over a most, tested by what is left up to it
+pub over-test : (most held n : ℕ) → held ≤ most → ltb (most - held) n ≡ ltb most (held + n)
+over-test most held n h = go (ltb most (held + n)) refl
+  where
+    go : (t : Bool) → ltb most (held + n) ≡ t → ltb (most - held) n ≡ t
+    go true e = let l = ltb-true most (held + n) e in lt-ltb (most - held) n (omega arith)
+    go false e = let l = ltb-false most (held + n) e in le-ltb (most - held) n (omega arith)
+
+-- ---- a send's rows: the ledger's, then 6
+
+module _ (f : Flow) (r : Ring) (psn size : ℕ) where
+  pub send-numbered : (resend : Bool) → numbered 11 (sendRows f r psn size resend) ≡ true
+  unfolding numbered inside
+  send-numbered true = refl
+  send-numbered false = refl
+
+  pub rows-resend : (resend : Bool) → resend ≡ true → firstOf (resendRows f r psn size) ≡ firstOf (sendRows f r psn size resend)
+  rows-resend resend e = rw e
+
+  pub rows-new : (resend : Bool) → resend ≡ false → firstOf (newRows f (capOf r) psn size) ≡ firstOf (sendRows f r psn size resend)
+  rows-new resend e = rw e
+
+pub send-all-numbered : (time : ℕ) (a : Send) (c : Controller) (r : Ring) → numbered 11 (sendAllRows time a c r) ≡ true
+unfolding numbered inside
+send-all-numbered time a c r =
+    numbered-append 11 (sendRows (c .flow) r (a .psn) (a .size) (a .resend)) _ (send-numbered (c .flow) r (a .psn) (a .size) (a .resend)) refl
+
+-- 6
+abbrev pub roomRows : Controller → List Row
+roomRows c = row (not (hasRoom (c .settings .mtu) (c .window .cwnd) (c .totals .«in_flight»))) 6 ∷ []
+
+pub room-row : (c : Controller) (xs : List Row) → numbered 11 xs ≡ true → roomAfter c (firstOf xs) ≡ firstOf (xs ++ roomRows c)
+unfolding roomAfter firstOf ifSo
+room-row c xs e =
+    ap (λ (n : ℕ). ifEq (firstOf xs) 0 n (firstOf xs)) (turned (hasRoom (c .settings .mtu) (c .window .cwnd) (c .totals .«in_flight»)))
+    ∙ first-append 11 xs (roomRows c) e
+  where
+    turned : (b : Bool) → _≡_ {A = ℕ} (ifSo b 0 6) (ifSo (not b) 6 0)
+    turned true = refl
+    turned false = refl
+
+-- what the ledger judged, n, and then the room, m
+module _ (c : Controller) (r : Ring) (a : Send) (n m : ℕ) (e : m ≡ roomAfter c n) where
+  judged-send : n ≡ firstOf (sendRows (c .flow) r (a .psn) (a .size) (a .resend))
+      → m ≡ firstOf (sendRows (c .flow) r (a .psn) (a .size) (a .resend) ++ roomRows c)
+  judged-send f =
+      e ∙ ap (roomAfter c) f
+      ∙ room-row c (sendRows (c .flow) r (a .psn) (a .size) (a .resend)) (send-numbered (c .flow) r (a .psn) (a .size) (a .resend))
+
+  pub judged-resend : a .resend ≡ true → n ≡ firstOf (resendRows (c .flow) r (a .psn) (a .size))
+      → m ≡ firstOf (sendRows (c .flow) r (a .psn) (a .size) (a .resend) ++ roomRows c)
+  judged-resend h f = judged-send (f ∙ rows-resend (c .flow) r (a .psn) (a .size) (a .resend) h)
+
+  pub judged-new : a .resend ≡ false → n ≡ firstOf (newRows (c .flow) (capOf r) (a .psn) (a .size))
+      → m ≡ firstOf (sendRows (c .flow) r (a .psn) (a .size) (a .resend) ++ roomRows c)
+  judged-new h f = judged-send (f ∙ rows-new (c .flow) r (a .psn) (a .size) (a .resend) h)
+
+-- ---- what an event answers
+
+-- of two answers by a number n, of which the one has the number 0 and the other n
+module _ {A : Type 0} (number : A → ℕ) (n : ℕ) (yes no : A) where
+  pub answer-number : number yes ≡ 0 → number no ≡ n → n ≡ number (ifEq n 0 yes no)
+  answer-number e f = eq-both (λ (a : A). n ≡ number a) n 0 yes no (λ z. z ∙ sym e) (λ z. sym f)
+
+  pub answer-other : number yes ≡ 0 → (number (ifEq n 0 yes no) ≡ 0 → ⊥) → ifEq n 0 yes no ≡ no
+  answer-other e = eq-both (λ (a : A). (number a ≡ 0 → ⊥) → a ≡ no) n 0 yes no (λ z h. absurd (h e)) (λ z h. refl)
+
+-- an entry point: number 2, the other rows' number, or none
+module _ {A : Type 0} (w : World) (xs : List Row) (yes : A) (no : ℕ → A) where
+  pub entry-unsound : (a : A) → sound w ≡ false → a ≡ no 2 → a ≡ ifEq (firstOf (withSound w xs)) 0 yes (no (firstOf (withSound w xs)))
+  entry-unsound a e f =
+      let two : 2 ≡ firstOf (withSound w xs) = first-here 2 2 (not (sound w)) xs (ap not e) refl in
+      eq-no (firstOf (withSound w xs)) 0 a yes (no (firstOf (withSound w xs))) (λ z. omega arith) (f ∙ ap no two)
+
+  module _ (e : sound w ≡ true) (n : ℕ) (en : n ≡ firstOf xs) where
+    passed : n ≡ firstOf (withSound w xs)
+    passed = first-later n 2 (not (sound w)) xs (ap not e) en
+
+    pub entry-refused : (a : A) → (n ≡ 0 → ⊥) → a ≡ no n → a ≡ ifEq (firstOf (withSound w xs)) 0 yes (no (firstOf (withSound w xs)))
+    entry-refused a ne f = eq-no (firstOf (withSound w xs)) 0 a yes (no (firstOf (withSound w xs))) (λ z. ne (passed ∙ z)) (f ∙ ap no passed)
+
+    pub entry-accepted : (a : A) → n ≡ 0 → a ≡ yes → a ≡ ifEq (firstOf (withSound w xs)) 0 yes (no (firstOf (withSound w xs)))
+    entry-accepted a ez f = eq-yes (firstOf (withSound w xs)) 0 a yes (no (firstOf (withSound w xs))) (sym passed ∙ ez) f
+
+-- the answers of an event, and of a path choice
+abbrev pub answer : ℕ → World → Answered
+answer n w = record { number = n; after = w }
+
+abbrev pub taken : ℕ → World → Routing
+taken time w = record { number = 0; ev = routeOf time w .ev; after = pathStep time w }
+
+abbrev pub untaken : ℕ → World → Routing
+untaken n w = record { number = n; ev = 0; after = w }
+
+module _ (n : ℕ) (w after : World) where
+  pub decided-yes : n ≡ 0 → answer 0 after ≡ decided n w after
+  unfolding decided
+  decided-yes e = eq-yes n 0 (answer 0 after) (answer 0 after) (answer n w) e refl
+
+  pub decided-no : (n ≡ 0 → ⊥) → answer n w ≡ decided n w after
+  unfolding decided
+  decided-no e = eq-no n 0 (answer n w) (answer 0 after) (answer n w) e refl
+
+-- the entry points that answer a state s and the outcome of a number m
+module _ (w : World) (xs : List Row) (after : World) (m : ℕ) (s : Controller) where
+  pub answer-unsound : sound w ≡ false → s ≡ w .state → m ≡ 2 → answered m s (w .slots) (w .times) ≡ decided (firstOf (withSound w xs)) w after
+  unfolding decided
+  answer-unsound e es em =
+      entry-unsound w xs (answer 0 after) (λ n. answer n w) (answered m s (w .slots) (w .times)) e
+      (ap₂ (λ k c. answered k c (w .slots) (w .times)) em es)
+
+  module _ (e : sound w ≡ true) (n : ℕ) (en : n ≡ firstOf xs) where
+    pub answer-refused : (n ≡ 0 → ⊥) → s ≡ w .state → m ≡ n → answered m s (w .slots) (w .times) ≡ decided (firstOf (withSound w xs)) w after
+    unfolding decided
+    answer-refused ne es em =
+        entry-refused w xs (answer 0 after) (λ n. answer n w) e n en (answered m s (w .slots) (w .times)) ne
+        (ap₂ (λ k c. answered k c (w .slots) (w .times)) em es)
+
+    -- where the step came to this state, this ring and these times
+    pub answer-accepted : n ≡ 0 → (c : Controller) (r : Ring) (t : List ℕ) → world c r t ≡ after → s ≡ c → m ≡ 0
+        → answered m s r t ≡ decided (firstOf (withSound w xs)) w after
+    unfolding decided
+    answer-accepted ez c r t ea es em =
+        entry-accepted w xs (answer 0 after) (λ n. answer n w) e n en (answered m s r t) ez
+        (ap₂ (λ k c. answered k c r t) em es ∙ ap (answer 0) ea)

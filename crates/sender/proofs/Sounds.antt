@@ -1,0 +1,254 @@
+-- What soundness (refusal 2) says, fact by fact, and the way back: a state that holds together, named by the rule, with EV times in their bounds,
+-- is sound (`stated-sound`, `settled-sound`). By the laws of `window` and `ledger`.
+-- Assumes nothing.
+use mathlib.Core.Path.{_≡_, refl, sym, ap, _∙_}
+use mathlib.Core.Bool.{Bool, true, false, not, _&&_}
+use mathlib.Core.List.{List, [], _∷_}
+use Prim.Native.Nat.{ℕ, zero, suc, _+_, _^_, _≤_, _<_}
+use native.Mathlib.Numerals.{add-one}
+use native.Mathlib.Omega.{arith}
+use lib.Dec.{ltb, eqb}
+use lib.ListN.{length, getD, set, drop, length-set, drop-of-length-le}
+use lib.Seq.{drop-cons}
+use borrow.Author.Tests.{ltb-true, eqb-true, lt-ltb, le-ltb, eq-eqb, not-true, not-false}
+use Rattle.decide.specs.Branch.{so-both}
+use Rattle.decide.specs.Test.{both, whole}
+use Rattle.window.specs.Limits.{laterEnd}
+use Rattle.window.specs.Range.{inRange, InRange}
+use Rattle.window.specs.Held.{isHeld, Held}
+use Rattle.window.specs.declared.Settings.{Settings}
+use Rattle.window.specs.declared.Window.{Window}
+use Rattle.window.proofs.Tests.{range-facts, range-test, held-facts, held-test}
+use Rattle.window.proofs.Ceilings.{ceiling-high}
+use Rattle.ledger.specs.Ring.{Ring, Ledger, ledger}
+use Rattle.ledger.specs.Coherent.{coherent, Even, Coheres}
+use Rattle.ledger.specs.declared.Flow.{Flow}
+use Rattle.ledger.specs.declared.Totals.{Totals}
+use Rattle.ledger.proofs.Signs.{coheres-flown}
+use Rattle.ledger.proofs.Facts.{coherent-coheres, coheres-facts}
+use Rattle.sender.specs.Limits.{timeEnd, evCount}
+use Rattle.sender.specs.World.{World, world, ledgerOf}
+use Rattle.sender.specs.Named.{phaseOf, phaseNumber}
+use Rattle.sender.specs.Sound.{timesOk, namedOk, sound}
+use Rattle.sender.specs.Bounds.{Bounded}
+use Rattle.sender.specs.Steps.{stateOf, settled, avoidedIn}
+use Rattle.sender.specs.declared.Controller.{Controller}
+use Rattle.sender.specs.declared.Phase.{Phase}
+use Rattle.sender.specs.declared.Phase.the-variants.{Idle, Pending, Ready, Active}
+
+-- ---- the state's name
+
+-- the name that a number stands for
+nameOf : ℕ → Phase
+nameOf zero = Idle
+nameOf (suc zero) = Pending
+nameOf (suc (suc zero)) = Ready
+nameOf (suc (suc (suc n))) = Active
+
+name-back : (p : Phase) → nameOf (phaseNumber p) ≡ p
+unfolding phaseNumber nameOf
+name-back Idle = refl
+name-back Pending = refl
+name-back Ready = refl
+name-back Active = refl
+
+-- names with one number are one
+pub phase-one : (p q : Phase) → phaseNumber p ≡ phaseNumber q → p ≡ q
+phase-one p q e = sym (name-back p) ∙ ap nameOf e ∙ name-back q
+
+-- ---- the EV times
+
+pub times-none : timesOk [] ≡ true
+unfolding timesOk
+times-none = refl
+
+-- the times from k on: time k, and those after it
+pub times-here : (ts : List ℕ) (k : ℕ) → k < length ts → timesOk (drop k ts) ≡ (ltb (getD ts k 0) laterEnd && timesOk (drop (k + 1) ts))
+unfolding timesOk
+times-here ts k h = rw (add-one k, drop-cons ts k 0 h)
+
+-- a time too late is found ..
+pub times-late : (ts : List ℕ) (k : ℕ) → timesOk ts ≡ timesOk (drop k ts) → k < length ts → laterEnd ≤ getD ts k 0 → timesOk ts ≡ false
+times-late ts k e h late = e ∙ times-here ts k h ∙ ap (λ (b : Bool). b && timesOk (drop (k + 1) ts)) (le-ltb (getD ts k 0) laterEnd late)
+
+-- .. and one that is not leaves those after it
+pub times-more : (ts : List ℕ) (k : ℕ) → timesOk ts ≡ timesOk (drop k ts) → k < length ts → getD ts k 0 < laterEnd → timesOk ts ≡ timesOk (drop (k + 1) ts)
+times-more ts k e h early = e ∙ times-here ts k h ∙ ap (λ (b : Bool). b && timesOk (drop (k + 1) ts)) (lt-ltb (getD ts k 0) laterEnd early)
+
+pub times-end : (ts : List ℕ) (k : ℕ) → timesOk ts ≡ timesOk (drop k ts) → length ts ≤ k → timesOk ts ≡ true
+times-end ts k e h = e ∙ ap timesOk (drop-of-length-le ts h) ∙ times-none
+
+-- one time overwritten by one in its bound
+times-set : (ts : List ℕ) (k t : ℕ) → t < laterEnd → timesOk ts ≡ true → timesOk (set ts k t) ≡ true
+unfolding timesOk
+times-set [] k t h e = e
+times-set (x ∷ xs) zero t h e = whole (lt-ltb t laterEnd h) (both (ltb x laterEnd) (timesOk xs) e .1)
+times-set (x ∷ xs) (suc k) t h e =
+    let p = both (ltb x laterEnd) (timesOk xs) e in
+    whole (p .0) (times-set xs k t h (p .1))
+
+module _ (on : Bool) (ev time base : ℕ) (times : List ℕ) where
+  -- an EV that is avoided: as many times, all in their bounds
+  pub avoided-long : length (avoidedIn on ev time base times) ≡ length times
+  unfolding avoidedIn
+  avoided-long =
+      so-both (λ (ts : List ℕ). length ts ≡ length times) on (set times ev (time + base)) times
+      (λ e. length-set times ev (time + base))
+      (λ e. refl)
+
+  pub avoided-ok : time < timeEnd → base ≤ 2 ^ 14 → timesOk times ≡ true → timesOk (avoidedIn on ev time base times) ≡ true
+  unfolding avoidedIn
+  avoided-ok h b ok =
+      so-both (λ (ts : List ℕ). timesOk ts ≡ true) on (set times ev (time + base)) times
+      (λ e. times-set times ev (time + base) (omega arith) ok)
+      (λ e. ok)
+
+-- ---- number 2
+
+-- what a sound world has
+pub record SoundFacts (w : World) : Type 0 where
+  pub range : InRange (w .state .settings)
+  pub held : Held (w .state .settings) (w .state .clock) (w .state .window)
+  pub coheres : coherent (w .state .settings .mtu) (w .state .settings .maxwnd) (w .state .clock) (ledgerOf w) ≡ true
+  pub clock-ok : w .state .clock < timeEnd
+  pub times-long : length (w .times) ≡ evCount
+  pub times-ok : timesOk (w .times) ≡ true
+  pub cursor-ok : w .state .cursor < evCount
+  pub named : w .state .phase ≡ phaseOf (w .state .settings .mtu) (w .state .window .cwnd) (w .state .flow) (w .state .totals)
+
+pub name-facts : (c : Controller) → namedOk c ≡ true → c .phase ≡ phaseOf (c .settings .mtu) (c .window .cwnd) (c .flow) (c .totals)
+unfolding namedOk
+name-facts c e = phase-one _ _ (eqb-true _ _ e)
+
+pub name-test : (c : Controller) → c .phase ≡ phaseOf (c .settings .mtu) (c .window .cwnd) (c .flow) (c .totals) → namedOk c ≡ true
+unfolding namedOk
+name-test c e = eq-eqb _ _ (ap phaseNumber e)
+
+pub sound-facts : (w : World) → sound w ≡ true → SoundFacts w
+unfolding sound
+sound-facts w e =
+    let c = w .state in
+    let name = both _ (namedOk c) e in
+    let cursor = both _ (ltb (c .cursor) evCount) (name .0) in
+    let times = both _ (timesOk (w .times)) (cursor .0) in
+    let long = both _ (eqb (length (w .times)) evCount) (times .0) in
+    let clock = both _ (ltb (c .clock) timeEnd) (long .0) in
+    let ledger = both _ (coherent (c .settings .mtu) (c .settings .maxwnd) (c .clock) (ledgerOf w)) (clock .0) in
+    let first = both (inRange (c .settings)) (isHeld (c .settings) (c .clock) (c .window)) (ledger .0) in
+    record {
+      range = range-facts (c .settings) (first .0);
+      held = held-facts (c .settings) (c .clock) (c .window) (first .1);
+      coheres = ledger .1;
+      clock-ok = ltb-true (c .clock) timeEnd (clock .1);
+      times-long = eqb-true (length (w .times)) evCount (long .1);
+      times-ok = times .1;
+      cursor-ok = ltb-true (c .cursor) evCount (cursor .1);
+      named = name-facts c (name .1);
+    }
+
+pub facts-sound : (w : World) → SoundFacts w → sound w ≡ true
+unfolding sound
+facts-sound w S =
+    let c = w .state in
+    whole
+    (whole
+    (whole
+    (whole
+    (whole
+    (whole
+    (whole (range-test (c .settings) (S .range)) (held-test (c .settings) (c .clock) (c .window) (S .held)))
+    (S .coheres))
+    (lt-ltb (c .clock) timeEnd (S .clock-ok)))
+    (eq-eqb (length (w .times)) evCount (S .times-long)))
+    (S .times-ok))
+    (lt-ltb (c .cursor) evCount (S .cursor-ok)))
+    (name-test c (S .named))
+
+-- ---- what judging and stepping rely on
+
+-- of the first three tests alone: the last, the state's name, is taken only after them
+module _ (w : World) (R : InRange (w .state .settings))
+    (e : coherent (w .state .settings .mtu) (w .state .settings .maxwnd) (w .state .clock) (ledgerOf w) ≡ true) where
+  parts-coheres : Coheres (ledgerOf w)
+  parts-coheres =
+      coherent-coheres (w .state .settings .mtu) (w .state .settings .maxwnd) (w .state .clock) (ledgerOf w)
+      (omega (arith, R .mtu-high)) (omega (arith, R .maxwnd-high)) e
+
+  parts-bounded : Held (w .state .settings) (w .state .clock) (w .state .window) → Bounded (w .state)
+  parts-bounded H =
+      record {
+        flown = coheres-flown parts-coheres;
+        backlog-high = coheres-facts parts-coheres .backlog;
+        mtu-high = omega (arith, R .mtu-high);
+        cwnd-high = omega (arith, H .cwnd-high, ceiling-high R (w .state .window .base), R .maxwnd-high);
+      }
+
+pub sound-coheres : (w : World) → sound w ≡ true → Coheres (ledgerOf w)
+sound-coheres w e = let S = sound-facts w e in parts-coheres w (S .range) (S .coheres)
+
+pub sound-even : (w : World) → sound w ≡ true → Even (w .slots)
+sound-even w e = coheres-facts (sound-coheres w e) .even
+
+pub sound-bounded : (w : World) → sound w ≡ true → Bounded (w .state)
+sound-bounded w e = let S = sound-facts w e in parts-bounded w (S .range) (S .coheres) (S .held)
+
+-- ---- the tests in their order, as the code makes them
+
+module _ (w : World) (range : Bool) (range-is : range ≡ inRange (w .state .settings)) where
+  pub not-range : not range ≡ true → false ≡ sound w
+  unfolding sound
+  not-range e = rw (sym range-is ∙ not-true range e)
+
+  module _ (r : not range ≡ false) (held : Bool) (held-is : held ≡ isHeld (w .state .settings) (w .state .clock) (w .state .window)) where
+    pub not-held : not held ≡ true → false ≡ sound w
+    unfolding sound
+    not-held e = rw (sym range-is ∙ not-false range r, sym held-is ∙ not-true held e)
+
+    module _
+        (h : not held ≡ false) (books : Bool)
+        (books-is : books ≡ coherent (w .state .settings .mtu) (w .state .settings .maxwnd) (w .state .clock) (ledgerOf w)) where
+      pub not-coherent : not books ≡ true → false ≡ sound w
+      unfolding sound
+      not-coherent e = rw (sym range-is ∙ not-false range r, sym held-is ∙ not-false held h, sym books-is ∙ not-true books e)
+
+      module _ (l : not books ≡ false) where
+        pub tests-bounded : Bounded (w .state)
+        tests-bounded =
+            parts-bounded w (range-facts (w .state .settings) (sym range-is ∙ not-false range r)) (sym books-is ∙ not-false books l)
+            (held-facts (w .state .settings) (w .state .clock) (w .state .window) (sym held-is ∙ not-false held h))
+
+        pub tests-left :
+            (ok : Bool) (m n : ℕ) (name : Phase) → ok ≡ timesOk (w .times) → m ≡ phaseNumber (w .state .phase) → n ≡ phaseNumber name →
+            name ≡ phaseOf (w .state .settings .mtu) (w .state .window .cwnd) (w .state .flow) (w .state .totals) →
+            (ltb (w .state .clock) timeEnd && eqb (length (w .times)) evCount && ok && ltb (w .state .cursor) evCount && eqb m n) ≡ sound w
+        unfolding sound namedOk
+        tests-left ok m n name t p q is =
+            rw (sym range-is ∙ not-false range r, sym held-is ∙ not-false held h, sym books-is ∙ not-false books l, t, p, q, is)
+
+-- ---- the way back
+
+-- a state that the rule names is sound where its parts are
+pub stated-sound :
+    (s : Settings) (f : Flow) (t : Totals) (v : Window) (time cursor : ℕ) (r : Ring) (times : List ℕ) →
+    InRange s → Held s time v → coherent (s .mtu) (s .maxwnd) time (ledger f t r) ≡ true → time < timeEnd →
+    length times ≡ evCount → timesOk times ≡ true → cursor < evCount → sound (world (stateOf s f t v time cursor) r times) ≡ true
+unfolding stateOf
+stated-sound s f t v time cursor r times range held coheres clock long ok at =
+    facts-sound (world (stateOf s f t v time cursor) r times)
+    (record {
+      range = range;
+      held = held;
+      coheres = coheres;
+      clock-ok = clock;
+      times-long = long;
+      times-ok = ok;
+      cursor-ok = at;
+      named = refl;
+    })
+
+pub settled-sound :
+    (time : ℕ) (c : Controller) (l : Ledger) (v : Window) (times : List ℕ) →
+    InRange (c .settings) → Held (c .settings) time v → coherent (c .settings .mtu) (c .settings .maxwnd) time l ≡ true → time < timeEnd →
+    length times ≡ evCount → timesOk times ≡ true → c .cursor < evCount → sound (settled time c l v times) ≡ true
+unfolding settled
+settled-sound time c l v times = stated-sound (c .settings) (l .flow) (l .totals) v time (c .cursor) (l .slots) times

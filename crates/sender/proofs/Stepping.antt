@@ -1,0 +1,328 @@
+-- What the steps rely on: what holds of an event that no row refuses, and what its ledger's step leaves to the window's rules and to the state's name.
+-- Assumes nothing.
+use mathlib.Core.Path.{_≡_, refl, ap, _∙_}
+use mathlib.Core.Bool.{Bool, true, false, not, _||_}
+use mathlib.Core.List.{List, [], _∷_, _++_}
+use Prim.Native.Nat.{ℕ, _+_, _≤_, _<_, _^_}
+use native.Mathlib.Omega.{arith}
+use lib.Dec.{ltb, leb, eqb}
+use lib.ListN.{length}
+use lib.IntN.{ℤ, pos, negsuc, _+ℤ_}
+use lib.Signed.{leZ}
+use mir.Syntax.{w64}
+use mir.Val.{toZ, ofZ}
+use borrow.Author.Tests.{ltb-false, leb-false, leb-true, le-leb, not-false}
+use Rattle.decide.specs.Branch.{ifSo, ifEq, so-both, eq-both}
+use Rattle.decide.specs.Rows.{Row, row, firstOf, none-here}
+use Rattle.decide.specs.Test.{inside-tells, neither}
+use Rattle.serial.specs.Psn.{psns, covered}
+use Rattle.serial.specs.Count.{counts}
+use Rattle.window.specs.Range.{InRange}
+use Rattle.window.specs.Held.{Held}
+use Rattle.window.specs.Delays.{sampleOf, Sampled}
+use Rattle.window.specs.Quick.{aboveZero}
+use Rattle.window.specs.Events.{ackOf, nackOf, lossOf}
+use Rattle.window.specs.declared.Settings.{Settings}
+use Rattle.window.specs.declared.Window.{Window}
+use Rattle.window.specs.declared.Sample.{Sample}
+use Rattle.window.proofs.Tests.{held-later, sample-held}
+use Rattle.window.proofs.Keeps.{cwnd-most}
+use Rattle.window.proofs.Ceilings.{ceiling-high}
+use Rattle.paths.specs.Path.{choice}
+use Rattle.paths.specs.declared.Choice.{Choice}
+use Rattle.paths.proofs.Chosen.{choice-inside}
+use Rattle.ledger.specs.Packets.{isFlying, isMarked, isOut}
+use Rattle.ledger.specs.Bounds.{sizeLeast, backlogMost, Flown}
+use Rattle.ledger.specs.Ring.{Ring, Ledger, ledger, capOf, longOf, packets, packetOf}
+use Rattle.ledger.specs.Coherent.{coherent}
+use Rattle.ledger.specs.Rows.{sendRows, ackRows, markRows}
+use Rattle.ledger.specs.Steps.{suppliedOf, pushedOf, resentOf, markedOf, ackedOf, newlyOf}
+use Rattle.ledger.specs.declared.Flow.{Flow}
+use Rattle.ledger.specs.declared.Totals.{Totals}
+use Rattle.ledger.specs.declared.Packet.{Packet}
+use Rattle.ledger.proofs.Facts.{coherent-parts, coherent-whole, stands-facts, stands-later, tallies-facts, packet-live, packet-some}
+use Rattle.ledger.proofs.Signs.{flown-wide, word}
+use Rattle.ledger.proofs.Judging.{resend-facts, mark-facts}
+use Rattle.ledger.proofs.Sends.{supply-keeps, new-room, push-keeps, resend-keeps, flies}
+use Rattle.ledger.proofs.Marks.{mark-keeps}
+use Rattle.ledger.proofs.Acked.{ack-keeps}
+use Rattle.sender.specs.Limits.{timeEnd, evCount, reasonMost}
+use Rattle.sender.specs.World.{World, world, ledgerOf}
+use Rattle.sender.specs.Named.{hasRoom}
+use Rattle.sender.specs.Rows.{timeRow, newDataRows, sendAllRows, ackAllRows, nackAllRows, lossAllRows}
+use Rattle.sender.specs.Steps.{stateOf, settled, avoidedIn, ackSample, ackStep, nackSample, nackStep, lossStep}
+use Rattle.sender.specs.declared.Controller.{Controller}
+use Rattle.sender.specs.declared.Send.{Send}
+use Rattle.sender.specs.declared.Ack.{Ack}
+use Rattle.sender.specs.declared.Nack.{Nack}
+use Rattle.sender.specs.declared.Loss.{Loss}
+use Rattle.sender.proofs.Sounds.{SoundFacts}
+use Rattle.sender.proofs.Rowing.{first-append, send-numbered}
+
+-- ---- what holds where no row refuses
+
+-- row 3: the time is not before the clock, and below 2^48
+pub record Timely (time : ℕ) (c : Controller) : Type 0 where
+  pub later : c .clock ≤ time
+  pub early : time < timeEnd
+
+pub time-facts : (time : ℕ) (c : Controller) (rows : List Row) → firstOf (timeRow time c ∷ rows) ≡ 0 → Timely time c × (firstOf rows ≡ 0)
+time-facts time c rows e =
+    let a = none-here 3 _ rows (omega arith) e in
+    let n = neither (ltb time (c .clock)) (leb timeEnd time) (a .0) in
+    (record { later = ltb-false time (c .clock) (n .0); early = leb-false timeEnd time (n .1) }, a .1)
+
+pub new-data-facts : (time bytes : ℕ) (c : Controller) → firstOf (newDataRows time bytes c) ≡ 0
+    → Timely time c × (c .flow .backlog + bytes ≤ backlogMost)
+new-data-facts time bytes c e =
+    let a = time-facts time c _ e in
+    let b = none-here 4 _ [] (omega arith) (a .1) in
+    let n = neither (eqb bytes 0) (ltb backlogMost (c .flow .backlog + bytes)) (b .0) in
+    (a .0, ltb-false backlogMost (c .flow .backlog + bytes) (n .1))
+
+pub record Sendable (time : ℕ) (a : Send) (c : Controller) (r : Ring) : Type 0 where
+  pub timely : Timely time c
+  pub least : sizeLeast ≤ a .size
+  pub most : a .size ≤ c .settings .mtu
+  pub rows : firstOf (sendRows (c .flow) r (a .psn) (a .size) (a .resend)) ≡ 0
+  pub room : hasRoom (c .settings .mtu) (c .window .cwnd) (c .totals .«in_flight») ≡ true
+
+-- the ledger's rows, and row 6 behind them
+send-rows : (f : Flow) (r : Ring) (psn size : ℕ) (resend t : Bool) → firstOf (sendRows f r psn size resend ++ (row t 6 ∷ [])) ≡ 0
+    → (firstOf (sendRows f r psn size resend) ≡ 0) × (t ≡ false)
+send-rows f r psn size resend t e =
+    let d = split (firstOf (sendRows f r psn size resend)) (firstOf (row t 6 ∷ [])) (first-append 11 _ _ (send-numbered f r psn size resend) ∙ e) in
+    (d .0, none-here 6 t [] (omega arith) (d .1) .0)
+  where
+    split : (n m : ℕ) → ifEq n 0 m n ≡ 0 → (n ≡ 0) × (m ≡ 0)
+    split n m = eq-both (λ (k : ℕ). k ≡ 0 → (n ≡ 0) × (m ≡ 0)) n 0 m n (λ z e. (z, e)) (λ z e. absurd (z e))
+
+pub send-facts : (time : ℕ) (a : Send) (c : Controller) (r : Ring) → firstOf (sendAllRows time a c r) ≡ 0 → Sendable time a c r
+send-facts time a c r e =
+    let t = time-facts time c _ e in
+    let b = none-here 4 _ _ (omega arith) (t .1) in
+    let s = inside-tells sizeLeast (a .size) (c .settings .mtu) (not-false _ (b .0)) in
+    let d = send-rows (c .flow) r (a .psn) (a .size) (a .resend) _ (b .1) in
+    record { timely = t .0; least = s .0; most = s .1; rows = d .0; room = not-false _ (d .1) }
+
+pub record Ackable (time : ℕ) (a : Ack) (c : Controller) : Type 0 where
+  pub timely : Timely time c
+  pub count-ok : a .count < counts
+  pub ev-ok : a .ev < evCount
+  pub rows : firstOf (ackRows (c .flow) (c .totals .«in_flight») (a .cum) (a .map) (a .count)) ≡ 0
+
+pub ack-facts : (time : ℕ) (a : Ack) (c : Controller) → firstOf (ackAllRows time a c) ≡ 0 → Ackable time a c
+ack-facts time a c e =
+    let t = time-facts time c _ e in
+    let b = none-here 4 _ _ (omega arith) (t .1) in
+    let n = neither (leb counts (a .count) || leb evCount (a .ev)) (not (covered (a .cum) (a .map) (a .trigger))) (b .0) in
+    let m = neither (leb counts (a .count)) (leb evCount (a .ev)) (n .0) in
+    record { timely = t .0; count-ok = leb-false counts (a .count) (m .0); ev-ok = leb-false evCount (a .ev) (m .1); rows = b .1 }
+
+-- a NACK or a loss
+pub record Markable (time psn ev : ℕ) (c : Controller) (r : Ring) : Type 0 where
+  pub timely : Timely time c
+  pub ev-ok : ev < evCount
+  pub rows : firstOf (markRows (c .flow) (c .totals .«in_flight») r psn) ≡ 0
+
+pub nack-facts : (time : ℕ) (a : Nack) (c : Controller) (r : Ring) → firstOf (nackAllRows time a c r) ≡ 0 → Markable time (a .psn) (a .ev) c r
+nack-facts time a c r e =
+    let t = time-facts time c _ e in
+    let b = none-here 4 _ _ (omega arith) (t .1) in
+    let n = neither (ltb reasonMost (a .reason)) (leb evCount (a .ev)) (b .0) in
+    record { timely = t .0; ev-ok = leb-false evCount (a .ev) (n .1); rows = b .1 }
+
+pub loss-facts : (time : ℕ) (a : Loss) (c : Controller) (r : Ring) → firstOf (lossAllRows time a c r) ≡ 0 → Markable time (a .psn) (a .ev) c r
+loss-facts time a c r e =
+    let t = time-facts time c _ e in
+    let b = none-here 4 _ _ (omega arith) (t .1) in
+    record { timely = t .0; ev-ok = leb-false evCount (a .ev) (b .0); rows = b .1 }
+
+-- ---- after the ledger's step: what the window's rules and the state's name ask
+
+pub record Ready (s : Settings) (time : ℕ) (v : Window) (l : Ledger) : Type 0 where
+  pub range : InRange s
+  pub held : Held s time v
+  pub early : time < timeEnd
+  pub coheres : coherent (s .mtu) (s .maxwnd) time l ≡ true
+  pub flown : Flown (s .maxwnd) (l .totals .«in_flight»)
+
+module _ {s : Settings} {time : ℕ} {v : Window} {l : Ledger} (R : Ready s time v l) where
+  -- in-flight fits the machine's signed word
+  pub ready-flown : Flown (2 ^ 26) (l .totals .«in_flight»)
+  ready-flown = flown-wide (l .totals .«in_flight») (omega (arith, R .range)) (R .flown)
+
+  pub ready-word : toZ w64 (ofZ w64 (l .totals .«in_flight»)) ≡ l .totals .«in_flight»
+  ready-word = word (l .totals .«in_flight») ready-flown
+
+  pub ready-above : aboveZero (toZ w64 (ofZ w64 (l .totals .«in_flight»))) ≤ s .maxwnd
+  ready-above = rw ready-word (R .flown .high)
+
+  pub state-asks : {u : Window} → Held s time u → Flown (2 ^ 26) (l .totals .«in_flight») × ((s .mtu ≤ 2 ^ 14) × (u .cwnd ≤ 2 ^ 26))
+  state-asks H = (ready-flown, (omega (arith, R .range), cwnd-most (R .range) H))
+
+-- what is at most m is at most n
+under : (z : ℤ) (m n : ℕ) → leZ z (pos m) ≡ true → m ≤ n → leZ z (pos n) ≡ true
+under (pos a) m n e l = le-leb a n (omega (arith, leb-true a m e))
+under (negsuc a) m n e l = refl
+
+module _ {w : World} (S : SoundFacts w) where
+  ready-of : {time : ℕ} (l : Ledger) → Timely time (w .state)
+      → coherent (w .state .settings .mtu) (w .state .settings .maxwnd) time l ≡ true → Ready (w .state .settings) time (w .state .window) l
+  ready-of {time} l t co =
+      let s = w .state .settings in
+      let p = coherent-parts (s .mtu) (s .maxwnd) time l co in
+      record {
+        range = S .range;
+        held = held-later (S .held) (t .later);
+        early = t .early;
+        coheres = co;
+        flown = tallies-facts (s .maxwnd) (l .totals) (packets (l .flow) (l .slots)) (p .1) .3;
+      }
+
+  -- "in-flight + MTU is at most cwnd", which is at most MaxWnd
+  room-under : hasRoom (w .state .settings .mtu) (w .state .window .cwnd) (w .state .totals .«in_flight») ≡ true
+      → leZ (w .state .totals .«in_flight» +ℤ pos (w .state .settings .mtu)) (pos (w .state .settings .maxwnd)) ≡ true
+  unfolding hasRoom
+  room-under e =
+      under (w .state .totals .«in_flight» +ℤ pos (w .state .settings .mtu)) (w .state .window .cwnd) (w .state .settings .maxwnd) e
+      (omega (arith, S .held .cwnd-high, ceiling-high (S .range) (w .state .window .base)))
+
+  -- the EV and the base of an event that changes an EV's time
+  pub avoid-asks : {time ev : ℕ} → Timely time (w .state) → ev < evCount
+      → (ev < length (w .times)) × (time < 2 ^ 48) × (w .state .window .base ≤ 2 ^ 14)
+  avoid-asks t h = (omega (arith, S .times-long), t .early, omega (arith, S .held .base-high, S .range .rtt-high))
+
+  -- new data
+  pub supply-ready : {time : ℕ} (bytes : ℕ) → Timely time (w .state) → w .state .flow .backlog + bytes ≤ backlogMost
+      → Ready (w .state .settings) time (w .state .window) (ledger (suppliedOf bytes (w .state .flow)) (w .state .totals) (w .slots))
+  supply-ready {time} bytes t h = ready-of _ t (supply-keeps _ _ _ time bytes (ledgerOf w) (S .coheres) (t .later) h)
+
+  -- a path choice
+  pub path-ready : {time : ℕ} → Timely time (w .state) → Ready (w .state .settings) time (w .state .window) (ledgerOf w)
+  path-ready {time} t =
+      let s = w .state .settings in
+      let p = coherent-parts (s .mtu) (s .maxwnd) (w .state .clock) (ledgerOf w) (S .coheres) in
+      ready-of (ledgerOf w) t
+      (coherent-whole (s .mtu) (s .maxwnd) time (ledgerOf w) (stands-later (s .mtu) (w .state .clock) time _ _ (p .0) (t .later)) (p .1))
+
+  -- a send
+  module _ {time : ℕ} {a : Send} (A : Sendable time a (w .state) (w .slots)) where
+    pub push-asks : a .resend ≡ false → (a .size ≤ w .state .flow .backlog) × (longOf (w .state .flow) < capOf (w .slots))
+    push-asks e =
+        let c = w .state in
+        new-room (c .settings .mtu) (c .clock) (c .flow) (w .slots)
+        (stands-facts _ _ _ _ (coherent-parts _ _ _ (ledgerOf w) (S .coheres) .0)) (a .psn) (a .size) (rw e at (A .rows))
+
+    pub resend-asks : a .resend ≡ true → isMarked (packetOf (w .state .flow) (w .slots) (a .psn)) ≡ true
+    resend-asks e = resend-facts (w .state .flow) (w .slots) (a .psn) (a .size) (rw e at (A .rows)) .0
+
+    pub send-ready : w .state .flow .next < psns
+        → Ready (w .state .settings) time (w .state .window)
+        (ifSo (a .resend) (resentOf time (a .psn) (ledgerOf w)) (pushedOf time (a .size) (ledgerOf w)))
+    send-ready fits =
+        let s = w .state .settings in
+        let under = room-under (A .room) in
+        ready-of _ (A .timely)
+        (so-both (λ (l : Ledger). coherent (s .mtu) (s .maxwnd) time l ≡ true) (a .resend) _ _
+        (λ e. resend-keeps (s .mtu) (s .maxwnd) (w .state .clock) time (a .psn) (a .size) (ledgerOf w) (S .coheres) (rw e at (A .rows)) (A .timely .later) under)
+        (λ e.
+        push-keeps (s .mtu) (s .maxwnd) (w .state .clock) time (a .psn) (a .size) (ledgerOf w) (S .coheres) (rw e at (A .rows)) (A .timely .later)
+        (A .least) (A .most) under fits))
+
+  -- an ACK
+  pub ack-ready : {time : ℕ} {a : Ack} → Ackable time a (w .state) → w .state .flow .low < psns → w .state .flow .next < psns
+      → Ready (w .state .settings) time (w .state .window) (ackedOf (a .cum) (a .map) (a .count) (ledgerOf w))
+  ack-ready {time} {a} A hl hn =
+      let s = w .state .settings in
+      ready-of _ (A .timely)
+      (ack-keeps (a .cum) (a .map) (a .count) (s .mtu) (s .maxwnd) (w .state .clock) time (ledgerOf w) (S .coheres) hl hn (A .count-ok) (A .rows)
+      (A .timely .later))
+
+  -- a NACK or a loss
+  module _ {time psn ev : ℕ} (A : Markable time psn ev (w .state) (w .slots)) where
+    pub mark-flies : isFlying (packetOf (w .state .flow) (w .slots) psn) ≡ true
+    mark-flies = mark-facts (w .state .flow) (w .state .totals .«in_flight») (w .slots) psn (A .rows) .0
+
+    pub mark-size : packetOf (w .state .flow) (w .slots) psn .size ≤ w .state .settings .mtu
+    mark-size =
+        let c = w .state in
+        let F = stands-facts (c .settings .mtu) (c .clock) (c .flow) (w .slots) (coherent-parts _ _ _ (ledgerOf w) (S .coheres) .0) in
+        let h = packet-some (c .flow) (w .slots) psn (omega (arith, flies (packetOf (c .flow) (w .slots) psn) mark-flies)) in
+        packet-live (c .settings .mtu) (c .clock) (c .flow) (w .slots) F psn h .size-most
+
+    pub marked-ready : Ready (w .state .settings) time (w .state .window) (markedOf psn (ledgerOf w))
+    marked-ready =
+        let s = w .state .settings in
+        ready-of _ (A .timely)
+        (mark-keeps (s .mtu) (s .maxwnd) (w .state .clock) time psn (ledgerOf w) (S .coheres) (A .rows) (A .timely .later))
+
+-- ---- what the code leaves is the definition's world
+
+pub settles : (time : ℕ) (c : Controller) {l : Ledger} {v u : Window} {times evs : List ℕ} {d : Controller} {f : Flow} {t : Totals} {r : Ring}
+    → ledger f t r ≡ l → u ≡ v → evs ≡ times → d ≡ stateOf (c .settings) f t u time (c .cursor) → world d r evs ≡ settled time c l v times
+unfolding settled
+settles time c e ev et ed = rw (← e, ← ev, ← et, ed)
+
+-- the window and the EV times of each event are the definition's, from what the calls before them gave
+module _ (time : ℕ) (w : World) {x : Packet} {z : ℤ} {u : Window} {evs : List ℕ} {d : Controller} {f : Flow} {t : Totals} {r : Ring}
+    (ez : z ≡ t .«in_flight») (ed : d ≡ stateOf (w .state .settings) f t u time (w .state .cursor)) where
+  pub ack-is : (a : Ack) {newly : ℕ} {p : Sample} → newly ≡ newlyOf (a .count) (w .state .flow .held)
+      → x ≡ packetOf (w .state .flow) (w .slots) (a .trigger)
+      → p ≡ sampleOf (isOut x) (x .resent) (a .retx) time (x .sent) (a .service)
+      → ledger f t r ≡ ackedOf (a .cum) (a .map) (a .count) (ledgerOf w)
+      → u ≡ ackOf (w .state .settings) time newly (a .marked) p z (w .state .window)
+      → evs ≡ avoidedIn (a .marked) (a .ev) time (w .state .window .base) (w .times)
+      → world d r evs ≡ ackStep time a w
+  unfolding ackStep ackSample
+  ack-is a en ex ep el eu ee =
+      let c = w .state in
+      settles time c el
+      (rw (eu, en, ep, ex, ez)
+      (ap
+      (λ (l : Ledger). ackOf (c .settings) time (newlyOf (a .count) (c .flow .held)) (a .marked) (ackSample time a w) (l .totals .«in_flight») (c .window))
+      el))
+      ee ed
+
+  pub nack-is : (a : Nack) {p : Sample} → x ≡ packetOf (w .state .flow) (w .slots) (a .psn)
+      → p ≡ sampleOf (isOut x) (x .resent) (a .retx) time (x .sent) 0
+      → ledger f t r ≡ markedOf (a .psn) (ledgerOf w)
+      → u ≡ nackOf (w .state .settings) time (x .size) (a .reason) p z (w .state .window)
+      → evs ≡ avoidedIn (a .marked || eqb (a .reason) 0) (a .ev) time (w .state .window .base) (w .times)
+      → world d r evs ≡ nackStep time a w
+  unfolding nackStep nackSample
+  nack-is a ex ep el eu ee =
+      let c = w .state in
+      settles time c el
+      (rw (eu, ep, ex, ez)
+      (ap
+      (λ (l : Ledger).
+      nackOf (c .settings) time (packetOf (c .flow) (w .slots) (a .psn) .size) (a .reason) (nackSample time a w) (l .totals .«in_flight») (c .window))
+      el))
+      ee ed
+
+  pub loss-is : (a : Loss) → x ≡ packetOf (w .state .flow) (w .slots) (a .psn)
+      → ledger f t r ≡ markedOf (a .psn) (ledgerOf w)
+      → u ≡ lossOf (w .state .settings) time (x .size) z (w .state .window)
+      → evs ≡ avoidedIn true (a .ev) time (w .state .window .base) (w .times)
+      → world d r evs ≡ lossStep time a w
+  unfolding lossStep
+  loss-is a ex el eu ee =
+      let c = w .state in
+      settles time c el
+      (rw (eu, ex, ez)
+      (ap (λ (l : Ledger). lossOf (c .settings) time (packetOf (c .flow) (w .slots) (a .psn) .size) (l .totals .«in_flight») (c .window)) el))
+      ee ed
+
+-- a sample that the code read
+pub sampled-at : {p : Sample} (out : Bool) (resent : ℕ) (retx : Bool) (time sent service : ℕ) → p ≡ sampleOf out resent retx time sent service
+    → Sampled p
+sampled-at out resent retx time sent service e = rw e (sample-held out resent retx time sent service)
+
+-- ---- a path choice stays among the EVs
+
+pub taken-inside : (time cursor : ℕ) (evs : List ℕ) {x : Choice} → x ≡ choice time cursor evs → length evs ≡ evCount → cursor < evCount
+    → (x .ev < evCount) × (x .cursor < evCount)
+taken-inside time cursor evs e long at =
+    let i = choice-inside time cursor evs (omega arith) in
+    rw e (omega (arith, i .ev-inside), omega (arith, i .cursor-inside))

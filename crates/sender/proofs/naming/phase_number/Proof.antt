@@ -1,0 +1,38 @@
+-- `phase_number` gives each name its number, as `phaseNumber` does.
+use borrow.Author.Needs.{needs}
+use Rattle.sender.specs.Named.{phaseNumber}
+use Rattle.sender.proofs.naming.phase_number.Statement.{statement}
+use Rattle.sender.proofs.naming.phase_number.Tie as tie
+
+enum-told : tie.Need-enum-told
+enum-told c = search needs
+
+enum-told-2 : tie.Need-enum-told-2
+enum-told-2 c = search needs
+
+enum-told-3 : tie.Need-enum-told-3
+enum-told-3 c = search needs
+
+enum-told-4 : tie.Need-enum-told-4
+enum-told-4 c = search needs
+
+returns : tie.Need-returns
+unfolding phaseNumber
+returns c = search needs
+
+returns-2 : tie.Need-returns-2
+unfolding phaseNumber
+returns-2 c = search needs
+
+returns-3 : tie.Need-returns-3
+unfolding phaseNumber
+returns-3 c = search needs
+
+returns-4 : tie.Need-returns-4
+unfolding phaseNumber
+returns-4 c = search needs
+
+pub phase-number-spec : {M : Type 1} → statement M
+phase-number-spec =
+    tie.close
+    (tie.spec enum-told enum-told-2 enum-told-3 enum-told-4 returns returns-2 returns-3 returns-4)

@@ -1,0 +1,86 @@
+-- `is_sound` makes the tests of `sound` in their order: by the laws of proofs/Sounds on its tests. The name is asked for once the first three hold,
+-- which bound what it is computed from.
+use borrow.Author.Needs.{needs}
+use Rattle.ledger.specs.Ring.{ring}
+use Rattle.sender.specs.World.{World, world}
+use Rattle.sender.proofs.Sounds.{not-range, not-held, not-coherent, tests-bounded, tests-left}
+use Rattle.sender.proofs.sound.is_sound.Statement.{statement}
+use Rattle.sender.proofs.sound.is_sound.Tie as tie
+
+-- the world that was handed in, seen from the first test
+abbrev given : tie.After-in-range → World
+given c =
+    let a = c .before .before .before .before .before .before .before .before .before .before .args in
+    world (a .c) (ring (a .status .now) (a .size .now) (a .sent .now) (a .resent .now)) (a .evs .now)
+
+in-range-requires : tie.Need-in-range-requires
+in-range-requires c κs = search needs
+
+returns : tie.Need-returns
+returns c = not-range (given (c .before)) _ (c .before .in-range .ensures) (c .if1 .taken)
+
+is-held-requires : tie.Need-is-held-requires
+is-held-requires c κs = search needs
+
+returns-2 : tie.Need-returns-2
+returns-2 c =
+    let r = c .before .before in
+    not-held (given (r .before)) _ (r .before .in-range .ensures) (r .if1 .left) _ (c .before .is-held .ensures) (c .if2 .taken)
+
+is-coherent-requires : tie.Need-is-coherent-requires
+is-coherent-requires c κs = search needs
+
+returns-3 : tie.Need-returns-3
+returns-3 c =
+    let h = c .before .before in
+    let r = h .before .before in
+    not-coherent (given (r .before)) _ (r .before .in-range .ensures) (r .if1 .left) _ (h .before .is-held .ensures) (h .if2 .left) _
+    (c .before .is-coherent .ensures) (c .if3 .taken)
+
+cast-result : tie.Need-cast-result
+cast-result c = search needs
+
+times-ok-requires : tie.Need-times-ok-requires
+times-ok-requires c κs = search needs
+
+phase-number-requires : tie.Need-phase-number-requires
+phase-number-requires c κs = search needs
+
+phase-of-requires : tie.Need-phase-of-requires
+phase-of-requires c κs =
+    let l = c .before .before .before .before in
+    let h = l .before .before in
+    let r = h .before .before in
+    let B =
+    tests-bounded (given (r .before)) _ (r .before .in-range .ensures) (r .if1 .left) _ (h .before .is-held .ensures) (h .if2 .left) _
+    (l .before .is-coherent .ensures) (l .if3 .left) in
+    (B .flown, (B .mtu-high, B .cwnd-high))
+
+phase-number-requires-2 : tie.Need-phase-number-requires-2
+phase-number-requires-2 c κs = search needs
+
+returns-4 : tie.Need-returns-4
+returns-4 c =
+    let l = c .before .before .before .before .before .before in
+    let h = l .before .before in
+    let r = h .before .before in
+    tests-left (given (r .before)) _ (r .before .in-range .ensures) (r .if1 .left) _ (h .before .is-held .ensures) (h .if2 .left) _
+    (l .before .is-coherent .ensures) (l .if3 .left) _ _ _ _ (c .before .before .before .before .times-ok .ensures) (c .before .before .phase-number .ensures)
+    (c .phase-number2 .ensures) (c .before .phase-of .ensures)
+
+pub is-sound-spec : {M : Type 1} → statement M
+is-sound-spec =
+    tie.close
+    (tie.spec
+    in-range-requires
+    returns
+    is-held-requires
+    returns-2
+    is-coherent-requires
+    returns-3
+    cast-result
+    times-ok-requires
+    phase-number-requires
+    phase-of-requires
+    phase-number-requires-2
+    returns-4)

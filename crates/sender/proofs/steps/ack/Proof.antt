@@ -1,0 +1,110 @@
+-- `ack` puts the ledger's step, the window's rules and the EV's time together (`ack-is`); each call's need is what a sound world and an ACK that
+-- no row refuses leave (`ack-ready`).
+use Prim.Native.Nat.{_<_}
+use native.Mathlib.Omega.{arith}
+use borrow.Author.Needs.{needs}
+use Rattle.serial.specs.Psn.{psns}
+use Rattle.ledger.specs.Ring.{Ledger, ring, ledger}
+use Rattle.sender.specs.World.{World, world}
+use Rattle.sender.proofs.Sounds.{SoundFacts, sound-facts, sound-even, sound-coheres}
+use Rattle.sender.proofs.Stepping.{Ackable, ack-facts, avoid-asks, Ready, ready-above, ready-word, state-asks, ack-ready, sampled-at, ack-is}
+use Rattle.sender.proofs.steps.ack.Statement.{statement}
+use Rattle.sender.proofs.steps.ack.Tie as tie
+
+-- the world that came in
+abbrev world-in : tie.Start → World
+world-in s =
+    world (s .args .c) (ring (s .args .status .now) (s .args .size .now) (s .args .sent .now) (s .args .resent .now)) (s .args .evs .now)
+
+facts : (s : tie.Start) → SoundFacts (world-in s)
+facts s = sound-facts (world-in s) (s .pre .0)
+
+accepted : (s : tie.Start) → Ackable (s .args .time) (s .args .a) (s .args .c)
+accepted s = ack-facts (s .args .time) (s .args .a) (s .args .c) (s .pre .1)
+
+psns-fit : (s : tie.Start) → (s .args .c .flow .low < psns) × (s .args .c .flow .next < psns)
+psns-fit s = omega arith
+
+-- from the place after the ledger's step back to the entry
+abbrev entry : tie.After-ack → tie.Start
+entry p = p .before .before .before .before .before .before .before .before .before .before .before .before .before .before .before .before .before .before .before .before .before .before
+
+-- the ledger that came out, and what it leaves to the window's rules
+abbrev ledger-out : tie.After-ack → Ledger
+ledger-out p =
+    ledger (p .ack .result .flow) (p .ack .result .totals)
+    (ring (p .ack .last .1 .1 .1 .1 .0) (p .ack .last .1 .1 .1 .1 .1 .0) (p .ack .last .1 .1 .1 .1 .1 .1 .0) (p .ack .last .1 .1 .1 .1 .1 .1 .1 .0))
+
+after : (p : tie.After-ack) → Ready (entry p .args .c .settings) (entry p .args .time) (entry p .args .c .window) (ledger-out p)
+after p = let s = entry p in rw (p .ack .ensures) (ack-ready (facts s) (accepted s) (psns-fit s .0) (psns-fit s .1))
+
+newly-requires : tie.Need-newly-requires
+newly-requires c κs = search needs
+
+find-requires : tie.Need-find-requires
+find-requires c κs = let s = c .before .before .before .before .before .before .before .before .before .before .before .before .before .before in sound-even (world-in s) (s .pre .0)
+
+cast-sampled : tie.Need-cast-sampled
+cast-sampled c = search needs
+
+sampled-requires : tie.Need-sampled-requires
+sampled-requires c κs = search needs
+
+ack-requires : tie.Need-ack-requires
+ack-requires c κs = let s = c .before .before .before .before .before .before .before .before .before .before .before .before .before .before .before .before .before .before .before .before .before in (sound-coheres (world-in s) (s .pre .0), accepted s .rows)
+
+ack-requires-2 : tie.Need-ack-requires-2
+ack-requires-2 c κs =
+    let p = c .before .before .before .before .before .before .before .before .before .before .before in
+    let m = p .before .before .before .before .before in
+    let R = after p in
+    (R .range, (R .held, (sampled-at _ _ _ _ _ _ (m .sampled .ensures), (m .before .before .before .before .before .before .before .newly .ensures .1, R .early, ready-above R))))
+
+avoid-requires : tie.Need-avoid-requires
+avoid-requires c κs = let s = c .before .before .before .before .before .before .before .before .before .before .before .before .before .before .before .before .before .before .before .before .before .before .before .before .before .before .before .before .before .before .before .before .before .before .before in avoid-asks (facts s) (accepted s .timely) (accepted s .ev-ok)
+
+state-of-requires : tie.Need-state-of-requires
+state-of-requires c κs = state-asks (after (c .before .before .before .before .before .before .before .before .before .before .before .before .before .before .before .before)) (c .before .before .before .before .ack2 .ensures .held)
+
+same-length : tie.Need-same-length
+same-length c = c .before .before .before .before .before .before .before .before .before .before .before .before .before .before .before .before .before .ack .kept .1 .1 .1 .1 .0
+
+same-length-2 : tie.Need-same-length-2
+same-length-2 c = c .before .before .before .before .before .before .before .before .before .before .before .before .before .before .before .before .before .ack .kept .1 .1 .1 .1 .1 .0
+
+same-length-3 : tie.Need-same-length-3
+same-length-3 c = c .before .before .before .before .before .before .before .before .before .before .before .before .before .before .before .before .before .ack .kept .1 .1 .1 .1 .1 .1 .0
+
+same-length-4 : tie.Need-same-length-4
+same-length-4 c = c .before .before .before .before .before .before .before .before .before .before .before .before .before .before .before .before .before .ack .kept .1 .1 .1 .1 .1 .1 .1 .0
+
+same-length-5 : tie.Need-same-length-5
+same-length-5 c = search needs
+
+returns : tie.Need-returns
+returns c =
+    let p = c .before .before .before .before .before .before .before .before .before .before .before .before .before .before .before .before .before in
+    let m = p .before .before .before .before .before in
+    let x = m .before .before in
+    let s = entry p in
+    ack-is (s .args .time) (world-in s) {r = ledger-out p .slots} (ready-word (after p)) (c .state-of .ensures) (s .args .a) (x .before .before .before .before .before .newly .ensures .0)
+    (x .find .ensures) (m .sampled .ensures) (p .ack .ensures) (c .before .before .before .before .before .ack2 .ensures .is) (c .before .before .before .avoid .ensures)
+
+pub ack-spec : {M : Type 1} → statement M
+ack-spec =
+    tie.close
+    (tie.spec
+    newly-requires
+    find-requires
+    cast-sampled
+    sampled-requires
+    ack-requires
+    ack-requires-2
+    avoid-requires
+    state-of-requires
+    same-length
+    same-length-2
+    same-length-3
+    same-length-4
+    same-length-5
+    returns)

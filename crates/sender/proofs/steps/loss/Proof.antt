@@ -1,0 +1,85 @@
+-- `loss` puts the ledger's step, the window's rules and the EV's time together (`loss-is`); each call's need is what a sound world and a loss that
+-- no row refuses leave (`marked-ready`).
+use borrow.Author.Needs.{needs}
+use Rattle.ledger.specs.Ring.{Ledger, ring, ledger}
+use Rattle.sender.specs.World.{World, world}
+use Rattle.sender.proofs.Sounds.{SoundFacts, sound-facts, sound-even, sound-coheres}
+use Rattle.sender.proofs.Stepping.{Markable, loss-facts, avoid-asks, Ready, ready-above, ready-word, state-asks, mark-flies, mark-size, marked-ready, loss-is}
+use Rattle.sender.proofs.steps.loss.Statement.{statement}
+use Rattle.sender.proofs.steps.loss.Tie as tie
+
+-- the world that came in
+abbrev world-in : tie.Start → World
+world-in s =
+    world (s .args .c) (ring (s .args .status .now) (s .args .size .now) (s .args .sent .now) (s .args .resent .now)) (s .args .evs .now)
+
+facts : (s : tie.Start) → SoundFacts (world-in s)
+facts s = sound-facts (world-in s) (s .pre .0)
+
+accepted : (s : tie.Start) → Markable (s .args .time) (s .args .a .psn) (s .args .a .ev) (s .args .c) (world-in s .slots)
+accepted s = loss-facts (s .args .time) (s .args .a) (s .args .c) (world-in s .slots) (s .pre .1)
+
+-- from the place after the ledger's step back to the one after the packet is found, and to the entry
+abbrev found : tie.After-mark → tie.After-find
+found p = p .before .before
+
+abbrev entry : tie.After-mark → tie.Start
+entry p = p .before .before .before .before .before .before .before .before .before .before .before .before .before
+
+-- the ledger that came out, and what it leaves to the window's rules
+abbrev ledger-out : tie.After-mark → Ledger
+ledger-out p =
+    ledger (p .mark .result .flow) (p .mark .result .totals)
+    (ring (p .mark .last .1 .1 .0) (entry p .args .size .now) (entry p .args .sent .now) (entry p .args .resent .now))
+
+after : (p : tie.After-mark) → Ready (entry p .args .c .settings) (entry p .args .time) (entry p .args .c .window) (ledger-out p)
+after p = let s = entry p in rw (p .mark .ensures) (marked-ready (facts s) (accepted s))
+
+find-requires : tie.Need-find-requires
+find-requires c κs = let s = c .before .before .before .before .before .before .before .before .before .before in sound-even (world-in s) (s .pre .0)
+
+mark-requires : tie.Need-mark-requires
+mark-requires c κs = let s = c .before .before .before .before .before .before .before .before .before .before .before .before in (sound-coheres (world-in s) (s .pre .0), mark-flies (facts s) (accepted s))
+
+cast-loss : tie.Need-cast-loss
+cast-loss c = search needs
+
+loss-requires : tie.Need-loss-requires
+loss-requires c κs =
+    let p = c .before .before .before .before .before .before in
+    let s = entry p in
+    let R = after p in
+    (R .range, (R .held, (rw (found p .find .ensures) (mark-size (facts s) (accepted s)), R .early, ready-above R)))
+
+avoid-requires : tie.Need-avoid-requires
+avoid-requires c κs = let s = c .before .before .before .before .before .before .before .before .before .before .before .before .before .before .before .before .before .before .before .before .before in avoid-asks (facts s) (accepted s .timely) (accepted s .ev-ok)
+
+state-of-requires : tie.Need-state-of-requires
+state-of-requires c κs = state-asks (after (c .before .before .before .before .before .before .before .before .before .before .before)) (c .before .before .before .before .loss .ensures .held)
+
+same-length : tie.Need-same-length
+same-length c = c .before .before .before .before .before .before .before .before .before .before .before .before .mark .kept .1 .1 .0
+
+same-length-2 : tie.Need-same-length-2
+same-length-2 c = search needs
+
+returns : tie.Need-returns
+returns c =
+    let p = c .before .before .before .before .before .before .before .before .before .before .before .before in
+    let s = entry p in
+    loss-is (s .args .time) (world-in s) {r = ledger-out p .slots} (ready-word (after p)) (c .state-of .ensures) (s .args .a) (found p .find .ensures)
+    (p .mark .ensures) (c .before .before .before .before .before .loss .ensures .is) (c .before .before .before .avoid .ensures)
+
+pub loss-spec : {M : Type 1} → statement M
+loss-spec =
+    tie.close
+    (tie.spec
+    find-requires
+    mark-requires
+    cast-loss
+    loss-requires
+    avoid-requires
+    state-of-requires
+    same-length
+    same-length-2
+    returns)

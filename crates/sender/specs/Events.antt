@@ -1,0 +1,37 @@
+-- Each event: the number of the first row that applies and the world as it was, or 0 and the world after the step.
+-- Assumes nothing.
+use Prim.Native.Nat.{ℕ}
+use Rattle.decide.specs.Branch.{ifEq}
+use Rattle.decide.specs.Rows.{firstOf}
+use Rattle.sender.specs.World.{World, Answered, Routing}
+use Rattle.sender.specs.Rows.{withSound, newDataRows, sendAllRows, ackAllRows, nackAllRows, lossAllRows, pathRows}
+use Rattle.sender.specs.Steps.{newDataStep, sendStep, ackStep, nackStep, lossStep, pathStep, routeOf}
+use Rattle.sender.specs.declared.Send.{Send}
+use Rattle.sender.specs.declared.Ack.{Ack}
+use Rattle.sender.specs.declared.Nack.{Nack}
+use Rattle.sender.specs.declared.Loss.{Loss}
+
+-- "Each returns its number, the state as given, and lent memory untouched. Accepted is 0"
+unfoldable pub decided : ℕ → World → World → Answered
+decided n w after = ifEq n 0 (record { number = 0; after = after }) (record { number = n; after = w })
+
+unfoldable pub onNewData : ℕ → ℕ → World → Answered
+onNewData time bytes w = decided (firstOf (withSound w (newDataRows time bytes (w .state)))) w (newDataStep time bytes w)
+
+unfoldable pub onSend : ℕ → Send → World → Answered
+onSend time a w = decided (firstOf (withSound w (sendAllRows time a (w .state) (w .slots)))) w (sendStep time a w)
+
+unfoldable pub onAck : ℕ → Ack → World → Answered
+onAck time a w = decided (firstOf (withSound w (ackAllRows time a (w .state)))) w (ackStep time a w)
+
+unfoldable pub onNack : ℕ → Nack → World → Answered
+onNack time a w = decided (firstOf (withSound w (nackAllRows time a (w .state) (w .slots)))) w (nackStep time a w)
+
+unfoldable pub onLoss : ℕ → Loss → World → Answered
+onLoss time a w = decided (firstOf (withSound w (lossAllRows time a (w .state) (w .slots)))) w (lossStep time a w)
+
+-- a path choice answers the EV too, 0 where it is refused
+unfoldable pub onPath : ℕ → World → Routing
+onPath time w =
+    let n = firstOf (withSound w (pathRows time (w .state))) in
+    ifEq n 0 (record { number = 0; ev = routeOf time w .ev; after = pathStep time w }) (record { number = n; ev = 0; after = w })

@@ -1,0 +1,11 @@
+-- What the contracts of `sender` cite.
+pub mod Limits
+pub mod Numbers
+pub mod World
+pub mod Named
+pub mod Sound
+pub mod Bounds
+pub mod Rows
+pub mod Steps
+pub mod Start
+pub mod Events

@@ -1,0 +1,36 @@
+-- The number that document 01's table gives each answer. "Accepted is 0."
+-- Assumes nothing.
+use Prim.Native.Nat.{ℕ}
+use Rattle.sender.specs.declared.Refusal.{Refusal}
+use Rattle.sender.specs.declared.Refusal.the-variants.{Setting, Unsound, Time, Field, Backlog, WindowFull, RingFull, WrongPsn, UnsentOrOld, NotFlying, Sinks}
+use Rattle.sender.specs.declared.Outcome.{Outcome}
+use Rattle.sender.specs.declared.Outcome.the-variants as outcome
+use Rattle.sender.specs.declared.Route.{Route}
+use Rattle.sender.specs.declared.Route.the-variants as route
+
+-- a row of the table
+unfoldable pub rowOf : Refusal → ℕ
+rowOf Setting = 1
+rowOf Unsound = 2
+rowOf Time = 3
+rowOf Field = 4
+rowOf Backlog = 5
+rowOf WindowFull = 6
+rowOf RingFull = 7
+rowOf WrongPsn = 8
+rowOf UnsentOrOld = 9
+rowOf NotFlying = 10
+rowOf Sinks = 11
+
+unfoldable pub numberOf : Outcome → ℕ
+numberOf outcome.Accepted = 0
+numberOf (outcome.Refused r) = rowOf r
+
+-- a path choice: its number, and the EV where it is accepted
+unfoldable pub pathNumber : Route → ℕ
+pathNumber (route.Chosen ev) = 0
+pathNumber (route.Refused r) = rowOf r
+
+unfoldable pub pathEv : Route → ℕ
+pathEv (route.Chosen ev) = ev
+pathEv (route.Refused r) = 0

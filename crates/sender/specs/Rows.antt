@@ -1,0 +1,72 @@
+-- The refusals of each event, in document 01's order: "2, 3, 4, then send: 8, 5, 7, 6; ACK: 9, 11; NACK and loss: 10, 11". New data and path choice
+-- "use only the rows that apply". The ledger's rows are `ledger`'s.
+-- Assumes nothing.
+use mathlib.Core.Bool.{not, _&&_, _||_}
+use mathlib.Core.List.{List, [], _∷_, _++_}
+use Prim.Native.Nat.{ℕ, _+_}
+use lib.Dec.{leb, ltb, eqb}
+use lib.ListN.{length}
+use Rattle.decide.specs.Rows.{Row, row}
+use Rattle.decide.specs.Test.{inside}
+use Rattle.serial.specs.Psn.{covered}
+use Rattle.serial.specs.Count.{counts}
+use Rattle.window.specs.Range.{inRange}
+use Rattle.window.specs.declared.Settings.{Settings}
+use Rattle.ledger.specs.Bounds.{sizeLeast, backlogMost}
+use Rattle.ledger.specs.Ring.{Ring}
+use Rattle.ledger.specs.Coherent.{isRing}
+use Rattle.ledger.specs.Rows.{sendRows, ackRows, markRows}
+use Rattle.sender.specs.Limits.{timeEnd, evCount, reasonMost}
+use Rattle.sender.specs.World.{World}
+use Rattle.sender.specs.Named.{hasRoom}
+use Rattle.sender.specs.Sound.{sound}
+use Rattle.sender.specs.declared.Controller.{Controller}
+use Rattle.sender.specs.declared.Send.{Send}
+use Rattle.sender.specs.declared.Ack.{Ack}
+use Rattle.sender.specs.declared.Nack.{Nack}
+use Rattle.sender.specs.declared.Loss.{Loss}
+
+-- "time before the held clock, or 2^48 or more" (3)
+abbrev pub timeRow : ℕ → Controller → Row
+timeRow time c = row (ltb time (c .clock) || leb timeEnd time) 3
+
+-- "0 bytes or a sum over 2^40 on new data" (4)
+abbrev pub newDataRows : ℕ → ℕ → Controller → List Row
+newDataRows time bytes c = timeRow time c ∷ row (eqb bytes 0 || ltb backlogMost (c .flow .backlog + bytes)) 4 ∷ []
+
+-- "size outside 41..MTU on a send" (4); .. ; "in-flight + MTU > cwnd on a send" (6)
+abbrev pub sendAllRows : ℕ → Send → Controller → Ring → List Row
+sendAllRows time a c r =
+    timeRow time c
+    ∷ row (not (inside sizeLeast (a .size) (c .settings .mtu))) 4
+    ∷ (sendRows (c .flow) r (a .psn) (a .size) (a .resend)
+    ++ (row (not (hasRoom (c .settings .mtu) (c .window .cwnd) (c .totals .«in_flight»))) 6 ∷ []))
+
+-- "count 2^24 or more; .. EV over 255; ACK's trigger PSN not covered by that ACK" (4)
+abbrev pub ackAllRows : ℕ → Ack → Controller → List Row
+ackAllRows time a c =
+    timeRow time c
+    ∷ row (leb counts (a .count) || leb evCount (a .ev) || not (covered (a .cum) (a .map) (a .trigger))) 4
+    ∷ ackRows (c .flow) (c .totals .«in_flight») (a .cum) (a .map) (a .count)
+
+-- "NACK reason over 2; EV over 255" (4)
+abbrev pub nackAllRows : ℕ → Nack → Controller → Ring → List Row
+nackAllRows time a c r =
+    timeRow time c
+    ∷ row (ltb reasonMost (a .reason) || leb evCount (a .ev)) 4
+    ∷ markRows (c .flow) (c .totals .«in_flight») r (a .psn)
+
+-- "EV over 255" (4)
+abbrev pub lossAllRows : ℕ → Loss → Controller → Ring → List Row
+lossAllRows time a c r = timeRow time c ∷ row (leb evCount (a .ev)) 4 ∷ markRows (c .flow) (c .totals .«in_flight») r (a .psn)
+
+abbrev pub pathRows : ℕ → Controller → List Row
+pathRows time c = timeRow time c ∷ []
+
+-- "state or buffers don't hold together" (2), before all others
+abbrev pub withSound : World → List Row → List Row
+withSound w rows = row (not (sound w)) 2 ∷ rows
+
+-- "setting up tests 1, then 2 on lengths only"
+abbrev pub setUpRows : Settings → Ring → List ℕ → List Row
+setUpRows s r times = row (not (inRange s)) 1 ∷ row (not (isRing r && eqb (length times) evCount)) 2 ∷ []

@@ -1,0 +1,36 @@
+-- Refusal 2: "state or buffers don't hold together". Document 01, "Number 2 is", in full.
+-- Assumes nothing.
+use mathlib.Core.Bool.{Bool, true, _&&_}
+use mathlib.Core.List.{List, [], _∷_}
+use Prim.Native.Nat.{ℕ}
+use lib.ListN.{length}
+use lib.Dec.{ltb, eqb}
+use Rattle.window.specs.Limits.{laterEnd}
+use Rattle.window.specs.Range.{inRange}
+use Rattle.window.specs.Held.{isHeld}
+use Rattle.ledger.specs.Coherent.{coherent}
+use Rattle.sender.specs.Limits.{timeEnd, evCount}
+use Rattle.sender.specs.World.{World, ledgerOf}
+use Rattle.sender.specs.Named.{phaseOf, phaseNumber}
+use Rattle.sender.specs.declared.Controller.{Controller}
+
+-- no "EV time of 2^49 or more"
+unfoldable pub timesOk : List ℕ → Bool
+timesOk [] = true
+timesOk (t ∷ ts) = ltb t laterEnd && timesOk ts
+
+-- "a state name other than the rule's"
+unfoldable pub namedOk : Controller → Bool
+namedOk c = eqb (phaseNumber (c .phase)) (phaseNumber (phaseOf (c .settings .mtu) (c .window .cwnd) (c .flow) (c .totals)))
+
+unfoldable pub sound : World → Bool
+sound w =
+    let c = w .state in
+    inRange (c .settings)
+    && isHeld (c .settings) (c .clock) (c .window)
+    && coherent (c .settings .mtu) (c .settings .maxwnd) (c .clock) (ledgerOf w)
+    && ltb (c .clock) timeEnd
+    && eqb (length (w .times)) evCount
+    && timesOk (w .times)
+    && ltb (c .cursor) evCount
+    && namedOk c

@@ -1,0 +1,46 @@
+-- Setting up. "A fresh state has an empty ring of zeros, low = next = first PSN, all times and tallies 0, modes off, cwnd = MaxWnd, base = config_base_rtt,
+-- clock 0, path cursor 0." "A refused setting up: a state of zeros."
+-- Assumes nothing.
+use mathlib.Core.Bool.{false}
+use mathlib.Core.List.{List}
+use Prim.Native.Nat.{ℕ}
+use lib.IntN.{pos}
+use lib.ListN.{length, replicate}
+use Rattle.decide.specs.Branch.{ifEq}
+use Rattle.decide.specs.Rows.{firstOf}
+use Rattle.window.specs.Held.{freshOf}
+use Rattle.window.specs.declared.Settings.{Settings}
+use Rattle.ledger.specs.Ring.{Ring, ring}
+use Rattle.ledger.specs.declared.Flow.{Flow}
+use Rattle.ledger.specs.declared.Totals.{Totals}
+use Rattle.sender.specs.Rows.{setUpRows}
+use Rattle.sender.specs.World.{Answered, answered}
+use Rattle.sender.specs.declared.Controller.{Controller}
+use Rattle.sender.specs.declared.Phase.the-variants.{Idle}
+
+-- every number 0, modes off
+unfoldable pub noSettings : Settings
+noSettings =
+    record { mtu = 0; maxwnd = 0; «config_base_rtt» = 0; «target_qdelay» = 0; fi = 0; eta = 0; alpha = 0; gamma = 0; «max_md_jump» = 0; «adjust_period» = 0; «adjust_bytes» = 0; «qa_threshold» = 0; «first_psn» = 0; «quick_adapt_off» = false }
+
+abbrev pub freshFlow : ℕ → Flow
+freshFlow psn = record { low = psn; next = psn; held = 0; backlog = 0 }
+
+abbrev pub freshTotals : Totals
+freshTotals = record { flying = 0; marked = 0; «marked_bytes» = 0; «in_flight» = pos 0 }
+
+-- the fresh state of settings; of no settings it is the state of zeros
+unfoldable pub freshState : Settings → Controller
+freshState s =
+    record { settings = s; flow = freshFlow (s .«first_psn»); totals = freshTotals; window = freshOf s; clock = 0; cursor = 0; phase = Idle }
+
+abbrev pub zeros : List ℕ → List ℕ
+zeros xs = replicate (length xs) 0
+
+abbrev pub clearRing : Ring → Ring
+clearRing r = ring (zeros (r .status)) (zeros (r .size)) (zeros (r .sent)) (zeros (r .resent))
+
+unfoldable pub onSetUp : Settings → Ring → List ℕ → Answered
+onSetUp s r times =
+    let n = firstOf (setUpRows s r times) in
+    ifEq n 0 (answered 0 (freshState s) (clearRing r) (zeros times)) (answered n (freshState noSettings) r times)

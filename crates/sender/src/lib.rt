@@ -1,0 +1,305 @@
+// The sender: one congestion control context. Each event is a method on the controller by value that answers the state and the outcome;
+// the ring and the EV times are lent. No event has a `requires`: whatever is handed in, it ends, and answers by document 01's table.
+pub mod judge;
+pub mod naming;
+pub mod sound;
+pub mod start;
+pub mod steps;
+
+use crate::sound::is_sound;
+use ledger::Flow;
+use ledger::Totals;
+use window::Settings;
+use window::Window;
+ghost use mathlib.Core.Path.{_≡_};
+ghost use Rattle.ledger.specs.Ring.{ring};
+ghost use Prim.Native.Nat.{_<_, _≤_};
+ghost use Rattle.sender.specs.Numbers.{rowOf, numberOf, pathNumber, pathEv};
+ghost use Rattle.sender.specs.World.{world, answered, routed};
+ghost use Rattle.sender.specs.Events.{onNewData, onSend, onAck, onNack, onLoss, onPath};
+
+// "Time is in ticks of 128 ns, below 2^48."
+pub const TIME_END: u64 = 1 << 48;
+
+// "EV space: exactly 256 lent times."
+pub const EVS: u32 = 256;
+
+// The largest NACK reason: 0 trimmed, 1 trimmed at the last hop, 2 other.
+pub const REASON_MOST: u32 = 2;
+
+// The state's name.
+pub enum Phase {
+    Idle,
+    Pending,
+    Ready,
+    Active,
+}
+
+// One congestion control context.
+pub struct Controller {
+    pub settings: Settings,
+    pub flow: Flow,
+    pub totals: Totals,
+    pub window: Window,
+    pub clock: u64,
+    pub cursor: u32,
+    pub phase: Phase,
+}
+
+// A row of document 01's table; `Numbers.numberOf` gives each its number.
+pub enum Refusal {
+    Setting,
+    Unsound,
+    Time,
+    Field,
+    Backlog,
+    WindowFull,
+    RingFull,
+    WrongPsn,
+    UnsentOrOld,
+    NotFlying,
+    Sinks,
+}
+
+pub enum Outcome {
+    Accepted,
+    Refused(Refusal),
+}
+
+// What an event answers: the whole state, and whether it was accepted.
+pub struct Answer {
+    pub state: Controller,
+    pub outcome: Outcome,
+}
+
+// What a path choice answers: the EV, or the refusal.
+pub enum Route {
+    Chosen(u32),
+    Refused(Refusal),
+}
+
+pub struct Routed {
+    pub state: Controller,
+    pub route: Route,
+}
+
+// Events, with fields wide enough for what firmware hands in wrongly.
+pub struct Send {
+    pub psn: u32,
+    pub size: u32,
+    pub resend: bool,
+}
+
+pub struct Ack {
+    pub cum: u32,
+    pub map: u64,
+    pub trigger: u32,
+    pub count: u32,
+    pub service: u32,
+    pub ev: u32,
+    pub marked: bool,
+    pub retx: bool,
+}
+
+pub struct Nack {
+    pub psn: u32,
+    pub ev: u32,
+    pub reason: u32,
+    pub marked: bool,
+    pub retx: bool,
+}
+
+pub struct Loss {
+    pub psn: u32,
+    pub ev: u32,
+}
+
+// The refusal of a number.
+fn refusal_of(number: u32) -> Refusal
+    requires { ⌜ (0 < number) × (number ≤ 11) ⌝ }
+    ensures { λ r. ⌜ rowOf r ≡ number ⌝ }
+{
+    match number {
+        1 => Refusal::Setting,
+        2 => Refusal::Unsound,
+        3 => Refusal::Time,
+        4 => Refusal::Field,
+        5 => Refusal::Backlog,
+        6 => Refusal::WindowFull,
+        7 => Refusal::RingFull,
+        8 => Refusal::WrongPsn,
+        9 => Refusal::UnsentOrOld,
+        10 => Refusal::NotFlying,
+        _ => Refusal::Sinks,
+    }
+}
+
+// The state as it was given, refused with a number.
+fn refused(state: Controller, number: u32) -> Answer
+    requires { ⌜ (0 < number) × (number ≤ 11) ⌝ }
+    ensures { λ r. ⌜ (r .state ≡ state) × (numberOf (r .outcome) ≡ number) ⌝ }
+{
+    Answer {
+        state,
+        outcome: Outcome::Refused(refusal_of(number)),
+    }
+}
+
+// A state that was accepted.
+fn accepted(state: Controller) -> Answer
+    ensures { λ r. ⌜ (r .state ≡ state) × (numberOf (r .outcome) ≡ 0) ⌝ }
+{
+    Answer {
+        state,
+        outcome: Outcome::Accepted,
+    }
+}
+
+impl Controller {
+    // New data in the backlog. The ring and the EV times are only read, to test number 2.
+    pub fn new_data<'a>(
+        self,
+        status: &'a [u8],
+        size: &'a [u32],
+        sent: &'a [u64],
+        resent: &'a [u8],
+        evs: &'a [u64],
+        time: u64,
+        bytes: u64,
+    ) -> Answer
+        ensures { λ r. ⌜ answered (numberOf (r .outcome)) (r .state) (ring (now (status .entry)) (now (size .entry)) (now (sent .entry)) (now (resent .entry))) (now (evs .entry)) ≡ onNewData time bytes (world self (ring (now (status .entry)) (now (size .entry)) (now (sent .entry)) (now (resent .entry))) (now (evs .entry))) ⌝ }
+    {
+        if !is_sound(self, status, size, sent, resent, evs) {
+            return refused(self, judge::UNSOUND);
+        }
+        let number = judge::judge_new_data(self, time, bytes);
+        if number != 0 {
+            return refused(self, number);
+        }
+        accepted(steps::new_data(self, time, bytes))
+    }
+
+    // A new packet or a resend.
+    pub fn send<'a, 'b, 'c, 'd, 'e>(
+        self,
+        status: &'a mut [u8],
+        size: &'b mut [u32],
+        sent: &'c mut [u64],
+        resent: &'d mut [u8],
+        evs: &'e [u64],
+        time: u64,
+        a: Send,
+    ) -> Answer
+        ensures { λ r. ⌜ answered (numberOf (r .outcome)) (r .state) (ring (now (status .exit)) (now (size .exit)) (now (sent .exit)) (now (resent .exit))) (now (evs .entry)) ≡ onSend time a (world self (ring (now (status .entry)) (now (size .entry)) (now (sent .entry)) (now (resent .entry))) (now (evs .entry))) ⌝ }
+    {
+        if !is_sound(self, status, size, sent, resent, evs) {
+            return refused(self, judge::UNSOUND);
+        }
+        let number = judge::judge_send(self, status, size, sent, resent, time, a);
+        if number != 0 {
+            return refused(self, number);
+        }
+        accepted(steps::send(self, status, size, sent, resent, evs, time, a))
+    }
+
+    // An ACK.
+    pub fn ack<'a, 'b, 'c, 'd, 'e>(
+        self,
+        status: &'a mut [u8],
+        size: &'b mut [u32],
+        sent: &'c mut [u64],
+        resent: &'d mut [u8],
+        evs: &'e mut [u64],
+        time: u64,
+        a: Ack,
+    ) -> Answer
+        ensures { λ r. ⌜ answered (numberOf (r .outcome)) (r .state) (ring (now (status .exit)) (now (size .exit)) (now (sent .exit)) (now (resent .exit))) (now (evs .exit)) ≡ onAck time a (world self (ring (now (status .entry)) (now (size .entry)) (now (sent .entry)) (now (resent .entry))) (now (evs .entry))) ⌝ }
+    {
+        if !is_sound(self, status, size, sent, resent, evs) {
+            return refused(self, judge::UNSOUND);
+        }
+        let number = judge::judge_ack(self, time, a);
+        if number != 0 {
+            return refused(self, number);
+        }
+        accepted(steps::ack(self, status, size, sent, resent, evs, time, a))
+    }
+
+    // A NACK.
+    pub fn nack<'a, 'b, 'c>(
+        self,
+        status: &'a mut [u8],
+        size: &'b [u32],
+        sent: &'b [u64],
+        resent: &'b [u8],
+        evs: &'c mut [u64],
+        time: u64,
+        a: Nack,
+    ) -> Answer
+        ensures { λ r. ⌜ answered (numberOf (r .outcome)) (r .state) (ring (now (status .exit)) (now (size .entry)) (now (sent .entry)) (now (resent .entry))) (now (evs .exit)) ≡ onNack time a (world self (ring (now (status .entry)) (now (size .entry)) (now (sent .entry)) (now (resent .entry))) (now (evs .entry))) ⌝ }
+    {
+        if !is_sound(self, status, size, sent, resent, evs) {
+            return refused(self, judge::UNSOUND);
+        }
+        let number = judge::judge_nack(self, status, size, sent, resent, time, a);
+        if number != 0 {
+            return refused(self, number);
+        }
+        accepted(steps::nack(self, status, size, sent, resent, evs, time, a))
+    }
+
+    // A loss.
+    pub fn loss<'a, 'b, 'c>(
+        self,
+        status: &'a mut [u8],
+        size: &'b [u32],
+        sent: &'b [u64],
+        resent: &'b [u8],
+        evs: &'c mut [u64],
+        time: u64,
+        a: Loss,
+    ) -> Answer
+        ensures { λ r. ⌜ answered (numberOf (r .outcome)) (r .state) (ring (now (status .exit)) (now (size .entry)) (now (sent .entry)) (now (resent .entry))) (now (evs .exit)) ≡ onLoss time a (world self (ring (now (status .entry)) (now (size .entry)) (now (sent .entry)) (now (resent .entry))) (now (evs .entry))) ⌝ }
+    {
+        if !is_sound(self, status, size, sent, resent, evs) {
+            return refused(self, judge::UNSOUND);
+        }
+        let number = judge::judge_loss(self, status, size, sent, resent, time, a);
+        if number != 0 {
+            return refused(self, number);
+        }
+        accepted(steps::loss(self, status, size, sent, resent, evs, time, a))
+    }
+
+    // The next path. The ring and the EV times are only read.
+    pub fn path<'a>(
+        self,
+        status: &'a [u8],
+        size: &'a [u32],
+        sent: &'a [u64],
+        resent: &'a [u8],
+        evs: &'a [u64],
+        time: u64,
+    ) -> Routed
+        ensures { λ r. ⌜ routed (pathNumber (r .route)) (pathEv (r .route)) (r .state) (ring (now (status .entry)) (now (size .entry)) (now (sent .entry)) (now (resent .entry))) (now (evs .entry)) ≡ onPath time (world self (ring (now (status .entry)) (now (size .entry)) (now (sent .entry)) (now (resent .entry))) (now (evs .entry))) ⌝ }
+    {
+        if !is_sound(self, status, size, sent, resent, evs) {
+            return Routed {
+                state: self,
+                route: Route::Refused(Refusal::Unsound),
+            };
+        }
+        if judge::judge_path(self, time) != 0 {
+            return Routed {
+                state: self,
+                route: Route::Refused(Refusal::Time),
+            };
+        }
+        let stepped = steps::path(self, evs, time);
+        let state = stepped.state;
+        Routed {
+            state,
+            route: Route::Chosen(stepped.ev),
+        }
+    }
+}

@@ -1,0 +1,76 @@
+// The state's name.
+use crate::Controller;
+use crate::Phase;
+use ledger::Flow;
+use ledger::Totals;
+use window::Settings;
+use window::Window;
+ghost use mathlib.Core.Path.{_≡_};
+ghost use Prim.Native.Nat.{_≤_, _^_};
+ghost use Rattle.ledger.specs.Bounds.{Flown};
+ghost use Rattle.sender.specs.Named.{hasRoom, phaseOf, phaseNumber};
+ghost use Rattle.sender.specs.Steps.{stateOf};
+
+// Whether in-flight + MTU is at most cwnd.
+pub(crate) fn has_room(mtu: u64, cwnd: u64, in_flight: i64) -> bool
+    requires { ⌜ Flown (2 ^ 26) «in_flight» ⌝ }
+    requires { ⌜ (mtu ≤ 2 ^ 14) × (cwnd ≤ 2 ^ 26) ⌝ }
+    ensures { λ r. ⌜ r ≡ hasRoom mtu cwnd «in_flight» ⌝ }
+{
+    in_flight + mtu as i64 <= cwnd as i64
+}
+
+// The name that the rule gives.
+pub(crate) fn phase_of(mtu: u64, cwnd: u64, flow: Flow, totals: Totals) -> Phase
+    requires { ⌜ Flown (2 ^ 26) (totals .«in_flight») ⌝ }
+    requires { ⌜ (mtu ≤ 2 ^ 14) × (cwnd ≤ 2 ^ 26) ⌝ }
+    ensures { λ r. ⌜ r ≡ phaseOf mtu cwnd flow totals ⌝ }
+{
+    if (flow.backlog == 0) & (totals.marked == 0) {
+        if totals.flying == 0 {
+            return Phase::Idle;
+        }
+        return Phase::Pending;
+    }
+    if has_room(mtu, cwnd, totals.in_flight) {
+        return Phase::Ready;
+    }
+    Phase::Active
+}
+
+// A name as a number, to compare it by.
+pub(crate) fn phase_number(phase: Phase) -> u32
+    ensures { λ r. ⌜ r ≡ phaseNumber phase ⌝ }
+{
+    match phase {
+        Phase::Idle => 0,
+        Phase::Pending => 1,
+        Phase::Ready => 2,
+        Phase::Active => 3,
+    }
+}
+
+// The state at a time, named.
+pub(crate) fn state_of(
+    settings: Settings,
+    flow: Flow,
+    totals: Totals,
+    window: Window,
+    time: u64,
+    cursor: u32,
+) -> Controller
+    requires { ⌜ Flown (2 ^ 26) (totals .«in_flight») ⌝ }
+    requires { ⌜ (settings .mtu ≤ 2 ^ 14) × (window .cwnd ≤ 2 ^ 26) ⌝ }
+    ensures { λ r. ⌜ r ≡ stateOf settings flow totals window time cursor ⌝ }
+{
+    let phase = phase_of(settings.mtu, window.cwnd, flow, totals);
+    Controller {
+        settings,
+        flow,
+        totals,
+        window,
+        clock: time,
+        cursor,
+        phase,
+    }
+}

@@ -1,0 +1,64 @@
+// Refusal 2 in full: whether state and buffers hold together.
+use crate::Controller;
+use crate::naming::phase_number;
+use crate::naming::phase_of;
+use ledger::Books;
+ghost use mathlib.Core.Path.{_≡_};
+ghost use Rattle.ledger.specs.Ring.{ring};
+ghost use Rattle.sender.specs.World.{world};
+ghost use Rattle.sender.specs.Sound.{timesOk, sound};
+
+// Whether no EV time is 2^49 or more.
+fn times_ok(evs: &[u64]) -> bool
+    ensures { λ r. ⌜ r ≡ timesOk (now (evs .entry)) ⌝ }
+{
+    let mut k = 0;
+    while k < evs.len() {
+        if window::LATER_END <= evs[k] {
+            return false;
+        }
+        k += 1;
+    }
+    true
+}
+
+// Whether state and buffers hold together.
+pub fn is_sound<'a>(
+    c: Controller,
+    status: &'a [u8],
+    size: &'a [u32],
+    sent: &'a [u64],
+    resent: &'a [u8],
+    evs: &'a [u64],
+) -> bool
+    ensures { λ r. ⌜ r ≡ sound (world c (ring (now (status .entry)) (now (size .entry)) (now (sent .entry)) (now (resent .entry))) (now (evs .entry))) ⌝ }
+{
+    let settings = c.settings;
+    let window = c.window;
+    let flow = c.flow;
+    let totals = c.totals;
+    let phase = c.phase;
+    if !window::bounds::in_range(settings) {
+        return false;
+    }
+    if !window::bounds::is_held(settings, c.clock, window) {
+        return false;
+    }
+    if !ledger::whole::is_coherent(
+        Books { flow, totals },
+        status,
+        size,
+        sent,
+        resent,
+        settings.mtu,
+        settings.maxwnd,
+        c.clock,
+    ) {
+        return false;
+    }
+    (c.clock < crate::TIME_END)
+        & (evs.len() == crate::EVS as usize)
+        & times_ok(evs)
+        & (c.cursor < crate::EVS)
+        & (phase_number(phase) == phase_number(phase_of(settings.mtu, window.cwnd, flow, totals)))
+}

@@ -1,0 +1,127 @@
+// Setting up.
+use crate::Answer;
+use crate::Controller;
+use crate::Outcome;
+use crate::Phase;
+use crate::Refusal;
+use ledger::Flow;
+use ledger::Totals;
+use window::Settings;
+ghost use mathlib.Core.Path.{_≡_};
+ghost use Rattle.ledger.specs.Ring.{ring};
+ghost use Rattle.sender.specs.Numbers.{numberOf};
+ghost use Rattle.sender.specs.World.{answered};
+ghost use Rattle.sender.specs.Start.{noSettings, freshState, zeros, onSetUp};
+
+// Zeros over a lent slice, at each width.
+fn clear_8(xs: &mut [u8])
+    ensures { λ _. ⌜ now (xs .exit) ≡ zeros (now (xs .entry)) ⌝ }
+{
+    let mut k = 0;
+    while k < xs.len() {
+        xs[k] = 0;
+        k += 1;
+    }
+}
+
+fn clear_32(xs: &mut [u32])
+    ensures { λ _. ⌜ now (xs .exit) ≡ zeros (now (xs .entry)) ⌝ }
+{
+    let mut k = 0;
+    while k < xs.len() {
+        xs[k] = 0;
+        k += 1;
+    }
+}
+
+fn clear_64(xs: &mut [u64])
+    ensures { λ _. ⌜ now (xs .exit) ≡ zeros (now (xs .entry)) ⌝ }
+{
+    let mut k = 0;
+    while k < xs.len() {
+        xs[k] = 0;
+        k += 1;
+    }
+}
+
+// Settings of zeros.
+fn no_settings() -> Settings
+    ensures { λ r. ⌜ r ≡ noSettings ⌝ }
+{
+    Settings {
+        mtu: 0,
+        maxwnd: 0,
+        config_base_rtt: 0,
+        target_qdelay: 0,
+        fi: 0,
+        eta: 0,
+        alpha: 0,
+        gamma: 0,
+        max_md_jump: 0,
+        adjust_period: 0,
+        adjust_bytes: 0,
+        qa_threshold: 0,
+        first_psn: 0,
+        quick_adapt_off: false,
+    }
+}
+
+// The fresh state.
+pub fn fresh(settings: Settings) -> Controller
+    ensures { λ r. ⌜ r ≡ freshState settings ⌝ }
+{
+    let psn = settings.first_psn;
+    Controller {
+        settings,
+        flow: Flow {
+            low: psn,
+            next: psn,
+            held: 0,
+            backlog: 0,
+        },
+        totals: Totals {
+            flying: 0,
+            marked: 0,
+            marked_bytes: 0,
+            in_flight: 0,
+        },
+        window: window::bounds::fresh(settings),
+        clock: 0,
+        cursor: 0,
+        phase: Phase::Idle,
+    }
+}
+
+// Setting up: 1, then 2 on lengths only; else the fresh state, with the ring and the EV times cleared.
+pub fn set_up<'a, 'b, 'c, 'd, 'e>(
+    settings: Settings,
+    status: &'a mut [u8],
+    size: &'b mut [u32],
+    sent: &'c mut [u64],
+    resent: &'d mut [u8],
+    evs: &'e mut [u64],
+) -> Answer
+    ensures { λ r. ⌜ answered (numberOf (r .outcome)) (r .state) (ring (now (status .exit)) (now (size .exit)) (now (sent .exit)) (now (resent .exit))) (now (evs .exit)) ≡ onSetUp settings (ring (now (status .entry)) (now (size .entry)) (now (sent .entry)) (now (resent .entry))) (now (evs .entry)) ⌝ }
+{
+    if !window::bounds::in_range(settings) {
+        return Answer {
+            state: fresh(no_settings()),
+            outcome: Outcome::Refused(Refusal::Setting),
+        };
+    }
+    if !(ledger::whole::is_ring(status, size, sent, resent) & (evs.len() == crate::EVS as usize)) {
+        return Answer {
+            state: fresh(no_settings()),
+            outcome: Outcome::Refused(Refusal::Unsound),
+        };
+    }
+    clear_8(status);
+    clear_32(size);
+    clear_64(sent);
+    clear_8(resent);
+    clear_64(evs);
+    Answer {
+        state: fresh(settings),
+        outcome: Outcome::Accepted,
+    }
+}

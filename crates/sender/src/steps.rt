@@ -1,0 +1,216 @@
+// What each accepted event does. Inner steps: the caller proves that state and buffers hold together and that no row refuses the event.
+// Each keeps them together (proofs/Kept), so a replay tests number 2 once and goes on with these.
+use crate::Ack;
+use crate::Controller;
+use crate::Loss;
+use crate::Nack;
+use crate::Send;
+use crate::naming::state_of;
+use ledger::Books;
+use ledger::Packet;
+use window::Sample;
+ghost use mathlib.Core.Path.{_≡_};
+ghost use mathlib.Core.Bool.{true};
+ghost use Prim.Native.Nat.{_<_, _≤_, _^_};
+ghost use lib.ListN.{length};
+ghost use Rattle.decide.specs.Rows.{firstOf};
+ghost use Rattle.window.specs.Delays.{sampleOf};
+ghost use Rattle.ledger.specs.Packets.{isOut};
+ghost use Rattle.ledger.specs.Ring.{ring};
+ghost use Rattle.sender.specs.World.{world};
+ghost use Rattle.sender.specs.Sound.{sound};
+ghost use Rattle.sender.specs.Rows.{newDataRows, sendAllRows, ackAllRows, nackAllRows, lossAllRows};
+ghost use Rattle.paths.specs.Path.{choice};
+ghost use Rattle.sender.specs.Limits.{evCount};
+ghost use Rattle.sender.specs.Bounds.{Bounded};
+ghost use Rattle.sender.specs.Steps.{avoidedIn, newDataState, sendStep, ackStep, nackStep, lossStep, pathState};
+
+// A path choice: the state, and the EV.
+pub struct Stepped {
+    pub state: Controller,
+    pub ev: u32,
+}
+
+// The sample of a packet as it stands.
+fn sampled(x: Packet, retx: bool, time: u64, service: u64) -> Sample
+    ensures { λ r. ⌜ r ≡ sampleOf (isOut x) (x .resent) retx time (x .sent) service ⌝ }
+{
+    let outstanding = (x.status == ledger::FLYING) | (x.status == ledger::MARKED);
+    window::delay::sample(outstanding, x.resent as u64, retx, time, x.sent, service)
+}
+
+// Where feedback says so, an EV is avoided until now and the base.
+fn avoid(on: bool, ev: u32, time: u64, base: u64, evs: &mut [u64])
+    requires { ⌜ (ev < length (now evs)) × (time < 2 ^ 48) × (base ≤ 2 ^ 14) ⌝ }
+    ensures { λ _. ⌜ now (evs .exit) ≡ avoidedIn on ev time base (now (evs .entry)) ⌝ }
+{
+    if on {
+        paths::avoid_until(evs, ev as usize, time + base);
+    }
+}
+
+// New data.
+pub fn new_data(c: Controller, time: u64, bytes: u64) -> Controller
+    requires { ⌜ Bounded c ⌝ }
+    requires { ⌜ firstOf (newDataRows time bytes c) ≡ 0 ⌝ }
+    ensures { λ r. ⌜ r ≡ newDataState time bytes c ⌝ }
+{
+    let settings = c.settings;
+    let totals = c.totals;
+    let window = c.window;
+    let flow = ledger::send::supply(bytes, c.flow);
+    state_of(settings, flow, totals, window, time, c.cursor)
+}
+
+// A new packet or a resend.
+pub fn send<'a, 'b, 'c, 'd, 'e>(
+    c: Controller,
+    status: &'a mut [u8],
+    size: &'b mut [u32],
+    sent: &'c mut [u64],
+    resent: &'d mut [u8],
+    evs: &'e [u64],
+    time: u64,
+    a: Send,
+) -> Controller
+    requires { ⌜ sound (world c (ring (now status) (now size) (now sent) (now resent)) (now evs)) ≡ true ⌝ }
+    requires { ⌜ firstOf (sendAllRows time a c (ring (now status) (now size) (now sent) (now resent))) ≡ 0 ⌝ }
+    ensures { λ r. ⌜ world r (ring (now (status .exit)) (now (size .exit)) (now (sent .exit)) (now (resent .exit))) (now (evs .entry)) ≡ sendStep time a (world c (ring (now (status .entry)) (now (size .entry)) (now (sent .entry)) (now (resent .entry))) (now (evs .entry))) ⌝ }
+{
+    let settings = c.settings;
+    let window = c.window;
+    let flow = c.flow;
+    let totals = c.totals;
+    let books = Books { flow, totals };
+    if a.resend {
+        let after = ledger::send::resend(time, a.psn, books, status, size, sent, resent);
+        return state_of(settings, after.flow, after.totals, window, time, c.cursor);
+    }
+    let after = ledger::send::push(time, a.size, books, status, size, sent, resent);
+    state_of(settings, after.flow, after.totals, window, time, c.cursor)
+}
+
+// An ACK: the sample is read before the ledger's step, and the window's rules come after it.
+pub fn ack<'a, 'b, 'c, 'd, 'e>(
+    c: Controller,
+    status: &'a mut [u8],
+    size: &'b mut [u32],
+    sent: &'c mut [u64],
+    resent: &'d mut [u8],
+    evs: &'e mut [u64],
+    time: u64,
+    a: Ack,
+) -> Controller
+    requires { ⌜ sound (world c (ring (now status) (now size) (now sent) (now resent)) (now evs)) ≡ true ⌝ }
+    requires { ⌜ firstOf (ackAllRows time a c) ≡ 0 ⌝ }
+    ensures { λ r. ⌜ world r (ring (now (status .exit)) (now (size .exit)) (now (sent .exit)) (now (resent .exit))) (now (evs .exit)) ≡ ackStep time a (world c (ring (now (status .entry)) (now (size .entry)) (now (sent .entry)) (now (resent .entry))) (now (evs .entry))) ⌝ }
+{
+    let settings = c.settings;
+    let flow = c.flow;
+    let totals = c.totals;
+    let window = c.window;
+    let base = window.base;
+    let newly = ledger::judge::newly(a.count, flow.held);
+    let x = ledger::slots::find(flow, status, size, sent, resent, a.trigger);
+    let sample = sampled(x, a.retx, time, a.service as u64);
+    let after = ledger::deliver::ack(
+        a.cum,
+        a.map,
+        a.count,
+        Books { flow, totals },
+        status,
+        size,
+        sent,
+        resent,
+    );
+    let f = after.flow;
+    let t = after.totals;
+    let w = window::events::ack(settings, time, newly, a.marked, sample, t.in_flight, window);
+    avoid(a.marked, a.ev, time, base, evs);
+    state_of(settings, f, t, w, time, c.cursor)
+}
+
+// A NACK.
+pub fn nack<'a, 'b, 'c>(
+    c: Controller,
+    status: &'a mut [u8],
+    size: &'b [u32],
+    sent: &'b [u64],
+    resent: &'b [u8],
+    evs: &'c mut [u64],
+    time: u64,
+    a: Nack,
+) -> Controller
+    requires { ⌜ sound (world c (ring (now status) (now size) (now sent) (now resent)) (now evs)) ≡ true ⌝ }
+    requires { ⌜ firstOf (nackAllRows time a c (ring (now status) (now size) (now sent) (now resent))) ≡ 0 ⌝ }
+    ensures { λ r. ⌜ world r (ring (now (status .exit)) (now (size .entry)) (now (sent .entry)) (now (resent .entry))) (now (evs .exit)) ≡ nackStep time a (world c (ring (now (status .entry)) (now (size .entry)) (now (sent .entry)) (now (resent .entry))) (now (evs .entry))) ⌝ }
+{
+    let settings = c.settings;
+    let flow = c.flow;
+    let totals = c.totals;
+    let window = c.window;
+    let base = window.base;
+    let x = ledger::slots::find(flow, status, size, sent, resent, a.psn);
+    let sample = sampled(x, a.retx, time, 0);
+    let after = ledger::mark::mark(a.psn, Books { flow, totals }, status, size, sent, resent);
+    let f = after.flow;
+    let t = after.totals;
+    let w = window::events::nack(
+        settings,
+        time,
+        x.size as u64,
+        a.reason as u64,
+        sample,
+        t.in_flight,
+        window,
+    );
+    avoid(a.marked | (a.reason == 0), a.ev, time, base, evs);
+    state_of(settings, f, t, w, time, c.cursor)
+}
+
+// A loss.
+pub fn loss<'a, 'b, 'c>(
+    c: Controller,
+    status: &'a mut [u8],
+    size: &'b [u32],
+    sent: &'b [u64],
+    resent: &'b [u8],
+    evs: &'c mut [u64],
+    time: u64,
+    a: Loss,
+) -> Controller
+    requires { ⌜ sound (world c (ring (now status) (now size) (now sent) (now resent)) (now evs)) ≡ true ⌝ }
+    requires { ⌜ firstOf (lossAllRows time a c (ring (now status) (now size) (now sent) (now resent))) ≡ 0 ⌝ }
+    ensures { λ r. ⌜ world r (ring (now (status .exit)) (now (size .entry)) (now (sent .entry)) (now (resent .entry))) (now (evs .exit)) ≡ lossStep time a (world c (ring (now (status .entry)) (now (size .entry)) (now (sent .entry)) (now (resent .entry))) (now (evs .entry))) ⌝ }
+{
+    let settings = c.settings;
+    let flow = c.flow;
+    let totals = c.totals;
+    let window = c.window;
+    let base = window.base;
+    let x = ledger::slots::find(flow, status, size, sent, resent, a.psn);
+    let after = ledger::mark::mark(a.psn, Books { flow, totals }, status, size, sent, resent);
+    let f = after.flow;
+    let t = after.totals;
+    let w = window::events::loss(settings, time, x.size as u64, t.in_flight, window);
+    avoid(true, a.ev, time, base, evs);
+    state_of(settings, f, t, w, time, c.cursor)
+}
+
+// The next path.
+pub fn path(c: Controller, evs: &[u64], time: u64) -> Stepped
+    requires { ⌜ Bounded c ⌝ }
+    requires { ⌜ (length (now evs) ≡ evCount) × (c .cursor < evCount) ⌝ }
+    ensures { λ r. ⌜ (r .state ≡ pathState time (choice time (c .cursor) (now (evs .entry)) .cursor) c) × (r .ev ≡ choice time (c .cursor) (now (evs .entry)) .ev) ⌝ }
+{
+    let settings = c.settings;
+    let flow = c.flow;
+    let totals = c.totals;
+    let window = c.window;
+    let taken = paths::choose(evs, c.cursor as usize, time);
+    let state = state_of(settings, flow, totals, window, time, taken.cursor as u32);
+    Stepped {
+        state,
+        ev: taken.ev as u32,
+    }
+}
