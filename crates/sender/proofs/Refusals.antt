@@ -4,8 +4,8 @@
 -- Assumes nothing.
 use mathlib.Core.Path.{_≡_, refl, sym, ap, ap₂, _∙_}
 use mathlib.Core.Bool.{Bool, true, false, not, cond, _||_}
-use mathlib.Core.List.{List, [], _∷_, _++_, append-nil}
-use Prim.Native.Nat.{ℕ, _≤_, _<_}
+use mathlib.Core.List.{List, [], _∷_, append-nil}
+use Prim.Native.Nat.{ℕ}
 use lib.Dec.{eqb}
 use borrow.Author.Tests.{le-ltb, lt-leb, eq-eqb}
 use Rattle.decide.specs.Branch.{ifSo, eq-yes, so-yes}
@@ -14,14 +14,13 @@ use Rattle.decide.specs.Rows.{Row, firstOf, first-later}
 use Rattle.window.specs.declared.Settings.{Settings}
 use Rattle.ledger.specs.Packets.{isMarked}
 use Rattle.ledger.specs.Bounds.{sizeLeast}
-use Rattle.ledger.specs.Ring.{Ring, capOf, longOf, packetOf}
+use Rattle.ledger.specs.Ring.{Ring, capOf, packetOf}
 use Rattle.ledger.specs.Rows.{sendRows}
 use Rattle.ledger.proofs.Judging.{new-0, resend-0}
+use Rattle.sender.specs.Statements.{silent, First, Exact, Permitted, PermittedNew, PermittedResend}
 use Rattle.sender.specs.Limits.{timeEnd}
 use Rattle.sender.specs.World.{World, world, Answered, answered, Routing, routed}
-use Rattle.sender.specs.Named.{hasRoom}
 use Rattle.sender.specs.Bounds.{roomAfter}
-use Rattle.sender.specs.Sound.{sound}
 use Rattle.sender.specs.Numbers.{rowOf, numberOf, pathNumber, pathEv}
 use Rattle.sender.specs.Rows.{withSound, newDataRows, sendAllRows, ackAllRows, nackAllRows, lossAllRows, pathRows, setUpRows}
 use Rattle.sender.specs.Steps.{sendStep}
@@ -38,7 +37,7 @@ use Rattle.sender.specs.declared.Outcome.{Outcome}
 use Rattle.sender.specs.declared.Outcome.the-variants as outcome
 use Rattle.sender.specs.declared.Route.{Route}
 use Rattle.sender.specs.declared.Route.the-variants as route
-use Rattle.sender.proofs.Rowing.{silent, numbered, none-silent, first-past, send-numbered, send-all-numbered, rows-new, rows-resend, room-row, answer, taken, untaken, answer-number, answer-other, decided-yes}
+use Rattle.sender.proofs.Rowing.{numbered, none-silent, first-past, send-numbered, send-all-numbered, rows-new, rows-resend, room-row, answer, taken, untaken, answer-number, answer-other, decided-yes}
 
 -- ---- "the state as given .., and lent memory untouched"
 
@@ -91,23 +90,6 @@ set-up-same g r times h =
     ap (λ (x : Answered). x .after) (answer-other (λ (x : Answered). x .number) n (cleared g r times) (blank n r times) refl h)
 
 -- ---- "Of several that apply, the first in the order below is given."
-
--- a row of this number has a test that holds, and no test before it does
-pub record First (n : ℕ) (rows : List Row) : Type 0 where
-  pub before : List Row
-  pub here : Row
-  pub after : List Row
-  pub order : rows ≡ before ++ (here ∷ after)
-  pub number-is : here .number ≡ n
-  pub applies : here .test ≡ true
-  pub none-before : silent before ≡ true
-
--- the number that is given, told by the rows and by nothing else
-pub record Exact (rows : List Row) (number : ℕ) : Type 0 where
-  pub refused : (n : ℕ) → (n ≡ 0 → ⊥) → number ≡ n → First n rows
-  pub first : (n : ℕ) → First n rows → number ≡ n
-  pub accepted : number ≡ 0 → silent rows ≡ true
-  pub none : silent rows ≡ true → number ≡ 0
 
 -- the first row that applies
 found : (rows : List Row) (n : ℕ) → (n ≡ 0 → ⊥) → firstOf rows ≡ n → First n rows
@@ -187,38 +169,6 @@ set-up-exact g r times =
     (rows-exact 11 (setUpRows g r times) refl)
 
 -- ---- a permitted send is accepted
-
--- a send for which 01 names no refusal, but for the packet itself
-pub record Permitted (time : ℕ) (a : Send) (w : World) : Type 0 where
-  -- not 2: state and buffers hold together
-  pub holds-together : sound w ≡ true
-  -- not 3: "time before the held clock, or 2^48 or more"
-  pub not-before : w .state .clock ≤ time
-  pub in-time : time < timeEnd
-  -- not 4: "size outside 41..MTU on a send"
-  pub size-least : 41 ≤ a .size
-  pub size-most : a .size ≤ w .state .settings .mtu
-  -- not 6: "in-flight + MTU > cwnd on a send"
-  pub room : hasRoom (w .state .settings .mtu) (w .state .window .cwnd) (w .state .totals .«in_flight») ≡ true
-
--- a new packet
-pub record PermittedNew (time : ℕ) (a : Send) (w : World) : Type 0 where
-  pub is-new : a .resend ≡ false
-  pub permitted : Permitted time a w
-  -- not 8: "new packet's PSN is not next"
-  pub psn-next : a .psn ≡ w .state .flow .next
-  -- not 5: "new packet larger than backlog"
-  pub in-backlog : a .size ≤ w .state .flow .backlog
-  -- not 7: "next - low = capacity on a new packet"
-  pub slot-free : longOf (w .state .flow) ≡ capOf (w .slots) → ⊥
-
--- a resend
-pub record PermittedResend (time : ℕ) (a : Send) (w : World) : Type 0 where
-  pub is-resend : a .resend ≡ true
-  pub permitted : Permitted time a w
-  -- not 8: "a resend's PSN is not marked, or its size differs from the record"
-  pub psn-marked : isMarked (packetOf (w .state .flow) (w .slots) (a .psn)) ≡ true
-  pub same-size : a .size ≡ packetOf (w .state .flow) (w .slots) (a .psn) .size
 
 -- no row applies to a permitted send
 permitted-none : (time : ℕ) (a : Send) (w : World) → Permitted time a w → firstOf (sendRows (w .state .flow) (w .slots) (a .psn) (a .size) (a .resend)) ≡ 0

@@ -14,6 +14,7 @@ use Rattle.decide.specs.Rows.{Row, row, firstOf, first-here, first-later}
 use Rattle.ledger.specs.Ring.{Ring, capOf}
 use Rattle.ledger.specs.Rows.{sendRows, newRows, resendRows}
 use Rattle.ledger.specs.declared.Flow.{Flow}
+use Rattle.sender.specs.Statements.{silent}
 use Rattle.sender.specs.Limits.{timeEnd}
 use Rattle.sender.specs.World.{World, world, Answered, answered, Routing}
 use Rattle.sender.specs.Named.{hasRoom}
@@ -26,11 +27,6 @@ use Rattle.sender.specs.declared.Controller.{Controller}
 use Rattle.sender.specs.declared.Send.{Send}
 
 -- ---- any rows
-
--- no row's test holds
-unfoldable pub silent : List Row → Bool
-silent [] = true
-silent (x ∷ xs) = not (x .test) && silent xs
 
 -- every row's number is one of 1 .. most
 unfoldable pub numbered : ℕ → List Row → Bool

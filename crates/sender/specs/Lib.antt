@@ -9,3 +9,4 @@ pub mod Rows
 pub mod Steps
 pub mod Start
 pub mod Events
+pub mod Statements
