@@ -1,0 +1,126 @@
+-- `delivers`: of any list of ACKs, a packet outstanding at the start counts as delivered exactly if an accepted one covered it. Read off the
+-- ledger that the list leaves (`deliver-settles`): a PSN that low has passed lies outside low..next-1, any other is packet k - gone of those left.
+-- Assumes nothing.
+use mathlib.Core.Path.{_≡_, refl, sym, ap, _∙_}
+use mathlib.Core.Logic.{by-cases}
+use mathlib.Core.Bool.{Bool, true, false, true≢false}
+use mathlib.Core.List.{List, [], _∷_}
+use Prim.Native.Nat.{ℕ, zero, suc, _+_, _-_, _/_, _≤_, _<_}
+use native.Mathlib.Nat.{le-of-suc-le-suc, not-suc-le-zero}
+use native.Mathlib.Omega.{arith}
+use native.Mathlib.Decide.{decLe}
+use lib.IntN.{ℤ}
+use lib.ListN.{getD}
+use lib.Seq.{getD-drop}
+use borrow.Author.Tests.{eq-eqb}
+use Rattle.decide.specs.Branch.{lt-yes, lt-no, eq-both}
+use Rattle.serial.specs.Wrap.{minus}
+use Rattle.serial.specs.Psn.{psns, plus}
+use Rattle.serial.proofs.Wraps.{minus-is}
+use Rattle.serial.proofs.Cover.{plus-lt, plus-plus, minus-plus}
+use Rattle.ledger.specs.Packets.{doneStatus, none, isOut, isDone, coverOne, coverAll, doneRun}
+use Rattle.ledger.specs.Ring.{Ledger, longOf, packets, offsetOf, packetOf}
+use Rattle.ledger.specs.declared.Packet.{Packet}
+use Rattle.ledger.proofs.Facts.{Facts, packets-long}
+use Rattle.ledger.proofs.Queues.{cover-no, cover-out, cover-at, done-in, now-done, goneOf, leftOf}
+use Rattle.sender.specs.World.{ledgerOf}
+use Rattle.demands.specs.Burst.{deliver, psnOf, isDelivered, wasCovered}
+use Rattle.demands.specs.Demands.{Delivers}
+use Rattle.demands.proofs.Sounded.{Holds, holds-facts}
+use Rattle.demands.proofs.Ledgers.{settledBy, left-long, settled-long, settled-packets, heldIn, inFlightIn, deliver-settles}
+
+-- every packet of the run at the front is done
+run-done : (ys : List Packet) (k : ℕ) → k < doneRun ys → isDone (getD ys k none) ≡ true
+unfolding doneRun isDone
+run-done [] k h = absurd (not-suc-le-zero h)
+run-done (y ∷ ys) k h =
+    eq-both (λ (n : ℕ). k < n → isDone (getD (y ∷ ys) k none) ≡ true) (y .status) doneStatus (suc (doneRun ys)) 0
+    (λ e. go e k (run-done ys)) (λ n l. absurd (not-suc-le-zero l)) h
+  where
+    go : y .status ≡ doneStatus → (k : ℕ) → ((j : ℕ) → j < doneRun ys → isDone (getD ys j none) ≡ true) → k < suc (doneRun ys)
+        → isDone (getD (y ∷ ys) k none) ≡ true
+    go e zero ih l = eq-eqb (y .status) doneStatus e
+    go e (suc j) ih l = ih j (le-of-suc-le-suc l)
+
+-- a packet that is out is done by what covers it, and by nothing else
+cover-done : (b : Bool) (x : Packet) → isOut x ≡ true → isDone (coverOne b x) ≡ b
+cover-done true x o = rw (cover-out x o) (now-done x)
+cover-done false x o = rw (cover-no x) (go (isDone x) refl)
+  where
+    go : (b : Bool) → isDone x ≡ b → b ≡ false
+    go true e = absurd (true≢false (sym o ∙ done-in x e))
+    go false e = refl
+
+-- a PSN that low has passed by i lies almost a whole turn ahead of it
+passed : (p i : ℕ) → p < psns → 0 < i → i < psns → minus psns p (plus p i) + i ≡ psns
+unfolding plus
+passed p i hp hi hl = let e = minus-is psns (psns - i) p (plus p i) ((p + i) / psns) 1 (omega arith) (omega arith) in omega arith
+
+module _ (mtu clock : ℕ) (l : Ledger) (F : Facts mtu clock (l .flow) (l .slots)) (fits : l .flow .low < psns)
+    (c : ℕ → Bool) (held : ℕ) (z : ℤ) (k : ℕ) (within : k < longOf (l .flow)) where
+  abbrev low : ℕ
+  low = l .flow .low
+
+  abbrev xs : List Packet
+  xs = packets (l .flow) (l .slots)
+
+  abbrev ys : List Packet
+  ys = coverAll c low xs
+
+  abbrev gone : ℕ
+  gone = goneOf c low xs
+
+  abbrev m : Ledger
+  m = settledBy c held z l
+
+  -- how many packets are left, and of how few
+  long : longOf (m .flow) + gone ≡ longOf (l .flow)
+  long = omega (arith, settled-long mtu clock l F fits c held z, left-long mtu clock l F fits c held z)
+
+  few : longOf (l .flow) ≤ 4096
+  few = omega (arith, F .fits, F .even .few)
+
+  -- where the packet stands now
+  offset : offsetOf (m .flow) (plus low k) ≡ minus psns (plus low k) (plus low gone)
+  unfolding settledBy offsetOf
+  offset = refl
+
+  here : gone ≤ k → offsetOf (m .flow) (plus low k) ≡ k - gone
+  here h =
+      let e : plus (plus low gone) (k - gone) ≡ plus low k = plus-plus low gone (k - gone) ∙ ap (plus low) (omega arith) in
+      offset ∙ (rw e at (minus-plus (plus low gone) (k - gone) (omega (arith, few))))
+
+  past : k < gone → offsetOf (m .flow) (plus low k) + (gone - k) ≡ psns
+  past h =
+      let e : plus (plus low k) (gone - k) ≡ plus low gone = plus-plus low k (gone - k) ∙ ap (plus low) (omega arith) in
+      ap (λ (n : ℕ). n + (gone - k)) offset ∙ (rw e at (passed (plus low k) (gone - k) (plus-lt low k) (omega arith) (omega (arith, long, few))))
+
+  pub settled-delivers : isDelivered m (plus low k) ≡ isDone (getD ys k none)
+  unfolding isDelivered packetOf
+  settled-delivers =
+      by-cases (decLe gone k)
+      (λ h.
+      let o = here h in
+      let e : gone + (k - gone) ≡ k = omega arith in
+      let p : isDone (getD ys k none) ≡ isDone (packetOf (m .flow) (m .slots) (plus low k)) =
+      ap isDone (sym (
+      ap (λ (qs : List Packet). getD qs (offsetOf (m .flow) (plus low k)) none) (settled-packets mtu clock l F fits c held z)
+      ∙ ap (λ (j : ℕ). getD (leftOf c low xs) j none) o
+      ∙ getD-drop gone ys (k - gone) none
+      ∙ ap (λ (j : ℕ). getD ys j none) e)) in
+      sym (lt-yes _ _ (isDone (getD ys k none)) _ true (omega (arith, long)) p))
+      (λ h.
+      let q = past (omega arith) in
+      sym (lt-no _ _ (isDone (getD ys k none)) _ true (omega (arith, long, few)) (run-done ys k (omega arith))))
+
+pub delivers : Delivers
+delivers w ds s hl hn k o =
+    let H : Holds w = record { sound-so = s; low-fits = hl; next-fits = hn } in
+    let F = holds-facts H in
+    let c = wasCovered w ds in
+    let f = w .state .flow in
+    let xs = packets f (w .slots) in
+    ap (λ (l : Ledger). isDelivered l (psnOf w k)) (deliver-settles ds w H)
+    ∙ settled-delivers (w .state .settings .mtu) (w .state .clock) (ledgerOf w) F hl c (heldIn (deliver w ds)) (inFlightIn (deliver w ds)) k (o .within)
+    ∙ ap isDone (cover-at c (f .low) k xs hl (omega (arith, packets-long f (w .slots), o .within)))
+    ∙ cover-done (c (psnOf w k)) (getD xs k none) (o .out)

@@ -1,0 +1,298 @@
+-- A burst that satisfies every premise of `burst`, so that the theorem is not empty, and two that break one premise each and whose ledgers differ, so
+-- that these premises are needed. By computation, on document 01's P8 (low 4,294,967,294, next 2, cum 0) and P4 (held 16,777,214, count 3): PSNs
+-- and counts wrap.
+-- Assumes nothing.
+use mathlib.Core.Path.{_≡_, refl, sym, ap, _∙_, subst}
+use mathlib.Core.Logic.{_⊎_, inl, inr, ⊎-elim}
+use mathlib.Core.Bool.{true, false, false≢true}
+use mathlib.Core.List.{List, [], _∷_, List·Memᴰ, List·Memᴰ·head, List·Memᴰ·tail, List·Memᴰ·not-nil, List·Memᴰ·cases-cons}
+use Prim.Native.Nat.{ℕ, zero, suc, _<_}
+use native.Mathlib.Omega.{arith}
+use lib.Count.{leadingZeros}
+use lib.IntN.{pos}
+use lib.ListN.{replicate}
+use Rattle.decide.specs.Branch.{ifSo, ifLt, ifEq}
+use Rattle.decide.specs.Test.{inside}
+use Rattle.serial.specs.Wrap.{minus}
+use Rattle.serial.specs.Psn.{psns, plus, bitOf, covered, backOf, spanOf, unsentOrOld}
+use Rattle.serial.specs.Count.{counts, half, aheadOf, isOld, forwardOf}
+use Rattle.window.specs.Range.{inRange}
+use Rattle.window.specs.Held.{isHeld, freshOf}
+use Rattle.window.specs.Limits.{ceilingOf}
+use Rattle.ledger.specs.Packets.{isFlying, isMarked, isDone, isOut, flyingOne, markedOne, markedSize, sumOf, coverOne, coverAll, doneRun}
+use Rattle.ledger.specs.Bounds.{inBounds, sinks}
+use Rattle.ledger.specs.Ring.{Ledger, packetAt, tabulate, placeOf, ageOf, lay, laid, queueOf, longOf, packets}
+use Rattle.ledger.specs.Coherent.{allTo, isCapacity, isRing, isLive, isZero, slotOk, headOk, stands, tallies, coherent}
+use Rattle.ledger.specs.Steps.{heldOf, newlyOf, ackedOf}
+use Rattle.ledger.specs.declared.Packet.{Packet}
+use Rattle.sender.specs.World.{World, world, Answered, ledgerOf}
+use Rattle.sender.specs.Named.{hasRoom, phaseOf, phaseNumber}
+use Rattle.sender.specs.Sound.{timesOk, namedOk, sound}
+use Rattle.sender.specs.Steps.{stateOf, ackStep}
+use Rattle.sender.specs.Events.{onAck}
+use Rattle.sender.specs.declared.Ack.{Ack}
+use Rattle.demands.specs.Events.{ack}
+use Rattle.demands.specs.Burst.{Arrival, deliver, Timely, Outstanding, psnOf, coversPsn, Of, Arrives}
+use Rattle.demands.specs.Cases.{settingsE}
+use Rattle.demands.proofs.Runs.{step-ledger, step-clock}
+use Rattle.demands.proofs.Sounded.{Holds, step-holds}
+use Rattle.demands.proofs.Ledgers.{Fine, fine-accepted, fine-rows}
+use Rattle.demands.proofs.Bursts.{burst}
+
+-- ---- the start: settings E, 64 slots, four packets, of which the second was lost
+
+abbrev sentAt : ℕ → ℕ → Packet
+sentAt time status = record { status = status; size = 4096; sent = time; resent = 0 }
+
+unfoldable pub start : World
+start =
+    world
+    (stateOf settingsE
+    (record { low = 4294967294; next = 2; held = 16777214; backlog = 8192 })
+    (record { flying = 3; marked = 1; «marked_bytes» = 4096; «in_flight» = pos 12288 })
+    (freshOf settingsE) 100 0)
+    (laid 64 4294967294 (sentAt 10 1 ∷ sentAt 20 2 ∷ sentAt 30 1 ∷ sentAt 40 1 ∷ []))
+    (replicate 256 0)
+
+start-sound : sound start ≡ true
+unfolding start settingsE sound inRange inside isHeld ceilingOf freshOf coherent stands isRing isCapacity longOf minus allTo slotOk ifLt ifSo ifEq isLive isZero headOk tallies sumOf flyingOne markedOne markedSize inBounds packets queueOf tabulate packetAt placeOf plus ageOf lay laid isDone timesOk namedOk phaseOf phaseNumber hasRoom stateOf
+start-sound = refl
+
+start-holds : Holds start
+unfolding start stateOf
+start-holds = record { sound-so = start-sound; low-fits = omega arith; next-fits = omega arith }
+
+-- ---- ACKs
+
+abbrev ackOf : ℕ → ℕ → ℕ → Ack
+ackOf cum map count = record { cum = cum; map = map; trigger = cum; count = count; service = 4; ev = 0; marked = false; retx = false }
+
+abbrev at : ℕ → Ack → Arrival
+at time a = record { time = time; ack = a }
+
+-- the newest: P8's cum and P4's count
+abbrev pub newest : Ack
+newest = ackOf 0 0 3
+
+-- two older ones: of the packets 0 and 2, and of the packets 0 and 1
+abbrev early : Ack
+early = ackOf 4294967294 2 16777215
+
+abbrev late : Ack
+late = ackOf 4294967295 0 1
+
+-- one whose count is ahead of the newest's
+abbrev pub ahead : Ack
+ahead = ackOf 4294967295 0 4
+
+-- one that covers the packet 3, which the newest does not
+abbrev pub farther : Ack
+farther = ackOf 1 0 2
+
+-- ---- the premises of `burst`
+
+-- "every other count less than 2^23 units behind it and none ahead"
+abbrev pub Behind : World → Ack → List Ack → Type 0
+Behind w n others = (a : Ack) → List·Memᴰ a others → minus counts (n .count) (a .count) < half
+
+-- "each outstanding packet that another covers covered by it too"
+abbrev pub CoversToo : World → Ack → List Ack → Type 0
+CoversToo w n others =
+    (a : Ack) → List·Memᴰ a others → (k : ℕ) → Outstanding w k → coversPsn a (psnOf w k) ≡ true → coversPsn n (psnOf w k) ≡ true
+
+-- nothing asked
+abbrev pub Nothing : World → Ack → List Ack → Type 0
+Nothing w n others = Unit {0}
+
+-- all of them; those on the other ACKs, their counts and what they cover, are what is given
+pub record Premises (OnCounts OnCovers : World → Ack → List Ack → Type 0) (w : World) (time : ℕ) (n : Ack) (others : List Ack) (ds : List Arrival)
+    : Type 0 where
+  pub sound-so : sound w ≡ true
+  pub low-fits : w .state .flow .low < psns
+  pub next-fits : w .state .flow .next < psns
+  pub accepted : onAck time n w .number ≡ 0
+  pub not-behind : minus counts (n .count) (w .state .flow .held) < half
+  pub on-counts : OnCounts w n others
+  pub on-covers : OnCovers w n others
+  pub of : Of n others ds
+  pub arrives : Arrives n ds
+  pub timely : Timely (w .state .clock) ds
+
+-- "The ledger then equals the one that the newest alone leaves."
+abbrev pub Same : World → ℕ → Ack → List Arrival → Type 0
+Same w time n ds = ledgerOf (deliver w ds) ≡ ledgerOf (onAck time n w .after)
+
+-- With both this is `burst`. So where all the others hold and the ledgers differ, the one that is not asked fails.
+pub premises-same : (w : World) (time : ℕ) (n : Ack) (others : List Ack) (ds : List Arrival) → Premises Behind CoversToo w time n others ds
+    → Same w time n ds
+premises-same w time n others ds P =
+    burst w time n others ds (P .sound-so) (P .low-fits) (P .next-fits)
+    (record { accepted = P .accepted; not-behind = P .not-behind; others-behind = P .on-counts; covers-too = P .on-covers })
+    (P .of) (P .arrives) (P .timely)
+
+-- ---- what holds of each member of a list
+
+module _ {A : Type 0} (P : A → Type 0) where
+  each-none : (a : A) → List·Memᴰ a [] → P a
+  each-none a m = absurd (List·Memᴰ·not-nil m)
+
+  each : (x : A) (xs : List A) → P x → ((a : A) → List·Memᴰ a xs → P a) → (a : A) → List·Memᴰ a (x ∷ xs) → P a
+  each x xs p f a m = ⊎-elim (λ e. rw e p) (f a) (List·Memᴰ·cases-cons m)
+
+-- ---- the newest, at the start
+
+newest-fine : Fine 110 newest (start .state .clock) (ledgerOf start)
+unfolding start stateOf covered bitOf minus plus unsentOrOld backOf spanOf sinks newlyOf forwardOf aheadOf ifLt leadingZeros
+newest-fine = record { later = omega arith; early = omega arith; fields = refl; sent = refl; afloat = refl }
+
+newest-accepted : onAck 110 newest start ≡ record { number = 0; after = ackStep 110 newest start }
+newest-accepted = fine-accepted 110 newest start newest-fine start-holds
+
+newest-near : minus counts (newest .count) (start .state .flow .held) < half
+unfolding start stateOf minus
+newest-near = omega arith
+
+-- what the three bursts below share
+module _ (OnCounts OnCovers : World → Ack → List Ack → Type 0) (others : List Ack) (ds : List Arrival) where
+  premises : OnCounts start newest others → OnCovers start newest others → Of newest others ds → Arrives newest ds
+      → Timely 100 ds → Premises OnCounts OnCovers start 110 newest others ds
+  unfolding start stateOf
+  premises counts-so covers-so o ar tm =
+      record {
+        sound-so = start-sound;
+        low-fits = start-holds .low-fits;
+        next-fits = start-holds .next-fits;
+        accepted = ap (λ (x : Answered). x .number) newest-accepted;
+        not-behind = newest-near;
+        on-counts = counts-so;
+        on-covers = covers-so;
+        of = o;
+        arrives = ar;
+        timely = tm;
+      }
+
+-- an ACK that does not cover the packet 3 covers nothing that the newest does not
+covers-less : (a : Ack) → coversPsn a (psnOf start 3) ≡ false → (k : ℕ) → Outstanding start k → coversPsn a (psnOf start k) ≡ true
+    → coversPsn newest (psnOf start k) ≡ true
+unfolding start stateOf covered minus plus bitOf longOf
+covers-less a h zero o e = refl
+covers-less a h (suc zero) o e = refl
+covers-less a h (suc (suc zero)) o e = refl
+covers-less a h (suc (suc (suc zero))) o e = absurd (false≢true (sym h ∙ e))
+covers-less a h (suc (suc (suc (suc k)))) o e = absurd (let z : ⊥ = omega (arith, o .within) in z)
+
+-- the two older ones and the one whose count is ahead do not cover it
+not-three : (coversPsn early (psnOf start 3) ≡ false) × ((count : ℕ) → coversPsn (ackOf 4294967295 0 count) (psnOf start 3) ≡ false)
+unfolding start stateOf covered minus plus bitOf
+not-three = (refl, λ count. refl)
+
+-- ---- a burst with every premise: in another order, the newest not last, one of the others doubled
+
+abbrev pub others : List Ack
+others = early ∷ late ∷ []
+
+abbrev pub arrivals : List Arrival
+arrivals = at 110 late ∷ at 120 newest ∷ at 120 early ∷ at 130 late ∷ []
+
+-- what is asked of each arrival and of each other
+abbrev Member : List Ack → Arrival → Type 0
+Member xs d = (d .ack ≡ newest) ⊎ List·Memᴰ (d .ack) xs
+
+abbrev Near : Ack → Type 0
+Near a = minus counts (newest .count) (a .count) < half
+
+abbrev Less : Ack → Type 0
+Less a = (k : ℕ) → Outstanding start k → coversPsn a (psnOf start k) ≡ true → coversPsn newest (psnOf start k) ≡ true
+
+pub premises-hold : Premises Behind CoversToo start 110 newest others arrivals
+unfolding minus
+premises-hold =
+    premises Behind CoversToo others arrivals
+    (each Near _ _ (omega arith) (each Near _ _ (omega arith) (each-none Near)))
+    (each Less _ _ (covers-less early (not-three .0)) (each Less _ _ (covers-less late (not-three .1 1)) (each-none Less)))
+    (each (Member others) _ _ (inr (List·Memᴰ·tail (List·Memᴰ·head refl)))
+    (each (Member others) _ _ (inl refl)
+    (each (Member others) _ _ (inr (List·Memᴰ·head refl))
+    (each (Member others) _ _ (inr (List·Memᴰ·tail (List·Memᴰ·head refl))) (each-none (Member others))))))
+    (at 120 newest, List·Memᴰ·tail (List·Memᴰ·head refl), refl)
+    (omega arith, omega arith, (omega arith, omega arith, (omega arith, omega arith, (omega arith, omega arith, tt))))
+
+-- its ledger is the one that the newest alone leaves
+pub same-here : Same start 110 newest arrivals
+same-here = premises-same start 110 newest others arrivals premises-hold
+
+-- ---- the newest, and after it one other, a
+
+abbrev pub newestThen : Ack → List Arrival
+newestThen a = at 110 newest ∷ at 120 a ∷ []
+
+-- every premise but what is asked of a
+then-premises : (a : Ack) (OnCounts OnCovers : World → Ack → List Ack → Type 0) → OnCounts start newest (a ∷ [])
+    → OnCovers start newest (a ∷ []) → Premises OnCounts OnCovers start 110 newest (a ∷ []) (newestThen a)
+then-premises a OnCounts OnCovers counts-so covers-so =
+    premises OnCounts OnCovers (a ∷ []) (newestThen a)
+    counts-so covers-so
+    (each (Member (a ∷ [])) _ _ (inl refl) (each (Member (a ∷ [])) _ _ (inr (List·Memᴰ·head refl)) (each-none (Member (a ∷ [])))))
+    (at 110 newest, List·Memᴰ·head refl, refl)
+    (omega arith, omega arith, (omega arith, omega arith, tt))
+
+-- the ledger that the newest leaves
+unfoldable left : Ledger
+left = ackedOf 0 0 3 (ledgerOf start)
+
+left-is : ledgerOf (ackStep 110 newest start) ≡ left
+unfolding left
+left-is = step-ledger (ack 110 newest) start
+
+module _ (a : Ack) (f : Fine 120 a 110 left) where
+  abbrev w : World
+  w = ackStep 110 newest start
+
+  fine-here : Fine 120 a (w .state .clock) (ledgerOf w)
+  fine-here = subst (Fine 120 a (w .state .clock)) (sym left-is) (subst (λ (c : ℕ). Fine 120 a c left) (sym (step-clock (ack 110 newest) start)) f)
+
+  both-leave : ledgerOf (deliver start (newestThen a)) ≡ ackedOf (a .cum) (a .map) (a .count) left
+  both-leave =
+      ap (λ (x : Answered). ledgerOf (onAck 120 a (x .after) .after)) newest-accepted
+      ∙ ap (λ (x : Answered). ledgerOf (x .after))
+      (fine-accepted 120 a w fine-here (step-holds (ack 110 newest) start start-holds (fine-rows 110 newest start newest-fine)))
+      ∙ step-ledger (ack 120 a) w
+      ∙ ap (ackedOf (a .cum) (a .map) (a .count)) left-is
+
+  -- a number that the two ledgers have differently
+  differ : (number : Ledger → ℕ) (m n : ℕ) → number (ackedOf (a .cum) (a .map) (a .count) left) ≡ m → number left ≡ n → (m ≡ n → ⊥)
+      → Same start 110 newest (newestThen a) → ⊥
+  differ number m n e g ne s =
+      ne (sym e ∙ ap number (sym both-leave ∙ s ∙ ap (λ (x : Answered). ledgerOf (x .after)) newest-accepted ∙ left-is) ∙ g)
+
+-- both of the others below are accepted there
+then-fine : Fine 120 ahead 110 left × Fine 120 farther 110 left
+unfolding left ackedOf start stateOf covered bitOf minus plus unsentOrOld backOf spanOf sinks newlyOf forwardOf aheadOf isOld heldOf ifLt ifSo leadingZeros
+then-fine = (
+  record { later = omega arith; early = omega arith; fields = refl; sent = refl; afloat = refl },
+  record { later = omega arith; early = omega arith; fields = refl; sent = refl; afloat = refl },
+)
+
+-- the held count that `ahead` leaves, and the newest; low that `farther` leaves, and the newest
+then-numbers :
+    (ackedOf 4294967295 0 4 left .flow .held ≡ 4) × (left .flow .held ≡ 3) × (ackedOf 1 0 2 left .flow .low ≡ 2) × (left .flow .low ≡ 1)
+unfolding left ackedOf start stateOf covered bitOf minus plus aheadOf isOld heldOf longOf packets queueOf tabulate packetAt placeOf ageOf lay laid coverAll coverOne isOut isFlying isMarked doneRun ifSo ifEq
+then-numbers = (refl, refl, refl, refl)
+
+-- ---- `Behind` is needed: all premises hold but this, as the other's count is ahead of the newest's. It is held in the end, and not the newest's.
+
+pub counts-needed : Premises Nothing CoversToo start 110 newest (ahead ∷ []) (newestThen ahead) × (Same start 110 newest (newestThen ahead) → ⊥)
+counts-needed = (
+  then-premises ahead Nothing CoversToo tt
+      (each Less _ _ (covers-less ahead (not-three .1 4)) (each-none Less)),
+  differ ahead (then-fine .0) (λ l. l .flow .held) 4 3 (then-numbers .0) (then-numbers .1) (λ e. omega arith),
+)
+
+-- ---- `CoversToo` is needed: all premises hold but this, as the other covers a packet that the newest does not. Low moves past it too.
+
+pub covers-needed : Premises Behind Nothing start 110 newest (farther ∷ []) (newestThen farther) × (Same start 110 newest (newestThen farther) → ⊥)
+unfolding minus
+covers-needed = (
+  then-premises farther Behind Nothing (each Near _ _ (omega arith) (each-none Near)) tt,
+  differ farther (then-fine .1) (λ l. l .flow .low) 2 1 (then-numbers .2) (then-numbers .3) (λ e. omega arith),
+)

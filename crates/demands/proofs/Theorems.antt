@@ -1,0 +1,59 @@
+-- Every statement of specs/Demands with its proof, in the order of the statements.
+-- Assumes nothing.
+use mathlib.Core.Logic.{⊎-elim}
+use Rattle.sender.proofs.Refusals.{new-data-exact, send-exact, ack-exact, nack-exact, loss-exact, path-exact, set-up-exact, permitted-new, permitted-resend}
+use Rattle.demands.specs.Events.{newData, send, ack, nack, loss, path}
+use Rattle.demands.specs.Demands as demand
+use Rattle.demands.proofs.Runs as runs
+use Rattle.demands.proofs.Sounded as sounded
+use Rattle.demands.proofs.Histories as histories
+use Rattle.demands.proofs.Sampled as sampled
+use Rattle.demands.proofs.Bursts as bursts
+use Rattle.demands.proofs.Delivered as delivered
+
+pub number-exact : demand.NumberExact
+number-exact (newData time bytes) w = new-data-exact time w bytes
+number-exact (send time a) w = send-exact time w a
+number-exact (ack time a) w = ack-exact time w a
+number-exact (nack time a) w = nack-exact time w a
+number-exact (loss time a) w = loss-exact time w a
+number-exact (path time) w = path-exact time w
+
+pub set-up-number : demand.SetUpExact
+set-up-number = set-up-exact
+
+pub refused-same : demand.RefusedSame
+refused-same = runs.refused-same
+
+pub set-up-refused : demand.SetUpRefused
+set-up-refused = runs.set-up-refused
+
+pub permitted-send : demand.PermittedSend
+permitted-send time a w = ⊎-elim (permitted-new time a w) (permitted-resend time a w)
+
+pub always-sound : demand.AlwaysSound
+always-sound = sounded.always-sound
+
+pub history : demand.History
+history = histories.history
+
+pub ack-sampled : demand.AckSampled
+ack-sampled = sampled.ack-sampled
+
+pub nack-sampled : demand.NackSampled
+nack-sampled = sampled.nack-sampled
+
+pub ack-takes : demand.AckTakes
+ack-takes = sampled.ack-lowered
+
+pub nack-takes : demand.NackTakes
+nack-takes = sampled.nack-lowered
+
+pub base-stays : demand.BaseStays
+base-stays = sampled.base-stays
+
+pub burst : demand.Burst
+burst = bursts.burst
+
+pub delivers : demand.Delivers
+delivers = delivered.delivers

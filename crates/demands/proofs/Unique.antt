@@ -1,0 +1,87 @@
+-- "Prove that no two outcomes satisfy one promise": `unique`, for a promise of any type, and `calls-unique` and `path-unique`, for the sender's entry
+-- points. Every promise is one equation, "what is made from the outcome ≡ what 01 says", and what is made tells the outcome.
+-- Assumes nothing.
+use mathlib.Core.Path.{_≡_, refl, sym, ap₂, _∙_}
+use mathlib.Core.List.{List}
+use Prim.Native.Nat.{ℕ}
+use Rattle.window.specs.declared.Settings.{Settings}
+use Rattle.ledger.specs.Ring.{Ring}
+use Rattle.sender.specs.Numbers.{numberOf, pathNumber, pathEv}
+use Rattle.sender.specs.World.{World, Answered, answered, Routing, routed}
+use Rattle.sender.specs.Start.{onSetUp}
+use Rattle.sender.specs.Events.{onNewData, onSend, onAck, onNack, onLoss, onPath}
+use Rattle.sender.specs.declared.Outcome.{Outcome}
+use Rattle.sender.specs.declared.Route.{Route}
+use Rattle.sender.specs.declared.Answer.{Answer}
+use Rattle.sender.specs.declared.Routed.{Routed}
+use Rattle.sender.specs.declared.Send.{Send}
+use Rattle.sender.specs.declared.Ack.{Ack}
+use Rattle.sender.specs.declared.Nack.{Nack}
+use Rattle.sender.specs.declared.Loss.{Loss}
+use Rattle.sender.proofs.Refusals.{one-outcome, one-route}
+
+-- ---- of any promise
+
+-- what is made from an outcome tells the outcome
+abbrev pub Tells : {A B : Type 0} → (A → B) → Type 0
+Tells {A} made = (x y : A) → made x ≡ made y → x ≡ y
+
+-- then no two outcomes satisfy the promise `made outcome ≡ wanted`, whatever is wanted
+pub unique : {A B : Type 0} (made : A → B) → Tells made → (wanted : B) (x y : A) → made x ≡ wanted → made y ≡ wanted → x ≡ y
+unique made tells wanted x y e f = tells x y (e ∙ sym f)
+
+-- the plainest promise, `outcome ≡ wanted`
+pub unique-plain : {A : Type 0} (wanted x y : A) → x ≡ wanted → y ≡ wanted → x ≡ y
+unique-plain = unique (λ x. x) (λ x y e. e)
+
+-- ---- of the sender's entry points
+
+-- the whole outcome of a call: its answer, and the final contents of the ring and of the EV times
+pub record Outcomes (A : Type 0) : Type 0 where
+  pub answer : A
+  pub slots : Ring
+  pub times : List ℕ
+
+-- what the contracts make of it
+abbrev pub made : Outcomes Answer → Answered
+made x = answered (numberOf (x .answer .outcome)) (x .answer .state) (x .slots) (x .times)
+
+abbrev pub madeRoute : Outcomes Routed → Routing
+madeRoute x = routed (pathNumber (x .answer .route)) (pathEv (x .answer .route)) (x .answer .state) (x .slots) (x .times)
+
+-- a number is one outcome's, and the rest stands there itself
+made-tells : Tells made
+made-tells x y e =
+    let one = one-outcome (made y) (x .answer .outcome) (y .answer .outcome) (x .answer .state) (y .answer .state) (x .slots) (y .slots) (x .times) (y .times) e refl in
+    ap₂ (λ (o : Outcome) (w : World). record { answer = record { state = w .state; outcome = o }; slots = w .slots; times = w .times }) (one .0) (one .1)
+
+route-tells : Tells madeRoute
+route-tells x y e =
+    let one = one-route (madeRoute y) (x .answer .route) (y .answer .route) (x .answer .state) (y .answer .state) (x .slots) (y .slots) (x .times) (y .times) e refl in
+    ap₂ (λ (o : Route) (w : World). record { answer = record { state = w .state; route = o }; slots = w .slots; times = w .times }) (one .0) (one .1)
+
+-- a call of an entry point that answers state and outcome: what it was handed
+pub data Call : Type 0 where
+  setUp : Settings → Ring → List ℕ → Call
+  newData : World → ℕ → ℕ → Call
+  send : World → ℕ → Send → Call
+  ack : World → ℕ → Ack → Call
+  nack : World → ℕ → Nack → Call
+  loss : World → ℕ → Loss → Call
+
+-- what its contract wants
+abbrev pub wanted : Call → Answered
+wanted (setUp s r times) = onSetUp s r times
+wanted (newData w time bytes) = onNewData time bytes w
+wanted (send w time a) = onSend time a w
+wanted (ack w time a) = onAck time a w
+wanted (nack w time a) = onNack time a w
+wanted (loss w time a) = onLoss time a w
+
+-- no two outcomes of `set_up`, `new_data`, `send`, `ack`, `nack` or `loss` satisfy its contract ..
+pub calls-unique : (c : Call) (x y : Outcomes Answer) → made x ≡ wanted c → made y ≡ wanted c → x ≡ y
+calls-unique c = unique made made-tells (wanted c)
+
+-- .. and no two of `path`
+pub path-unique : (w : World) (time : ℕ) (x y : Outcomes Routed) → madeRoute x ≡ onPath time w → madeRoute y ≡ onPath time w → x ≡ y
+path-unique w time = unique madeRoute route-tells (onPath time w)

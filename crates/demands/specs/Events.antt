@@ -1,0 +1,67 @@
+-- Events as they come, and what a run of them leaves: the sender's own definitions, one event after another, accepted and refused alike.
+-- Assumes nothing.
+use mathlib.Core.Path.{_≡_}
+use mathlib.Core.List.{List, [], _∷_, List·Memᴰ}
+use Prim.Native.Nat.{ℕ, _^_, _<_}
+use Rattle.serial.specs.Psn.{psns}
+use Rattle.window.specs.declared.Settings.{Settings}
+use Rattle.ledger.specs.Ring.{Ring}
+use Rattle.sender.specs.World.{World, Answered}
+use Rattle.decide.specs.Rows.{Row}
+use Rattle.sender.specs.Rows.{withSound, newDataRows, sendAllRows, ackAllRows, nackAllRows, lossAllRows, pathRows}
+use Rattle.sender.specs.Start.{onSetUp}
+use Rattle.sender.specs.Events.{onNewData, onSend, onAck, onNack, onLoss, onPath}
+use Rattle.sender.specs.declared.Send.{Send}
+use Rattle.sender.specs.declared.Ack.{Ack}
+use Rattle.sender.specs.declared.Nack.{Nack}
+use Rattle.sender.specs.declared.Loss.{Loss}
+
+-- an event with its arrival time
+pub data Event : Type 0 where
+  newData : ℕ → ℕ → Event
+  send : ℕ → Send → Event
+  ack : ℕ → Ack → Event
+  nack : ℕ → Nack → Event
+  loss : ℕ → Loss → Event
+  path : ℕ → Event
+
+-- the rows that it is tested by, in document 01's order
+abbrev pub rowsOf : Event → World → List Row
+rowsOf (newData time bytes) w = withSound w (newDataRows time bytes (w .state))
+rowsOf (send time a) w = withSound w (sendAllRows time a (w .state) (w .slots))
+rowsOf (ack time a) w = withSound w (ackAllRows time a (w .state))
+rowsOf (nack time a) w = withSound w (nackAllRows time a (w .state) (w .slots))
+rowsOf (loss time a) w = withSound w (lossAllRows time a (w .state) (w .slots))
+rowsOf (path time) w = withSound w (pathRows time (w .state))
+
+-- what the sender answers
+abbrev pub answer : Event → World → Answered
+answer (newData time bytes) w = onNewData time bytes w
+answer (send time a) w = onSend time a w
+answer (ack time a) w = onAck time a w
+answer (nack time a) w = onNack time a w
+answer (loss time a) w = onLoss time a w
+answer (path time) w = record { number = onPath time w .number; after = onPath time w .after }
+
+-- the world after a list of events
+abbrev pub run : World → List Event → World
+run w [] = w
+run w (e ∷ es) = run (answer e w .after) es
+
+-- the numbers of an event fit the machine's words that carry them: PSNs of 32 bits, a map of 64
+abbrev pub Fits : Event → Type 0
+Fits (newData time bytes) = Unit {0}
+Fits (send time a) = a .psn < psns
+Fits (ack time a) = (a .cum < psns) × (a .trigger < psns) × (a .map < 2 ^ 64)
+Fits (nack time a) = a .psn < psns
+Fits (loss time a) = a .psn < psns
+Fits (path time) = Unit {0}
+
+abbrev pub AllFit : List Event → Type 0
+AllFit es = (e : Event) → List·Memᴰ e es → Fits e
+
+-- a world that an accepted setting up gives
+pub record SetUp (s : Settings) (r : Ring) (times : List ℕ) (w : World) : Type 0 where
+  pub first : s .«first_psn» < psns
+  pub accepted : onSetUp s r times .number ≡ 0
+  pub gives : w ≡ onSetUp s r times .after

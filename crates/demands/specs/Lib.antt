@@ -1,0 +1,7 @@
+-- The demands, stated. `Demands` has them sentence by sentence; the others define what it speaks of.
+pub mod Events
+pub mod Sums
+pub mod Burst
+pub mod Samples
+pub mod Demands
+pub mod Cases
