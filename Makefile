@@ -6,6 +6,8 @@ run:
 	@echo "The program that replays an event log does not exist yet: this repository holds proved library crates only."
 	@echo "To prove them, run: make test"
 
-# Proves every crate of crates.txt, tries every must-fail edit, runs every program. The last line is 'N passed, 0 failed' where all is well.
+# Runs the tests of the Rust model; then proves every crate of crates.txt, tries every must-fail edit and runs every program.
+# The last line is 'N passed, 0 failed' where all is well; anything red is red.
 test:
+	@cargo test --quiet --offline --locked --manifest-path rust/Cargo.toml
 	@rt ci

@@ -1,0 +1,35 @@
+//! `model-gen traffic|hostile|bulk SEED RECORDS`: writes a generated event log to standard output.
+
+use model::gen;
+use std::io::{self, Write};
+use std::process::ExitCode;
+
+const USAGE: &str = "usage: model-gen traffic|hostile|bulk SEED RECORDS";
+
+fn main() -> ExitCode {
+    let arguments: Vec<String> = std::env::args().skip(1).collect();
+    let written = generate(&arguments)
+        .ok_or_else(|| io::Error::other(USAGE))
+        .and_then(|log| io::stdout().write_all(&log));
+    match written {
+        Ok(()) => ExitCode::SUCCESS,
+        Err(error) => {
+            eprintln!("model-gen: {error}");
+            ExitCode::FAILURE
+        }
+    }
+}
+
+fn generate(arguments: &[String]) -> Option<Vec<u8>> {
+    let [kind, seed, records] = arguments else {
+        return None;
+    };
+    let seed = seed.parse().ok()?;
+    let records = records.parse().ok()?;
+    match kind.as_str() {
+        "traffic" => Some(gen::traffic(seed, records)),
+        "hostile" => Some(gen::hostile(seed, records)),
+        "bulk" => Some(gen::bulk(seed, records)),
+        _ => None,
+    }
+}

@@ -1,0 +1,375 @@
+//! Setting up and the events, each in two forms: one that tests number 2 in full, and one named
+//! `_trusted` for a replay that has tested it once. What number 2 says must hold for the latter;
+//! an accepted event preserves it.
+//!
+//! Within an event all refusals are tested, in the order of 01, before anything changes.
+
+use crate::bounds::{BACKLOG_MAX, COUNT_END, EVS, SIZE_MIN, TIME_END, UNIT};
+use crate::check::number_two;
+use crate::ledger::covers;
+use crate::lent::{Lent, FLYING, MARKED};
+use crate::refusal::{number, Refusal};
+use crate::settings::Settings;
+use crate::state::State;
+
+#[derive(Clone, Copy, Debug, PartialEq, Eq)]
+pub struct NewData {
+    pub time: u64,
+    pub bytes: u64,
+}
+
+#[derive(Clone, Copy, Debug, PartialEq, Eq)]
+pub struct Send {
+    pub time: u64,
+    pub size: u32,
+    pub psn: u32,
+    pub resend: bool,
+}
+
+#[derive(Clone, Copy, Debug, PartialEq, Eq)]
+pub struct Ack {
+    pub time: u64,
+    /// Covers every PSN up to and including this one.
+    pub cum: u32,
+    /// Bit i covers cum + 1 + i.
+    pub map: u64,
+    /// The packet that this ACK answers.
+    pub trigger: u32,
+    pub count: u32,
+    pub service: u32,
+    pub ev: u16,
+    /// The M flag.
+    pub marked: bool,
+    pub retx: bool,
+}
+
+#[derive(Clone, Copy, Debug, PartialEq, Eq)]
+pub struct Nack {
+    pub time: u64,
+    pub psn: u32,
+    pub ev: u16,
+    pub reason: u8,
+    /// The M flag.
+    pub marked: bool,
+    pub retx: bool,
+}
+
+/// NACK reason: trimmed before the last hop.
+pub const TRIMMED: u8 = 0;
+/// NACK reason: trimmed at the last hop.
+pub const TRIMMED_LAST_HOP: u8 = 1;
+/// NACK reason: any other.
+pub const OTHER: u8 = 2;
+
+#[derive(Clone, Copy, Debug, PartialEq, Eq)]
+pub struct Loss {
+    pub time: u64,
+    pub psn: u32,
+    pub ev: u16,
+}
+
+/// Any event, for those who take them from a log.
+#[derive(Clone, Copy, Debug, PartialEq, Eq)]
+pub enum Event {
+    NewData(NewData),
+    Send(Send),
+    Ack(Ack),
+    Nack(Nack),
+    Loss(Loss),
+    Path { time: u64 },
+}
+
+impl From<NewData> for Event {
+    fn from(event: NewData) -> Event {
+        Event::NewData(event)
+    }
+}
+
+impl From<Send> for Event {
+    fn from(event: Send) -> Event {
+        Event::Send(event)
+    }
+}
+
+impl From<Ack> for Event {
+    fn from(event: Ack) -> Event {
+        Event::Ack(event)
+    }
+}
+
+impl From<Nack> for Event {
+    fn from(event: Nack) -> Event {
+        Event::Nack(event)
+    }
+}
+
+impl From<Loss> for Event {
+    fn from(event: Loss) -> Event {
+        Event::Loss(event)
+    }
+}
+
+/// What an event answers: 0 or the refusal number, and the EV of an accepted path choice.
+#[derive(Clone, Copy, Debug, PartialEq, Eq)]
+pub struct Outcome {
+    pub number: u8,
+    pub ev: Option<u8>,
+}
+
+impl From<u8> for Outcome {
+    fn from(number: u8) -> Outcome {
+        Outcome { number, ev: None }
+    }
+}
+
+/// The calls from outside: number 2 is tested in full. Each returns 0 or the refusal number.
+impl State {
+    /// The answer with the fresh state, or with a state of zeros if refused.
+    pub fn set_up(settings: &Settings, lent: &mut Lent) -> (u8, State) {
+        if !settings.in_range() {
+            return (Refusal::Setting.number(), State::default());
+        }
+        if !lent.lengths_good() {
+            return (Refusal::NotTogether.number(), State::default());
+        }
+        lent.clear();
+        (0, State::fresh(*settings))
+    }
+
+    pub fn new_data(&mut self, lent: &Lent, event: &NewData) -> u8 {
+        number(self.together(lent).and_then(|()| self.try_new_data(event)))
+    }
+
+    pub fn send(&mut self, lent: &mut Lent, event: &Send) -> u8 {
+        number(
+            self.together(lent)
+                .and_then(|()| self.try_send(lent, event)),
+        )
+    }
+
+    pub fn ack(&mut self, lent: &mut Lent, event: &Ack) -> u8 {
+        number(self.together(lent).and_then(|()| self.try_ack(lent, event)))
+    }
+
+    pub fn nack(&mut self, lent: &mut Lent, event: &Nack) -> u8 {
+        number(
+            self.together(lent)
+                .and_then(|()| self.try_nack(lent, event)),
+        )
+    }
+
+    pub fn loss(&mut self, lent: &mut Lent, event: &Loss) -> u8 {
+        number(
+            self.together(lent)
+                .and_then(|()| self.try_loss(lent, event)),
+        )
+    }
+
+    pub fn path(&mut self, lent: &Lent, time: u64) -> Outcome {
+        path_outcome(self.together(lent).and_then(|()| self.try_path(lent, time)))
+    }
+
+    pub fn take(&mut self, lent: &mut Lent, event: &Event) -> Outcome {
+        match event {
+            Event::NewData(event) => self.new_data(lent, event).into(),
+            Event::Send(event) => self.send(lent, event).into(),
+            Event::Ack(event) => self.ack(lent, event).into(),
+            Event::Nack(event) => self.nack(lent, event).into(),
+            Event::Loss(event) => self.loss(lent, event).into(),
+            Event::Path { time } => self.path(lent, *time),
+        }
+    }
+}
+
+/// The same without number 2.
+impl State {
+    pub fn new_data_trusted(&mut self, event: &NewData) -> u8 {
+        number(self.try_new_data(event))
+    }
+
+    pub fn send_trusted(&mut self, lent: &mut Lent, event: &Send) -> u8 {
+        number(self.try_send(lent, event))
+    }
+
+    pub fn ack_trusted(&mut self, lent: &mut Lent, event: &Ack) -> u8 {
+        number(self.try_ack(lent, event))
+    }
+
+    pub fn nack_trusted(&mut self, lent: &mut Lent, event: &Nack) -> u8 {
+        number(self.try_nack(lent, event))
+    }
+
+    pub fn loss_trusted(&mut self, lent: &mut Lent, event: &Loss) -> u8 {
+        number(self.try_loss(lent, event))
+    }
+
+    pub fn path_trusted(&mut self, lent: &Lent, time: u64) -> Outcome {
+        path_outcome(self.try_path(lent, time))
+    }
+
+    pub fn take_trusted(&mut self, lent: &mut Lent, event: &Event) -> Outcome {
+        match event {
+            Event::NewData(event) => self.new_data_trusted(event).into(),
+            Event::Send(event) => self.send_trusted(lent, event).into(),
+            Event::Ack(event) => self.ack_trusted(lent, event).into(),
+            Event::Nack(event) => self.nack_trusted(lent, event).into(),
+            Event::Loss(event) => self.loss_trusted(lent, event).into(),
+            Event::Path { time } => self.path_trusted(lent, *time),
+        }
+    }
+}
+
+fn path_outcome(answer: Result<u8, Refusal>) -> Outcome {
+    match answer {
+        Ok(ev) => Outcome {
+            number: 0,
+            ev: Some(ev),
+        },
+        Err(refusal) => refusal.number().into(),
+    }
+}
+
+/// The events themselves.
+impl State {
+    fn try_new_data(&mut self, event: &NewData) -> Result<(), Refusal> {
+        self.time_allowed(event.time)?;
+        let fits = event.bytes <= BACKLOG_MAX - self.backlog;
+        Refusal::Field.unless(event.bytes > 0 && fits)?;
+
+        self.backlog += event.bytes;
+        self.finish(event.time);
+        Ok(())
+    }
+
+    fn try_send(&mut self, lent: &mut Lent, event: &Send) -> Result<(), Refusal> {
+        self.time_allowed(event.time)?;
+        let size = event.size;
+        Refusal::Field.unless(size >= SIZE_MIN && u64::from(size) <= self.settings.mtu)?;
+        if event.resend {
+            self.resend(lent, event)?;
+        } else {
+            self.send_new(lent, event)?;
+        }
+        self.finish(event.time);
+        Ok(())
+    }
+
+    fn send_new(&mut self, lent: &mut Lent, event: &Send) -> Result<(), Refusal> {
+        Refusal::WrongPacket.unless(event.psn == self.next)?;
+        Refusal::Backlog.unless(u64::from(event.size) <= self.backlog)?;
+        Refusal::RingFull.unless(self.outstanding() as usize != lent.capacity())?;
+        Refusal::Window.unless(self.window_open())?;
+
+        self.add_packet(lent, event.time, event.size);
+        Ok(())
+    }
+
+    fn resend(&mut self, lent: &mut Lent, event: &Send) -> Result<(), Refusal> {
+        let slot = self
+            .slot_with(lent, event.psn, MARKED)
+            .filter(|&slot| lent.size[slot] == event.size)
+            .ok_or(Refusal::WrongPacket)?;
+        Refusal::Window.unless(self.window_open())?;
+
+        self.fly_again(lent, event.time, slot);
+        Ok(())
+    }
+
+    fn try_ack(&mut self, lent: &mut Lent, event: &Ack) -> Result<(), Refusal> {
+        let now = event.time;
+        self.time_allowed(now)?;
+        ev_allowed(event.ev)?;
+        Refusal::Field.unless(event.count < COUNT_END)?;
+        Refusal::Field.unless(covers(event.cum, event.map, event.trigger))?;
+        Refusal::WrongAck.unless(self.names_sent(event.cum, event.map))?;
+        let forward = self.forward_units(event.count);
+        let falls_by = UNIT * u64::from(forward.unwrap_or(0));
+        Refusal::InFlight.unless(self.may_fall_by(falls_by))?;
+
+        let base_before = self.base;
+        let sample = self.sample(lent, now, event.trigger, event.service, event.retx);
+        self.deliver_covered(lent, event.cum, event.map);
+        let newly = match forward {
+            Some(units) => self.take_count(event.count, units),
+            None => 0,
+        };
+        self.window_on_ack(now, newly, sample, event.marked);
+        if event.marked {
+            lent.ev_times[usize::from(event.ev)] = now + base_before;
+        }
+        self.finish(now);
+        Ok(())
+    }
+
+    fn try_nack(&mut self, lent: &mut Lent, event: &Nack) -> Result<(), Refusal> {
+        let now = event.time;
+        self.time_allowed(now)?;
+        ev_allowed(event.ev)?;
+        Refusal::Field.unless(event.reason <= OTHER)?;
+        let slot = self.lost_slot(lent, event.psn)?;
+
+        let base_before = self.base;
+        let sample = self.sample(lent, now, event.psn, 0, event.retx);
+        let size = self.mark(lent, slot);
+        if let Some(sample) = sample {
+            self.lower_base(sample);
+        }
+        if event.reason != OTHER {
+            self.feed(self.settings.config_base_rtt);
+            self.window_on_loss(now, size);
+        }
+        if event.marked || event.reason == TRIMMED {
+            lent.ev_times[usize::from(event.ev)] = now + base_before;
+        }
+        self.finish(now);
+        Ok(())
+    }
+
+    fn try_loss(&mut self, lent: &mut Lent, event: &Loss) -> Result<(), Refusal> {
+        let now = event.time;
+        self.time_allowed(now)?;
+        ev_allowed(event.ev)?;
+        let slot = self.lost_slot(lent, event.psn)?;
+
+        let size = self.mark(lent, slot);
+        self.window_on_loss(now, size);
+        // A loss takes no sample: the base is still the one held before.
+        lent.ev_times[usize::from(event.ev)] = now + self.base;
+        self.finish(now);
+        Ok(())
+    }
+
+    fn try_path(&mut self, lent: &Lent, time: u64) -> Result<u8, Refusal> {
+        self.time_allowed(time)?;
+
+        let ev = self.take_path(lent, time);
+        self.finish(time);
+        Ok(ev)
+    }
+
+    fn together(&self, lent: &Lent) -> Result<(), Refusal> {
+        Refusal::NotTogether.unless(number_two(self, lent))
+    }
+
+    fn time_allowed(&self, time: u64) -> Result<(), Refusal> {
+        Refusal::Time.unless(self.clock <= time && time < TIME_END)
+    }
+
+    /// The slot of a flying packet that in-flight allows to be taken out as lost.
+    fn lost_slot(&self, lent: &Lent, psn: u32) -> Result<usize, Refusal> {
+        let slot = self
+            .slot_with(lent, psn, FLYING)
+            .ok_or(Refusal::NotFlying)?;
+        Refusal::InFlight.unless(self.may_fall_by(u64::from(lent.size[slot])))?;
+        Ok(slot)
+    }
+
+    fn finish(&mut self, now: u64) {
+        self.clock = now;
+        self.name = self.ruled_name();
+    }
+}
+
+fn ev_allowed(ev: u16) -> Result<(), Refusal> {
+    Refusal::Field.unless(usize::from(ev) < EVS)
+}

@@ -1,0 +1,299 @@
+//! Hostile logs: traffic among records with fields at and beyond their edges, and at the end a
+//! record that is malformed.
+
+use super::traffic::Sim;
+use super::{first_psn, settings_record, E};
+use crate::bounds::{BACKLOG_MAX, COUNT_END, IN_FLIGHT_MIN, PSN_REACH, TIME_END};
+use crate::log::{append, Record};
+use crate::replay::CAPACITY;
+use crate::rng::Rng;
+use crate::settings::Settings;
+
+pub fn hostile(seed: u64, records: usize) -> Vec<u8> {
+    let mut rng = Rng::new(!seed);
+    let settings = settings(&mut rng);
+    if rng.one_in(16) {
+        return bad_start(&mut rng, settings);
+    }
+    let start = if rng.one_in(4) {
+        TIME_END - 1 - rng.below(1 << 12)
+    } else {
+        rng.below(1 << 12)
+    };
+    let mut sim = Sim::new(rng, settings, start, records);
+    match sim.rng.below(16) {
+        0 => flood(&mut sim),
+        1 | 2 => fill(&mut sim),
+        _ => {}
+    }
+    let rate = sim.rng.between(1, 8);
+    while !sim.full() {
+        sim.now = sim.now.max(sim.state.clock).min(TIME_END - 1);
+        if sim.rng.one_in(rate) {
+            let record = spoilt(&mut sim);
+            sim.emit(record);
+        } else {
+            sim.step();
+        }
+    }
+    if sim.rng.one_in(2) {
+        let end = malformed(&mut sim);
+        sim.log.extend(end);
+    }
+    sim.log
+}
+
+/// Every number in its range, often at an edge of it.
+fn settings(rng: &mut Rng) -> Settings {
+    let mut numbers = E;
+    for i in 0..numbers.len() {
+        let range = Settings::ranges(numbers[0])[i].clone();
+        numbers[i] = match rng.below(6) {
+            0 => *range.start(),
+            1 => *range.end(),
+            2 => rng.between(*range.start(), *range.end()),
+            _ => numbers[i].max(*range.start()),
+        };
+    }
+    let quick_adapt_off = rng.one_in(4);
+    Settings::from_numbers(numbers, first_psn(rng), quick_adapt_off)
+}
+
+/// A log whose record 1 is refused, or that is empty.
+fn bad_start(rng: &mut Rng, settings: Settings) -> Vec<u8> {
+    let mut numbers = settings.numbers();
+    let i = rng.below(12) as usize;
+    let range = Settings::ranges(numbers[0])[i].clone();
+    numbers[i] = if rng.one_in(2) {
+        range.end() + 1
+    } else {
+        range.start().saturating_sub(1)
+    };
+    let record = match rng.below(3) {
+        0 => return Vec::new(),
+        1 => Record::Path { time: 0 },
+        _ => settings_record(&Settings::from_numbers(numbers, 0, false)),
+    };
+    [bytes_of(&record), bytes_of(&Record::Path { time: 1 })].concat()
+}
+
+/// New data until the backlog is near its bound.
+fn flood(sim: &mut Sim) {
+    let bytes = u64::from(u32::MAX);
+    while sim.state.backlog + bytes <= BACKLOG_MAX && !sim.full() {
+        let time = sim.now;
+        sim.emit(Record::NewData { time, bytes });
+    }
+}
+
+/// The smallest packets until the ring is full or the window closed.
+fn fill(sim: &mut Sim) {
+    let time = sim.now;
+    let bytes = 100 * CAPACITY as u64;
+    sim.emit(Record::NewData { time, bytes });
+    let mut answer = 0;
+    while answer == 0 && !sim.full() {
+        let psn = sim.state.next;
+        let send = Record::Send {
+            time,
+            size: 41,
+            psn,
+            resend: 0,
+        };
+        answer = sim.emit(send).number;
+    }
+}
+
+/// A record of any kind with fields that mean something to the present state, or nearly.
+fn spoilt(sim: &mut Sim) -> Record {
+    let time = edge_time(sim);
+    match sim.rng.below(12) {
+        0 => Record::NewData {
+            time,
+            bytes: edge_bytes(sim),
+        },
+        1..=3 => edge_send(sim, time),
+        4..=8 => edge_ack(sim, time),
+        9 => Record::Nack {
+            time,
+            psn: edge_psn(sim),
+            ev: edge_ev(sim),
+            reason: sim.rng.pick(&[0, 0, 1, 1, 2, 2, 3, 255]),
+            flags: sim.rng.below(4) as u8,
+        },
+        10 => Record::Loss {
+            time,
+            psn: edge_psn(sim),
+            ev: edge_ev(sim),
+        },
+        _ => Record::Path { time },
+    }
+}
+
+fn edge_time(sim: &mut Sim) -> u64 {
+    let clock = sim.state.clock;
+    match sim.rng.below(40) {
+        0 => clock.wrapping_sub(1),
+        1 => clock,
+        2 => TIME_END,
+        3 => u64::MAX,
+        4 => 0,
+        5 => clock + (1 << 20),
+        6 if sim.rng.one_in(100) => TIME_END - 1,
+        _ => sim.now,
+    }
+}
+
+fn edge_bytes(sim: &mut Sim) -> u64 {
+    let widest = u64::from(u32::MAX);
+    let left = BACKLOG_MAX - sim.state.backlog;
+    let bytes = [0, 1, 41, widest, left, left + 1];
+    sim.rng.pick(&bytes).min(widest)
+}
+
+fn edge_psn(sim: &mut Sim) -> u32 {
+    let (low, next) = (sim.state.low, sim.state.next);
+    let inside = low.wrapping_add(sim.rng.below(CAPACITY as u64) as u32);
+    sim.rng.pick(&[
+        low.wrapping_sub(1),
+        low,
+        next.wrapping_sub(1),
+        next,
+        next.wrapping_add(1),
+        low.wrapping_add(CAPACITY as u32),
+        next.wrapping_sub(1 + PSN_REACH),
+        next.wrapping_sub(2 + PSN_REACH),
+        inside,
+        inside,
+        inside,
+    ])
+}
+
+fn edge_ev(sim: &mut Sim) -> u16 {
+    let any = sim.rng.below(256) as u16;
+    sim.rng.pick(&[0, 255, 256, u16::MAX, any, any, any, any])
+}
+
+fn edge_send(sim: &mut Sim, time: u64) -> Record {
+    let mtu = sim.state.settings.mtu as u32;
+    let any = sim.rng.between(41, u64::from(mtu)) as u32;
+    let over_backlog = (sim.state.backlog as u32).saturating_add(1).min(mtu);
+    let psn = edge_psn(sim);
+    let next = sim.state.next;
+    Record::Send {
+        time,
+        size: sim
+            .rng
+            .pick(&[40, 41, 41, 41, mtu, mtu, mtu + 1, any, over_backlog]),
+        psn: sim.rng.pick(&[psn, next, next, next]),
+        resend: sim.rng.one_in(4).into(),
+    }
+}
+
+fn edge_ack(sim: &mut Sim, time: u64) -> Record {
+    let cum = edge_psn(sim);
+    let back = sim.state.next.wrapping_sub(1).wrapping_sub(cum);
+    let map = edge_map(sim, back);
+    let any = edge_psn(sim);
+    Record::Ack {
+        time,
+        cum,
+        map,
+        trigger: sim.rng.pick(&[
+            cum,
+            cum,
+            cum.wrapping_add(1),
+            cum.wrapping_add(1 + map.trailing_zeros()),
+            cum.wrapping_sub(PSN_REACH),
+            cum.wrapping_sub(PSN_REACH + 1),
+            any,
+        ]),
+        count: edge_count(sim),
+        service: sim.rng.pick(&[0, 0, 0, 1, 50, 100, u32::MAX]),
+        ev: edge_ev(sim),
+        flags: sim.rng.below(4) as u8,
+    }
+}
+
+fn edge_map(sim: &mut Sim, back: u32) -> u64 {
+    let thin = sim.rng.next_u64() & sim.rng.next_u64();
+    let sent = match back {
+        0 => 0,
+        1..=63 => (1 << back) - 1,
+        _ => u64::MAX,
+    };
+    let furthest = sent ^ (sent >> 1);
+    let beyond = 1u64.checked_shl(back).unwrap_or(0);
+    sim.rng
+        .pick(&[0, 1, sent, thin & sent, thin & sent, furthest, beyond, thin])
+}
+
+fn edge_count(sim: &mut Sim) -> u32 {
+    let held = sim.state.held;
+    let to_bound = (sim.state.in_flight - IN_FLIGHT_MIN) as u32 / 256;
+    let step = sim.rng.below(64) as u32;
+    let ahead = sim.rng.pick(&[
+        0,
+        1,
+        step,
+        step,
+        step,
+        COUNT_END - 1,
+        (1 << 23) - 1,
+        1 << 23,
+        to_bound,
+        to_bound + 1,
+    ]);
+    match sim.rng.below(16) {
+        0 => sim.rng.pick(&[COUNT_END - 1, COUNT_END, u32::MAX]),
+        _ => (held + ahead) % COUNT_END,
+    }
+}
+
+/// Bytes at which a replay stops.
+fn malformed(sim: &mut Sim) -> Vec<u8> {
+    let record = spoilt(sim);
+    let mut bytes = bytes_of(&record);
+    match sim.rng.below(7) {
+        0 => bytes[2..4].copy_from_slice(&sim.rng.pick(&[0u16, 7, 15, 17, u16::MAX]).to_le_bytes()),
+        1 => {
+            // One byte too long.
+            bytes[0] += 1;
+            bytes.push(0);
+        }
+        2 => {
+            // One byte too short.
+            bytes[0] -= 1;
+            bytes.pop();
+        }
+        3 => {
+            let left = sim.rng.between(1, bytes.len() as u64 - 1) as usize;
+            bytes.truncate(left);
+        }
+        4 => bytes[..2].copy_from_slice(&sim.rng.pick(&[0u16, 1, u16::MAX]).to_le_bytes()),
+        5 => bytes = bytes_of(&settings_record(&sim.state.settings)),
+        _ => bytes = unknown_bits(sim),
+    }
+    bytes
+}
+
+/// A send with a resend byte, or an ACK with flags, that no record may have: its last byte.
+fn unknown_bits(sim: &mut Sim) -> Vec<u8> {
+    let time = sim.now;
+    let (record, last) = if sim.rng.one_in(2) {
+        (edge_send(sim, time), sim.rng.pick(&[2, 3, 255]))
+    } else {
+        (edge_ack(sim, time), sim.rng.pick(&[4, 7, 128]))
+    };
+    let mut bytes = bytes_of(&record);
+    bytes.pop();
+    bytes.push(last);
+    bytes
+}
+
+fn bytes_of(record: &Record) -> Vec<u8> {
+    let mut bytes = Vec::new();
+    // Every field fits its bytes.
+    let _ = append(record, &mut bytes);
+    bytes
+}

@@ -1,0 +1,90 @@
+//! Generators of event logs, from a seed and a length in records.
+
+mod hostile;
+mod traffic;
+
+pub use hostile::hostile;
+pub use traffic::traffic;
+
+use crate::bounds::{COUNT_END, UNIT};
+use crate::log::{append, Record, QUICK_ADAPT_OFF};
+use crate::rng::Rng;
+use crate::settings::Settings;
+
+/// The settings E of 01.
+pub const E: [u64; 12] = [
+    4096, 614_400, 96, 72, 4096, 1024, 224, 819, 512, 96, 32_768, 288,
+];
+
+fn settings_record(settings: &Settings) -> Record {
+    Record::Settings {
+        numbers: settings.numbers(),
+        first_psn: settings.first_psn,
+        flags: if settings.quick_adapt_off {
+            QUICK_ADAPT_OFF
+        } else {
+            0
+        },
+    }
+}
+
+/// A first PSN: 0, anywhere, or so near 2^32 that it soon wraps.
+fn first_psn(rng: &mut Rng) -> u32 {
+    match rng.below(3) {
+        0 => 0,
+        1 => rng.next_u32(),
+        _ => u32::MAX - rng.below(200) as u32,
+    }
+}
+
+/// Large packets by the ring and one ACK for all of them: the shortest way to a received count that
+/// wraps, after some 270,000 records.
+pub fn bulk(seed: u64, records: usize) -> Vec<u8> {
+    const MTU: u32 = 16_384;
+    const RING: u32 = 1_024;
+    let mut rng = Rng::new(seed);
+    let mut numbers = E;
+    numbers[0] = u64::from(MTU);
+    numbers[1] = 1 << 26;
+    let settings = Settings::from_numbers(numbers, first_psn(&mut rng), true);
+    let mut next = settings.first_psn;
+    let mut time = 0;
+    let mut units = 0u64;
+
+    let mut batch = vec![settings_record(&settings)];
+    let mut log = Vec::new();
+    let mut written = 0;
+    while written < records {
+        let bytes = u64::from(RING * MTU);
+        batch.push(Record::NewData { time, bytes });
+        for _ in 0..RING {
+            time += rng.below(3);
+            batch.push(Record::Send {
+                time,
+                size: MTU,
+                psn: next,
+                resend: 0,
+            });
+            next = next.wrapping_add(1);
+        }
+        time += rng.between(90, 200);
+        units += bytes / UNIT;
+        let last = next.wrapping_sub(1);
+        batch.push(Record::Ack {
+            time,
+            cum: last,
+            map: 0,
+            trigger: last,
+            count: (units % u64::from(COUNT_END)) as u32,
+            service: 0,
+            ev: 0,
+            flags: 0,
+        });
+        for record in batch.drain(..).take(records - written) {
+            // Every field fits its bytes.
+            let _ = append(&record, &mut log);
+            written += 1;
+        }
+    }
+    log
+}

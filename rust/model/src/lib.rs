@@ -1,0 +1,32 @@
+//! A plain model of document 01: the ledger of sent packets, the NSCC window and the choice of the
+//! next entropy value (EV), with the event log and its replay.
+//!
+//! [`State`] holds every number, [`Lent`] the ring and the EV times. Each event changes both in
+//! place and returns 0, or the refusal number of 01 and changes nothing.
+
+#![forbid(unsafe_code)]
+
+pub mod bounds;
+pub mod check;
+pub mod event;
+pub mod gen;
+mod ledger;
+pub mod lent;
+pub mod log;
+mod path;
+pub mod refusal;
+pub mod replay;
+pub mod rng;
+pub mod settings;
+pub mod state;
+mod window;
+
+pub use check::number_two;
+pub use event::{Ack, Event, Loss, Nack, NewData, Outcome, Send};
+pub use lent::{Lent, Memory};
+pub use log::{parse, write, Reader, Record};
+pub use refusal::Refusal;
+pub use replay::replay;
+pub use rng::Rng;
+pub use settings::Settings;
+pub use state::{Name, State};

@@ -1,0 +1,41 @@
+/// Why an event, a setting up or a log record is refused; the value is the number of 01.
+#[derive(Clone, Copy, Debug, PartialEq, Eq)]
+#[repr(u8)]
+pub enum Refusal {
+    Setting = 1,
+    NotTogether = 2,
+    Time = 3,
+    Field = 4,
+    Backlog = 5,
+    Window = 6,
+    RingFull = 7,
+    WrongPacket = 8,
+    WrongAck = 9,
+    NotFlying = 10,
+    InFlight = 11,
+    Malformed = 12,
+    Room = 13,
+}
+
+impl Refusal {
+    pub fn number(self) -> u8 {
+        self as u8
+    }
+
+    /// `Err(self)` unless `allowed`.
+    pub(crate) fn unless(self, allowed: bool) -> Result<(), Refusal> {
+        if allowed {
+            Ok(())
+        } else {
+            Err(self)
+        }
+    }
+}
+
+/// 0 for an accepted event, else the refusal number.
+pub(crate) fn number(answer: Result<(), Refusal>) -> u8 {
+    match answer {
+        Ok(()) => 0,
+        Err(refusal) => refusal.number(),
+    }
+}

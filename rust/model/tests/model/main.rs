@@ -1,0 +1,15 @@
+//! Tests of the model against document 01. Expected numbers are worked out by hand or by a second,
+//! naive way of counting.
+
+mod demand3;
+mod example;
+mod ledger;
+mod log;
+mod number_two;
+mod p_cases;
+mod random;
+mod refusals;
+mod rig;
+mod samples;
+mod stops;
+mod window;

@@ -1,0 +1,360 @@
+//! Each clause of number 2, spoilt one at a time, and the last good value before it.
+
+use crate::rig::*;
+use model::Name;
+
+const NOW: u64 = 10_050;
+
+/// A state in which every number that may be other than 0 is.
+fn rig() -> Rig {
+    let mut rig = Rig::e();
+    let state = &mut rig.state;
+    state.backlog = 5_000;
+    state.in_flight = 9_000;
+    state.held = 77;
+    state.cwnd = 300_000;
+    state.base = 90;
+    state.avg = 50_000;
+    state.inc_bytes = 1_000;
+    state.received = 2_000;
+    state.achieved = 3_000;
+    state.ignored = 4_000;
+    state.bytes_to_ignore = 5_000;
+    state.fi_count = 6_000;
+    state.fast_mode = true;
+    state.trigger = true;
+    state.qa_end = 10_500;
+    state.last_adjust = 9_990;
+    state.last_dec = 9_991;
+    state.cursor = 17;
+    rig.memory.ev_times[9] = 10_400;
+    rig.lay(
+        4_294_967_294,
+        &[
+            (FLYING, 4_096, 9_950, 0),
+            (MARKED, 1_000, 9_960, 1),
+            (DONE, 4_096, 9_970, 0),
+            (FLYING, 4_096, 9_980, 2),
+        ],
+    )
+}
+
+/// Slots of the ring above: PSN 4,294,967,294 lives at 62 of 64.
+const LOW: usize = 62;
+const SECOND: usize = 63;
+const THIRD: usize = 0;
+const BEFORE_LOW: usize = 61;
+const NEXT: usize = 2;
+
+fn every_event() -> Vec<model::Event> {
+    vec![
+        new_data(NOW, 1),
+        send(NOW, 2, 41),
+        resend(NOW, 4_294_967_295, 1_000),
+        ack(NOW, 4_294_967_294, 78).into(),
+        nack(NOW, 4_294_967_294, 0).into(),
+        loss(NOW, 1).into(),
+        path(NOW),
+    ]
+}
+
+type Change = fn(&mut Rig);
+
+#[track_caller]
+fn all_good(changes: &[(&str, Change)]) {
+    for (what, change) in changes {
+        let mut rig = rig();
+        change(&mut rig);
+        assert!(rig.holds(), "{what} should be good");
+    }
+}
+
+#[track_caller]
+fn all_spoilt(changes: &[(&str, Change)]) {
+    for (what, change) in changes {
+        let mut rig = rig();
+        change(&mut rig);
+        assert!(!rig.holds(), "{what} should be 2");
+        for event in every_event() {
+            rig.refuse(2, event);
+        }
+    }
+}
+
+#[test]
+fn the_unspoilt_state_is_good_and_takes_every_event() {
+    for event in every_event() {
+        rig().accept(event);
+    }
+}
+
+#[test]
+fn lengths() {
+    all_spoilt(&[
+        ("all empty", |r| r.memory = model::Memory::new(0)),
+        ("ring of 63", |r| r.memory = model::Memory::new(63)),
+        ("status shorter", |r| r.memory.status.truncate(63)),
+        ("size shorter", |r| r.memory.size.truncate(63)),
+        ("sent shorter", |r| r.memory.sent.truncate(63)),
+        ("resent shorter", |r| r.memory.resent.truncate(63)),
+        ("EV times shorter", |r| r.memory.ev_times.truncate(255)),
+        ("size longer", |r| r.memory.size.push(0)),
+        ("sent longer", |r| r.memory.sent.push(0)),
+        ("resent longer", |r| r.memory.resent.push(0)),
+        ("EV times longer", |r| r.memory.ev_times.push(0)),
+        ("status empty", |r| r.memory.status.clear()),
+        ("size empty", |r| r.memory.size.clear()),
+        ("EV times empty", |r| r.memory.ev_times.clear()),
+    ]);
+    for capacity in [32, 96, 8_192] {
+        let mut rig = Rig::e();
+        rig.memory = model::Memory::new(capacity);
+        assert!(!rig.holds());
+        rig.refuse(2, path(NOW));
+    }
+    for capacity in [64, 4_096] {
+        let mut rig = Rig::with_capacity(e(), capacity);
+        assert!(rig.holds());
+    }
+}
+
+#[test]
+fn settings() {
+    all_spoilt(&[
+        ("MTU", |r| r.state.settings.mtu = 16_385),
+        ("MTU of 0", |r| r.state.settings.mtu = 0),
+        ("MaxWnd", |r| r.state.settings.max_wnd = (1 << 26) + 1),
+        ("MaxWnd at its widest", |r| {
+            r.state.settings.max_wnd = u64::MAX
+        }),
+        ("base rtt", |r| r.state.settings.config_base_rtt = 16_385),
+        ("target of 0", |r| r.state.settings.target_qdelay = 0),
+        ("target", |r| r.state.settings.target_qdelay = 16_385),
+        ("fi", |r| r.state.settings.fi = (1 << 20) + 1),
+        ("eta", |r| r.state.settings.eta = (1 << 20) + 1),
+        ("alpha", |r| r.state.settings.alpha = (1 << 14) + 1),
+        ("gamma", |r| r.state.settings.gamma = 1_025),
+        ("max_md_jump", |r| r.state.settings.max_md_jump = 1_025),
+        ("period of 0", |r| r.state.settings.adjust_period = 0),
+        ("period", |r| r.state.settings.adjust_period = (1 << 20) + 1),
+        ("bytes of 0", |r| r.state.settings.adjust_bytes = 0),
+        ("bytes", |r| r.state.settings.adjust_bytes = (1 << 26) + 1),
+        ("threshold", |r| {
+            r.state.settings.qa_threshold = (1 << 20) + 1
+        }),
+    ]);
+    all_good(&[
+        ("another first PSN", |r| r.state.settings.first_psn = 12_345),
+        ("quick adapt off", |r| {
+            r.state.settings.quick_adapt_off = true
+        }),
+    ]);
+}
+
+#[test]
+fn window_numbers() {
+    all_good(&[
+        ("cwnd of MTU", |r| {
+            r.state.cwnd = 4_096;
+            r.state.name = Name::Active;
+        }),
+        ("cwnd of MaxWnd", |r| r.state.cwnd = 614_400),
+        ("base of 1", |r| r.state.base = 1),
+        ("base of config_base_rtt", |r| r.state.base = 96),
+        ("average of 2^30", |r| r.state.avg = 1 << 30),
+        ("inc_bytes at its stop", |r| r.state.inc_bytes = 1 << 60),
+        ("received at its stop", |r| r.state.received = 1 << 40),
+        ("achieved at its stop", |r| r.state.achieved = 1 << 40),
+        ("ignored at its stop", |r| r.state.ignored = 1 << 40),
+        ("fi_count at its stop", |r| r.state.fi_count = 1 << 40),
+        ("bytes_to_ignore of MaxWnd", |r| {
+            r.state.bytes_to_ignore = 614_400
+        }),
+        ("modes off", |r| {
+            r.state.fast_mode = false;
+            r.state.trigger = false;
+        }),
+    ]);
+    all_spoilt(&[
+        ("cwnd below MTU", |r| {
+            r.state.cwnd = 4_095;
+            r.state.name = Name::Active;
+        }),
+        ("cwnd over MaxWnd", |r| r.state.cwnd = 614_401),
+        ("cwnd at its widest", |r| r.state.cwnd = u64::MAX),
+        ("base of 0", |r| r.state.base = 0),
+        ("base over config_base_rtt", |r| r.state.base = 97),
+        ("average over 2^30", |r| r.state.avg = (1 << 30) + 1),
+        ("inc_bytes over its stop", |r| {
+            r.state.inc_bytes = (1 << 60) + 1
+        }),
+        ("received over its stop", |r| {
+            r.state.received = (1 << 40) + 1
+        }),
+        ("achieved over its stop", |r| {
+            r.state.achieved = (1 << 40) + 1
+        }),
+        ("ignored over its stop", |r| r.state.ignored = (1 << 40) + 1),
+        ("fi_count over its stop", |r| {
+            r.state.fi_count = (1 << 40) + 1
+        }),
+        ("bytes_to_ignore", |r| r.state.bytes_to_ignore = 614_401),
+    ]);
+}
+
+#[test]
+fn ledger_numbers() {
+    all_good(&[
+        ("backlog of 2^40", |r| r.state.backlog = 1 << 40),
+        ("held", |r| r.state.held = (1 << 24) - 1),
+        ("in-flight of -2^24", |r| r.state.in_flight = -(1 << 24)),
+        ("in-flight of MaxWnd", |r| {
+            r.state.in_flight = 614_400;
+            r.state.name = Name::Active;
+        }),
+        ("cursor of 255", |r| r.state.cursor = 255),
+    ]);
+    all_spoilt(&[
+        ("backlog", |r| r.state.backlog = (1 << 40) + 1),
+        ("held", |r| r.state.held = 1 << 24),
+        ("in-flight below", |r| r.state.in_flight = -(1 << 24) - 1),
+        ("in-flight at its lowest", |r| r.state.in_flight = i64::MIN),
+        ("in-flight above", |r| {
+            r.state.in_flight = 614_401;
+            r.state.name = Name::Active;
+        }),
+        ("in-flight at its highest", |r| r.state.in_flight = i64::MAX),
+        ("cursor of 256", |r| r.state.cursor = 256),
+    ]);
+}
+
+#[test]
+fn times() {
+    all_good(&[
+        ("quick-adapt end", |r| r.state.qa_end = (1 << 49) - 1),
+        ("an EV time", |r| r.memory.ev_times[255] = (1 << 49) - 1),
+        ("last adjust", |r| r.state.last_adjust = 10_000),
+        ("last decrease", |r| r.state.last_dec = 10_000),
+        ("send time", |r| r.memory.sent[SECOND] = 10_000),
+        ("clock", |r| r.state.clock = (1 << 48) - 1),
+    ]);
+    all_spoilt(&[
+        ("quick-adapt end", |r| r.state.qa_end = 1 << 49),
+        ("first EV time", |r| r.memory.ev_times[0] = 1 << 49),
+        ("last EV time", |r| r.memory.ev_times[255] = u64::MAX),
+        ("last adjust", |r| r.state.last_adjust = 10_001),
+        ("last decrease", |r| r.state.last_dec = 10_001),
+        ("send time of a marked one", |r| {
+            r.memory.sent[SECOND] = 10_001
+        }),
+        ("send time of a done one", |r| r.memory.sent[THIRD] = 10_001),
+        ("clock", |r| r.state.clock = 1 << 48),
+        ("clock before the send times", |r| r.state.clock = 9_979),
+    ]);
+}
+
+#[test]
+fn slots_of_packets() {
+    all_good(&[
+        ("size 41", |r| r.memory.size[LOW] = 41),
+        ("size MTU", |r| r.memory.size[LOW] = 4_096),
+        ("resend count 2", |r| r.memory.resent[LOW] = 2),
+    ]);
+    all_spoilt(&[
+        ("an empty slot", |r| {
+            r.memory.status[LOW] = EMPTY;
+            r.state.flying = 1;
+        }),
+        ("a status of 4", |r| {
+            r.memory.status[LOW] = 4;
+            r.state.flying = 1;
+        }),
+        ("size 40", |r| r.memory.size[LOW] = 40),
+        ("size over MTU", |r| r.memory.size[LOW] = 4_097),
+        ("size 40 of a done one", |r| r.memory.size[THIRD] = 40),
+        ("resend count 3", |r| r.memory.resent[LOW] = 3),
+        ("resend count 3 of a done one", |r| {
+            r.memory.resent[THIRD] = 3
+        }),
+    ]);
+}
+
+#[test]
+fn other_slots() {
+    all_spoilt(&[
+        ("done at next", |r| r.memory.status[NEXT] = DONE),
+        ("size at next", |r| r.memory.size[NEXT] = 1),
+        ("sent at next", |r| r.memory.sent[NEXT] = 1),
+        ("resent at next", |r| r.memory.resent[NEXT] = 1),
+        ("done before low", |r| r.memory.status[BEFORE_LOW] = DONE),
+        ("size before low", |r| r.memory.size[BEFORE_LOW] = 1),
+        ("sent before low", |r| r.memory.sent[BEFORE_LOW] = 1),
+        ("resent before low", |r| r.memory.resent[BEFORE_LOW] = 1),
+    ]);
+}
+
+#[test]
+fn distance_of_low_and_next() {
+    let full = Rig::e().lay(7, &[(FLYING, 41, 9_000, 0); 64]);
+    assert!(full.clone().holds());
+    let mut over = full.clone();
+    over.state.next = 7 + 65;
+    assert!(!over.holds());
+    over.refuse(2, path(NOW));
+    let mut behind = full;
+    behind.state.next = 6;
+    assert!(!behind.holds());
+    behind.refuse(2, path(NOW));
+}
+
+#[test]
+fn low_done() {
+    all_spoilt(&[("low done", |r| {
+        r.memory.status[LOW] = DONE;
+        r.state.flying = 1;
+    })]);
+    // An empty ledger has no low packet.
+    assert!(Rig::e().holds());
+    // Low done, with a ring full of done packets.
+    let mut full = Rig::e().lay(0, &[(DONE, 41, 9_000, 0); 64]);
+    assert!(!full.holds());
+}
+
+#[test]
+fn totals() {
+    all_spoilt(&[
+        ("a flying too many", |r| r.state.flying = 3),
+        ("a flying too few", |r| r.state.flying = 1),
+        ("a marked too many", |r| r.state.marked = 2),
+        ("none marked", |r| r.state.marked = 0),
+        ("a marked byte too many", |r| r.state.marked_bytes = 1_001),
+        ("a marked byte too few", |r| r.state.marked_bytes = 999),
+        ("flying at its widest", |r| r.state.flying = u64::MAX),
+        ("marked at its widest", |r| r.state.marked = u64::MAX),
+    ]);
+}
+
+#[test]
+fn state_name() {
+    all_spoilt(&[
+        ("IDLE", |r| r.state.name = Name::Idle),
+        ("PENDING", |r| r.state.name = Name::Pending),
+        ("ACTIVE", |r| r.state.name = Name::Active),
+    ]);
+    let names = [Name::Idle, Name::Pending, Name::Ready, Name::Active];
+    let only = |mut rig: Rig, right: Name| {
+        for name in names {
+            rig.state.name = name;
+            assert_eq!(rig.holds(), name == right, "{name} for {right}");
+        }
+    };
+    only(Rig::e(), Name::Idle);
+    only(Rig::e().lay(0, &[(FLYING, 41, 0, 0)]), Name::Pending);
+    only(Rig::e().lay(0, &[(MARKED, 41, 0, 0)]), Name::Ready);
+    let mut rig = Rig::e();
+    rig.state.backlog = 1;
+    rig.state.in_flight = 610_304;
+    only(rig.clone(), Name::Ready);
+    rig.state.in_flight = 610_305;
+    only(rig, Name::Active);
+}

@@ -1,0 +1,444 @@
+//! Random logs against a naive ledger that knows no wrap and no ring, and random garbage.
+
+use crate::rig::*;
+use model::{gen, Event, Memory, Name, Reader, Rng, Settings, State};
+use std::collections::BTreeMap;
+
+/// A ledger by plain counting: PSNs and counts as numbers that never wrap.
+struct Naive {
+    first: i64,
+    /// Status and size of every packet ever sent.
+    packets: BTreeMap<i64, (u8, i64)>,
+    sent: i64,
+    lost: i64,
+    units: i64,
+    added: i64,
+    taken: i64,
+}
+
+impl Naive {
+    fn new(first_psn: u32) -> Naive {
+        Naive {
+            first: i64::from(first_psn),
+            packets: BTreeMap::new(),
+            sent: 0,
+            lost: 0,
+            units: 0,
+            added: 0,
+            taken: 0,
+        }
+    }
+
+    fn next(&self) -> i64 {
+        self.first + self.packets.len() as i64
+    }
+
+    /// The number nearest to the last PSN that wraps to `psn`.
+    fn unwrap(&self, psn: u32) -> i64 {
+        let around = 1 << 32;
+        let near = self.next() - 1;
+        let ahead = (i64::from(psn) - near).rem_euclid(around);
+        near + if ahead < around / 2 {
+            ahead
+        } else {
+            ahead - around
+        }
+    }
+
+    /// Takes in an accepted event.
+    fn take(&mut self, event: &Event) {
+        match *event {
+            Event::NewData(event) => self.added += event.bytes as i64,
+            Event::Send(event) => {
+                let psn = self.unwrap(event.psn);
+                let size = i64::from(event.size);
+                assert_eq!(event.resend, self.packets.contains_key(&psn));
+                self.packets.insert(psn, (FLYING, size));
+                self.sent += size;
+                self.taken += if event.resend { 0 } else { size };
+            }
+            Event::Ack(event) => {
+                let cum = self.unwrap(event.cum);
+                let by_map = (0..64).filter(|i| event.map >> i & 1 == 1);
+                let covered: Vec<i64> = by_map.map(|i| cum + 1 + i).collect();
+                let last = covered.iter().copied().max().unwrap_or(cum).max(cum);
+                assert!(
+                    last < self.next(),
+                    "an ACK of an unsent packet was accepted"
+                );
+                for (psn, packet) in self.packets.iter_mut().rev() {
+                    // Far below, all is done for good.
+                    if *psn < cum - 5_000 {
+                        break;
+                    }
+                    if *psn <= cum || covered.contains(psn) {
+                        packet.0 = DONE;
+                    }
+                }
+                let ahead = (i64::from(event.count) - self.units).rem_euclid(1 << 24);
+                if ahead < 1 << 23 {
+                    self.units += ahead;
+                }
+            }
+            Event::Nack(event) => self.lose(event.psn),
+            Event::Loss(event) => self.lose(event.psn),
+            Event::Path { .. } => {}
+        }
+    }
+
+    fn lose(&mut self, psn: u32) {
+        let psn = self.unwrap(psn);
+        let packet = self
+            .packets
+            .get_mut(&psn)
+            .expect("a loss of an unsent packet");
+        assert_eq!(packet.0, FLYING);
+        packet.0 = MARKED;
+        self.lost += packet.1;
+    }
+
+    fn check(&self, state: &State, memory: &Memory) {
+        assert_eq!(state.in_flight, self.sent - 256 * self.units - self.lost);
+        assert_eq!(state.backlog as i64, self.added - self.taken);
+        assert_eq!(i64::from(state.held), self.units % (1 << 24));
+        let recent = || self.packets.range(self.next() - 5_000..);
+        let with = |status| recent().filter(move |(_, packet)| packet.0 == status);
+        assert_eq!(state.flying as usize, with(FLYING).count());
+        assert_eq!(state.marked as usize, with(MARKED).count());
+        let bytes: i64 = with(MARKED).map(|(_, packet)| packet.1).sum();
+        assert_eq!(state.marked_bytes as i64, bytes);
+        assert_eq!(state.next, self.next() as u32);
+        let low = recent().find(|(_, packet)| packet.0 != DONE);
+        let low = low.map_or(self.next(), |(&psn, _)| psn);
+        assert_eq!(state.low, low as u32);
+        for psn in low..self.next() {
+            let slot = psn as usize % memory.status.len();
+            let (status, size) = self.packets[&psn];
+            assert_eq!(
+                (memory.status[slot], i64::from(memory.size[slot])),
+                (status, size)
+            );
+        }
+    }
+}
+
+/// What a log did, for tests that the logs are worth something.
+#[derive(Default)]
+struct Seen {
+    /// Accepted events by kind.
+    kinds: [u32; 7],
+    /// Answers by number.
+    answers: [u32; 14],
+    names: [u32; 4],
+    cuts: u32,
+    fired: u32,
+    fast: u32,
+    wraps: u32,
+    negative: u32,
+}
+
+impl Seen {
+    fn note(&mut self, event: &Event, answer: u8, before: &State, after: &State) {
+        self.answers[usize::from(answer)] += 1;
+        if answer != 0 {
+            return;
+        }
+        self.kinds[match event {
+            Event::NewData(_) => 0,
+            Event::Send(send) if send.resend => 1,
+            Event::Send(_) => 2,
+            Event::Ack(_) => 3,
+            Event::Nack(_) => 4,
+            Event::Loss(_) => 5,
+            Event::Path { .. } => 6,
+        }] += 1;
+        self.names[match after.name {
+            Name::Idle => 0,
+            Name::Pending => 1,
+            Name::Ready => 2,
+            Name::Active => 3,
+        }] += 1;
+        self.cuts += u32::from(after.last_dec != before.last_dec);
+        self.fired += u32::from(after.bytes_to_ignore != before.bytes_to_ignore);
+        self.fast += u32::from(after.fast_mode && !before.fast_mode);
+        self.wraps += u32::from(after.low < before.low);
+        self.negative += u32::from(after.in_flight < 0);
+    }
+}
+
+/// Goes through a log: what number 2 asks holds after every event, a refused event changes nothing,
+/// both forms of an event do the same, and the naive ledger agrees.
+fn follow(log: &[u8], seen: &mut Seen) {
+    let mut reader = Reader::new(log);
+    let Ok(Some(first)) = reader.next_record() else {
+        return;
+    };
+    let Some(settings) = first.settings().filter(Settings::in_range) else {
+        return;
+    };
+    let mut rig = Rig::with_capacity(settings, 1_024);
+    let mut naive = Naive::new(settings.first_psn);
+    while let Ok(Some(record)) = reader.next_record() {
+        let Some(event) = record.event() else {
+            return;
+        };
+        let before = rig.clone();
+        let mut trusted = rig.clone();
+        let outcome = rig.take(event);
+        let (state, memory) = (&mut trusted.state, &mut trusted.memory);
+        assert_eq!(state.take_trusted(&mut memory.lend(), &event), outcome);
+        assert_eq!(trusted, rig);
+        assert!(rig.holds(), "{event:?} on {:?}", before.state);
+        if outcome.number == 0 {
+            assert_eq!(rig.state.clock, time_of(&event));
+            naive.take(&event);
+        } else {
+            assert_eq!(rig, before);
+        }
+        naive.check(&rig.state, &rig.memory);
+        seen.note(&event, outcome.number, &before.state, &rig.state);
+    }
+}
+
+#[test]
+fn realistic_logs() {
+    let mut seen = Seen::default();
+    for seed in 0..60 {
+        follow(&gen::traffic(seed, 2_500), &mut seen);
+    }
+    assert!(
+        seen.kinds.iter().all(|&times| times > 10),
+        "{:?}",
+        seen.kinds
+    );
+    assert!(
+        seen.names.iter().all(|&times| times > 10),
+        "{:?}",
+        seen.names
+    );
+    let rules = [seen.cuts, seen.fired, seen.fast, seen.wraps];
+    assert!(rules.iter().all(|&times| times > 10), "{rules:?}");
+    // A sender that keeps to the rules is seldom refused.
+    let refused: u32 = seen.answers[1..].iter().sum();
+    assert!(refused * 100 < seen.answers[0], "{:?}", seen.answers);
+}
+
+#[test]
+fn hostile_logs() {
+    let mut seen = Seen::default();
+    for seed in 0..150 {
+        follow(&gen::hostile(seed, 1_500), &mut seen);
+    }
+    // 1, 2, 12 and 13 are no answers to an event of a log.
+    for number in [0, 3, 4, 5, 6, 7, 8, 9, 10, 11] {
+        assert!(seen.answers[number] > 10, "{number}: {:?}", seen.answers);
+    }
+    assert!(
+        seen.kinds.iter().all(|&times| times > 10),
+        "{:?}",
+        seen.kinds
+    );
+    assert!(
+        seen.names.iter().all(|&times| times > 10),
+        "{:?}",
+        seen.names
+    );
+    assert!(seen.wraps > 3 && seen.negative > 100);
+}
+
+#[test]
+fn generated_logs_are_the_same_for_the_same_seed() {
+    for make in [gen::traffic, gen::hostile, gen::bulk] {
+        assert_eq!(make(3, 200), make(3, 200));
+        assert_ne!(make(3, 200), make(4, 200));
+    }
+    for records in [1, 2, 100] {
+        for make in [gen::traffic, gen::bulk] {
+            let text = model::replay(&make(9, records));
+            assert_eq!(text.lines().count(), records + 1);
+        }
+    }
+}
+
+#[test]
+fn hostile_logs_stop_in_every_way() {
+    let mut stops = BTreeMap::new();
+    for seed in 0..400 {
+        let text = model::replay(&gen::hostile(seed, 5));
+        let last: Vec<&str> = text.lines().last().unwrap_or("").split(' ').collect();
+        let stop = match last[..] {
+            [_, number] => number.to_string(),
+            ["rec", ..] => "empty".to_string(),
+            _ => "end".to_string(),
+        };
+        *stops.entry(stop).or_insert(0) += 1;
+    }
+    let ways: Vec<&str> = stops.keys().map(String::as_str).collect();
+    assert_eq!(ways, ["1", "12", "empty", "end"]);
+}
+
+/// A number at some edge, or any.
+fn edge(rng: &mut Rng) -> u64 {
+    let any = rng.next_u64();
+    let power = 1u64 << rng.below(64);
+    rng.pick(&[
+        0,
+        1,
+        2,
+        power - 1,
+        power,
+        power + 1,
+        u64::MAX,
+        u64::MAX - 1,
+        any,
+    ])
+}
+
+fn spoil_state(rng: &mut Rng, state: &mut State) {
+    let number = edge(rng);
+    match rng.below(28) {
+        0 => state.clock = number,
+        1 => state.low = number as u32,
+        2 => state.next = number as u32,
+        3 => state.flying = number,
+        4 => state.marked = number,
+        5 => state.marked_bytes = number,
+        6 => state.backlog = number,
+        7 => state.in_flight = number as i64,
+        8 => state.held = number as u32,
+        9 => state.cwnd = number,
+        10 => state.base = number,
+        11 => state.avg = number,
+        12 => state.inc_bytes = number,
+        13 => state.received = number,
+        14 => state.achieved = number,
+        15 => state.ignored = number,
+        16 => state.bytes_to_ignore = number,
+        17 => state.fi_count = number,
+        18 => state.qa_end = number,
+        19 => state.last_adjust = number,
+        20 => state.last_dec = number,
+        21 => state.cursor = number,
+        22 => state.trigger = !state.trigger,
+        23 => state.fast_mode = !state.fast_mode,
+        24 => state.name = rng.pick(&[Name::Idle, Name::Pending, Name::Ready, Name::Active]),
+        _ => {
+            let mut numbers = state.settings.numbers();
+            numbers[rng.below(12) as usize] = number;
+            state.settings = Settings::from_numbers(numbers, number as u32, rng.one_in(2));
+        }
+    }
+}
+
+fn spoil_memory(rng: &mut Rng, memory: &mut Memory) {
+    let number = edge(rng);
+    let i = rng.below(64) as usize;
+    let length = rng.pick(&[0, 1, 32, 63, 65, 128, 255, 257]);
+    match rng.below(10) {
+        0 => memory.status[i] = number as u8,
+        1 => memory.size[i] = number as u32,
+        2 => memory.sent[i] = number,
+        3 => memory.resent[i] = number as u8,
+        4 => memory.ev_times[i] = number,
+        5 => memory.status.resize(length, 0),
+        6 => memory.size.resize(length, 0),
+        7 => memory.sent.resize(length, 0),
+        8 => memory.resent.resize(length, 0),
+        _ => memory.ev_times.resize(length, 0),
+    }
+}
+
+fn any_event(rng: &mut Rng) -> Event {
+    let time = edge(rng);
+    let psn = edge(rng) as u32;
+    let ev = rng.pick(&[0, 255, 256, u16::MAX]);
+    match rng.below(7) {
+        0 => new_data(time, edge(rng)),
+        1 => send(time, psn, edge(rng) as u32),
+        2 => resend(time, psn, edge(rng) as u32),
+        3 => nack(time, psn, rng.below(4) as u8).into(),
+        4 => model::Loss { time, psn, ev }.into(),
+        5 => path(time),
+        _ => model::Ack {
+            time,
+            cum: psn,
+            map: edge(rng),
+            trigger: edge(rng) as u32,
+            count: edge(rng) as u32,
+            service: edge(rng) as u32,
+            ev,
+            marked: rng.one_in(2),
+            retx: rng.one_in(2),
+        }
+        .into(),
+    }
+}
+
+#[test]
+fn garbage_is_answered() {
+    let mut rng = Rng::new(5);
+    let mut answers = [0; 14];
+    for _ in 0..60_000 {
+        let mut rig = Rig::e().lay(
+            u32::MAX,
+            &[(FLYING, 100, 9_000, 0), (MARKED, 100, 9_000, 1)],
+        );
+        for _ in 0..rng.below(3) {
+            spoil_state(&mut rng, &mut rig.state);
+        }
+        if rng.one_in(3) {
+            spoil_memory(&mut rng, &mut rig.memory);
+        }
+        let before = rig.clone();
+        let good = rig.holds();
+        let event = any_event(&mut rng);
+        let number = rig.take(event).number;
+        assert_eq!(number == 2, !good);
+        if number == 0 {
+            assert!(rig.holds());
+        } else {
+            assert_eq!(rig, before);
+        }
+        answers[usize::from(number)] += 1;
+    }
+    assert!(answers[0] > 100 && answers[2] > 1_000 && answers[3] > 100);
+}
+
+#[test]
+fn a_state_of_nothing_but_garbage_is_answered() {
+    let mut rng = Rng::new(6);
+    for _ in 0..20_000 {
+        let mut memory = Memory::new(rng.pick(&[0, 1, 63, 64, 65, 128]));
+        for slot in 0..memory.status.len() {
+            memory.status[slot] = edge(&mut rng) as u8;
+            memory.size[slot] = edge(&mut rng) as u32;
+            memory.sent[slot] = edge(&mut rng);
+            memory.resent[slot] = edge(&mut rng) as u8;
+        }
+        let mut state = State::default();
+        for _ in 0..60 {
+            spoil_state(&mut rng, &mut state);
+        }
+        let mut rig = Rig { state, memory };
+        assert!(!rig.holds());
+        rig.refuse(2, any_event(&mut rng));
+    }
+}
+
+#[test]
+fn any_settings_are_answered() {
+    let mut rng = Rng::new(7);
+    for _ in 0..20_000 {
+        let numbers = [0; 12].map(|_: u64| edge(&mut rng));
+        let settings = Settings::from_numbers(numbers, 0, false);
+        let mut memory = Memory::new(rng.pick(&[0, 63, 64]));
+        let good_lengths = memory.status.len() == 64;
+        let (answer, state) = State::set_up(&settings, &mut memory.lend());
+        match answer {
+            0 => assert!(good_lengths),
+            1 => {}
+            _ => assert!(answer == 2 && !good_lengths),
+        }
+        assert_eq!(state == State::default(), answer != 0);
+    }
+}

@@ -1,0 +1,217 @@
+//! A state with memory of its own, and short ways to make events.
+
+use model::{Ack, Event, Loss, Memory, Nack, Name, NewData, Outcome, Send, Settings, State};
+
+pub const EMPTY: u8 = 0;
+pub const FLYING: u8 = 1;
+pub const MARKED: u8 = 2;
+pub const DONE: u8 = 3;
+
+/// The settings E of 01.
+pub fn e() -> Settings {
+    Settings {
+        mtu: 4096,
+        max_wnd: 614_400,
+        config_base_rtt: 96,
+        target_qdelay: 72,
+        fi: 4096,
+        eta: 1024,
+        alpha: 224,
+        gamma: 819,
+        max_md_jump: 512,
+        adjust_period: 96,
+        adjust_bytes: 32_768,
+        qa_threshold: 288,
+        first_psn: 0,
+        quick_adapt_off: false,
+    }
+}
+
+/// What a slot holds: status, size, time of sending, resend count.
+pub type Slot = (u8, u32, u64, u8);
+
+#[derive(Clone, Debug, PartialEq)]
+pub struct Rig {
+    pub state: State,
+    pub memory: Memory,
+}
+
+impl Rig {
+    pub fn new(settings: Settings) -> Rig {
+        Rig::with_capacity(settings, 64)
+    }
+
+    pub fn with_capacity(settings: Settings, capacity: usize) -> Rig {
+        let mut memory = Memory::new(capacity);
+        let (answer, state) = State::set_up(&settings, &mut memory.lend());
+        assert_eq!(answer, 0);
+        Rig { state, memory }
+    }
+
+    /// Settings E at clock 10,000, with no adjustment due before 10,096.
+    pub fn e() -> Rig {
+        let mut rig = Rig::new(e());
+        rig.state.clock = 10_000;
+        rig.state.last_adjust = 10_000;
+        rig
+    }
+
+    /// Puts packets into the ring from `low` on, then settles.
+    pub fn lay(mut self, low: u32, slots: &[Slot]) -> Rig {
+        self.state.low = low;
+        self.state.next = low.wrapping_add(slots.len() as u32);
+        for (i, &slot) in slots.iter().enumerate() {
+            self.put(low.wrapping_add(i as u32), slot);
+        }
+        self.settle();
+        self
+    }
+
+    pub fn put(&mut self, psn: u32, (status, size, sent, resent): Slot) {
+        let slot = psn as usize % self.memory.status.len();
+        self.memory.status[slot] = status;
+        self.memory.size[slot] = size;
+        self.memory.sent[slot] = sent;
+        self.memory.resent[slot] = resent;
+    }
+
+    pub fn slot(&self, psn: u32) -> Slot {
+        let slot = psn as usize % self.memory.status.len();
+        (
+            self.memory.status[slot],
+            self.memory.size[slot],
+            self.memory.sent[slot],
+            self.memory.resent[slot],
+        )
+    }
+
+    pub fn status(&self, psn: u32) -> u8 {
+        self.slot(psn).0
+    }
+
+    /// Counts the totals in the ring and names the state.
+    pub fn settle(&mut self) {
+        let statuses = &self.memory.status;
+        self.state.flying = statuses.iter().filter(|&&s| s == FLYING).count() as u64;
+        self.state.marked = statuses.iter().filter(|&&s| s == MARKED).count() as u64;
+        self.state.marked_bytes = statuses
+            .iter()
+            .zip(&self.memory.size)
+            .filter(|(&status, _)| status == MARKED)
+            .map(|(_, &size)| u64::from(size))
+            .sum();
+        let state = &mut self.state;
+        let room = i128::from(state.in_flight) + i128::from(state.settings.mtu);
+        state.name = match (state.backlog, state.marked, state.flying) {
+            (0, 0, 0) => Name::Idle,
+            (0, 0, _) => Name::Pending,
+            _ if room <= i128::from(state.cwnd) => Name::Ready,
+            _ => Name::Active,
+        };
+    }
+
+    pub fn holds(&mut self) -> bool {
+        model::number_two(&self.state, &self.memory.lend())
+    }
+
+    pub fn take(&mut self, event: impl Into<Event>) -> Outcome {
+        self.state.take(&mut self.memory.lend(), &event.into())
+    }
+
+    /// The event must be accepted, move the clock and leave what holds together.
+    #[track_caller]
+    pub fn accept(&mut self, event: impl Into<Event>) -> Outcome {
+        let event = event.into();
+        assert!(self.holds(), "before {event:?}: {:?}", self.state);
+        let outcome = self.take(event);
+        assert_eq!(outcome.number, 0, "{event:?}");
+        assert_eq!(self.state.clock, time_of(&event));
+        assert!(self.holds(), "after {event:?}: {:?}", self.state);
+        outcome
+    }
+
+    /// The event must be refused with this number and change nothing.
+    #[track_caller]
+    pub fn refuse(&mut self, number: u8, event: impl Into<Event>) {
+        let event = event.into();
+        let before = self.clone();
+        let outcome = self.take(event);
+        assert_eq!((outcome.number, outcome.ev), (number, None), "{event:?}");
+        assert_eq!(*self, before);
+    }
+
+    /// The rig after the event, which must be accepted.
+    #[track_caller]
+    pub fn after(&self, event: impl Into<Event>) -> Rig {
+        let mut rig = self.clone();
+        rig.accept(event);
+        rig
+    }
+}
+
+pub fn time_of(event: &Event) -> u64 {
+    match event {
+        Event::NewData(event) => event.time,
+        Event::Send(event) => event.time,
+        Event::Ack(event) => event.time,
+        Event::Nack(event) => event.time,
+        Event::Loss(event) => event.time,
+        Event::Path { time } => *time,
+    }
+}
+
+pub fn new_data(time: u64, bytes: u64) -> Event {
+    Event::NewData(NewData { time, bytes })
+}
+
+pub fn send(time: u64, psn: u32, size: u32) -> Event {
+    Event::Send(Send {
+        time,
+        size,
+        psn,
+        resend: false,
+    })
+}
+
+pub fn resend(time: u64, psn: u32, size: u32) -> Event {
+    Event::Send(Send {
+        time,
+        size,
+        psn,
+        resend: true,
+    })
+}
+
+/// An unmarked ACK for `cum` alone, which is its trigger.
+pub fn ack(time: u64, cum: u32, count: u32) -> Ack {
+    Ack {
+        time,
+        cum,
+        map: 0,
+        trigger: cum,
+        count,
+        service: 0,
+        ev: 0,
+        marked: false,
+        retx: false,
+    }
+}
+
+pub fn nack(time: u64, psn: u32, reason: u8) -> Nack {
+    Nack {
+        time,
+        psn,
+        ev: 0,
+        reason,
+        marked: false,
+        retx: false,
+    }
+}
+
+pub fn loss(time: u64, psn: u32) -> Loss {
+    Loss { time, psn, ev: 0 }
+}
+
+pub fn path(time: u64) -> Event {
+    Event::Path { time }
+}
