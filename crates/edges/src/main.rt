@@ -1,0 +1,25 @@
+// Calls every entry point of the sender at every edge of document 01 and writes what it is answered, one case a line.
+mod calls;
+mod example;
+mod lent;
+mod make;
+mod order;
+mod rows;
+mod same;
+mod say;
+mod sees;
+mod six;
+mod spoil;
+mod start;
+mod worlds;
+
+fn main() {
+    example::run();
+    start::settings();
+    start::unbounded();
+    lent::run();
+    rows::run();
+    order::run();
+    spoil::run();
+    sees::run();
+}

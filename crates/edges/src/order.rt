@@ -1,0 +1,115 @@
+// Where several refusals apply the first in document 01's order is given; a label lists those that apply.
+use crate::calls;
+use crate::make;
+use crate::say::line;
+use crate::worlds;
+use sender::Loss;
+use sender::Send;
+
+// 2^24: a count that is refused.
+const COUNTS: u32 = 1 << 24;
+
+// -2^24.
+const LEAST: i64 = -16777216;
+
+fn bad_send(psn: u32, size: u32, resend: bool) -> Send {
+    Send { psn, size, resend }
+}
+
+// 2 before all.
+fn unsound() {
+    let mut bad = make::mixed();
+    bad.state.cursor = 256;
+    line(b"order 2 3 new data", bad, worlds::new_data(bad, 0, 0));
+    line(
+        b"order 2 3 4 send",
+        bad,
+        worlds::send(bad, 0, bad_send(11, 40, false)),
+    );
+    line(
+        b"order 2 3 4 ACK",
+        bad,
+        worlds::ack(bad, 0, calls::plain_ack(10, 0, 11, COUNTS)),
+    );
+    line(
+        b"order 2 3 4 NACK",
+        bad,
+        worlds::nack(bad, 0, calls::plain_nack(4, 256, 3)),
+    );
+    line(
+        b"order 2 3 4 loss",
+        bad,
+        worlds::loss(bad, 0, Loss { psn: 4, ev: 256 }),
+    );
+    line(b"order 2 3 path", bad, worlds::path(bad, 0));
+}
+
+// 3 before 4.
+fn times() {
+    let w = make::mixed();
+    line(b"order 3 4 new data", w, worlds::new_data(w, 0, 0));
+    line(
+        b"order 3 4 8 send",
+        w,
+        worlds::send(w, 0, bad_send(11, 40, false)),
+    );
+    line(
+        b"order 3 4 8 resend",
+        w,
+        worlds::send(w, 0, bad_send(5, 40, true)),
+    );
+    line(
+        b"order 3 4 9 ACK",
+        w,
+        worlds::ack(w, 0, calls::plain_ack(10, 0, 11, COUNTS)),
+    );
+    line(
+        b"order 3 4 10 NACK",
+        w,
+        worlds::nack(w, 0, calls::plain_nack(4, 256, 3)),
+    );
+    line(
+        b"order 3 4 10 loss",
+        w,
+        worlds::loss(w, 0, Loss { psn: 4, ev: 256 }),
+    );
+}
+
+// A send: 4, 8, 5, 7, 6.
+fn sends() {
+    let shut = make::with_closed_window(make::mixed());
+    let jam = make::with_closed_window(make::with_backlog(make::full(), 100));
+    line(
+        b"order 4 8 new packet",
+        shut,
+        calls::fresh_send(shut, 11, 40),
+    );
+    line(b"order 4 8 resend", shut, calls::resend(shut, 5, 40));
+    line(b"order 8 5 7 6", jam, calls::fresh_send(jam, 70, 101));
+    line(b"order 5 7 6", jam, calls::fresh_send(jam, 69, 101));
+    line(b"order 7 6", jam, calls::fresh_send(jam, 69, 100));
+    line(b"order 8 6 resend", shut, calls::resend(shut, 6, 201));
+    line(b"order 6 resend", shut, calls::resend(shut, 6, 200));
+}
+
+// An ACK: 4, 9, 11; NACK and loss: 4, 10, 11.
+fn feedback() {
+    let least = make::with_in_flight(make::mixed(), LEAST);
+    line(b"order 4 9 11", least, calls::ack(least, 10, 0, 11, 8));
+    line(b"order 9 11", least, calls::ack(least, 10, 0, 10, 8));
+    line(b"order 11 ACK", least, calls::ack(least, 9, 0, 9, 8));
+    line(b"order 4 10 NACK", least, calls::nack(least, 6, 0, 3));
+    line(b"order 10 NACK", least, calls::nack(least, 6, 0, 2));
+    line(b"order 4 11 NACK", least, calls::nack(least, 5, 256, 2));
+    line(b"order 11 NACK", least, calls::nack(least, 5, 0, 2));
+    line(b"order 4 10 loss", least, calls::loss(least, 6, 256));
+    line(b"order 10 loss", least, calls::loss(least, 6, 0));
+    line(b"order 11 loss", least, calls::loss(least, 5, 0));
+}
+
+pub(crate) fn run() {
+    unsound();
+    times();
+    sends();
+    feedback();
+}

@@ -1,0 +1,271 @@
+// Refusals 3 to 11, each at its edge: a call one step inside and one outside.
+use crate::calls;
+use crate::make;
+use crate::say;
+use crate::say::line;
+use crate::six;
+
+// 2^48, 2^30, 2^24, 2^23.
+const TIME_END: u64 = 1 << 48;
+
+const REACH: u32 = 1 << 30;
+
+const COUNTS: u32 = 1 << 24;
+
+const HALF: u32 = 1 << 23;
+
+// -2^24.
+const LEAST: i64 = -16777216;
+
+fn time_line(label: &[u8], time: u64) {
+    say::text(label);
+    say::text(b":");
+    six::at(make::mixed(), time);
+}
+
+// 3, for every event.
+fn times() {
+    time_line(b"3 time 0", 0);
+    time_line(b"3 time clock-1", make::CLOCK - 1);
+    time_line(b"3 time clock", make::CLOCK);
+    time_line(b"3 time 2^48-1", TIME_END - 1);
+    time_line(b"3 time 2^48", TIME_END);
+    time_line(b"3 time 2^64-1", u64::MAX);
+}
+
+// 4 on new data and on a send's size.
+fn data_and_sizes() {
+    let w = make::mixed();
+    line(b"4 new data 0", w, calls::data(w, 0));
+    line(b"4 new data 1", w, calls::data(w, 1));
+    line(b"4 new data sum 2^40", w, calls::data(w, 1099511619584));
+    line(b"4 new data sum 2^40+1", w, calls::data(w, 1099511619585));
+    line(b"4 new data 2^64-1", w, calls::data(w, u64::MAX));
+    line(b"4 new packet 0", w, calls::fresh_send(w, 10, 0));
+    line(b"4 new packet 40", w, calls::fresh_send(w, 10, 40));
+    line(b"4 new packet 41", w, calls::fresh_send(w, 10, 41));
+    line(b"4 new packet MTU", w, calls::fresh_send(w, 10, 4096));
+    line(b"4 new packet MTU+1", w, calls::fresh_send(w, 10, 4097));
+    line(
+        b"4 new packet 2^32-1",
+        w,
+        calls::fresh_send(w, 10, u32::MAX),
+    );
+    line(b"4 resend 40", w, calls::resend(w, 6, 40));
+    line(b"4 resend MTU+1", w, calls::resend(w, 6, 4097));
+}
+
+// 4 on counts, reasons and EVs.
+fn fields() {
+    let w = make::mixed();
+    line(b"4 count 2^24-1", w, calls::ack(w, 4, 0, 4, COUNTS - 1));
+    line(b"4 count 2^24", w, calls::ack(w, 4, 0, 4, COUNTS));
+    line(b"4 count 2^32-1", w, calls::ack(w, 4, 0, 4, u32::MAX));
+    line(b"4 reason 0", w, calls::nack(w, 5, 0, 0));
+    line(b"4 reason 1", w, calls::nack(w, 5, 0, 1));
+    line(b"4 reason 2", w, calls::nack(w, 5, 0, 2));
+    line(b"4 reason 3", w, calls::nack(w, 5, 0, 3));
+    line(b"4 reason 2^32-1", w, calls::nack(w, 5, 0, u32::MAX));
+    line(b"4 ACK EV 255", w, calls::ack_ev(w, 255));
+    line(b"4 ACK EV 256", w, calls::ack_ev(w, 256));
+    line(b"4 ACK EV 2^32-1", w, calls::ack_ev(w, u32::MAX));
+    line(b"4 NACK EV 255", w, calls::nack(w, 5, 255, 0));
+    line(b"4 NACK EV 256", w, calls::nack(w, 5, 256, 0));
+    line(b"4 NACK EV 2^32-1", w, calls::nack(w, 5, u32::MAX, 0));
+    line(b"4 loss EV 255", w, calls::loss(w, 5, 255));
+    line(b"4 loss EV 256", w, calls::loss(w, 5, 256));
+    line(b"4 loss EV 2^32-1", w, calls::loss(w, 5, u32::MAX));
+}
+
+// 4 on the trigger: covered by cum up to 2^30 back, or by its bit.
+fn triggers() {
+    let w = make::mixed();
+    let far = std::num::wrapping_sub_u32(5, REACH);
+    let farther = std::num::wrapping_sub_u32(4, REACH);
+    let f = make::full();
+    line(b"4 trigger cum", w, calls::ack(w, 5, 0, 5, 7));
+    line(b"4 trigger cum-2^30", w, calls::ack(w, 5, 0, far, 7));
+    line(b"4 trigger cum-2^30-1", w, calls::ack(w, 5, 0, farther, 7));
+    line(b"4 trigger cum+1, no bit", w, calls::ack(w, 5, 0, 6, 7));
+    line(b"4 trigger cum+1, bit 0", w, calls::ack(w, 5, 1, 6, 7));
+    line(b"4 trigger cum+2, bit 0", w, calls::ack(w, 5, 1, 7, 7));
+    line(b"4 trigger cum+4, bit 3", w, calls::ack(w, 5, 8, 9, 7));
+    line(
+        b"4 trigger cum+64, bit 63",
+        f,
+        calls::ack(f, 4, 1 << 63, 68, 7),
+    );
+    line(
+        b"4 trigger cum+64, all but bit 63",
+        f,
+        calls::ack(f, 4, (1 << 63) - 1, 68, 7),
+    );
+    line(
+        b"4 trigger cum+65, all bits",
+        f,
+        calls::ack(f, 4, u64::MAX, 69, 7),
+    );
+}
+
+// 5 and 6.
+fn windows() {
+    let w = make::with_backlog(make::mixed(), 100);
+    let open = make::with_in_flight(make::mixed(), 610304);
+    let shut = make::with_closed_window(make::mixed());
+    line(b"5 backlog", w, calls::fresh_send(w, 10, 100));
+    line(b"5 backlog+1", w, calls::fresh_send(w, 10, 101));
+    line(
+        b"6 new packet at in-flight 610304",
+        open,
+        calls::fresh_send(open, 10, 41),
+    );
+    line(
+        b"6 new packet at in-flight 610305",
+        shut,
+        calls::fresh_send(shut, 10, 41),
+    );
+    line(
+        b"6 resend at in-flight 610304",
+        open,
+        calls::resend(open, 6, 200),
+    );
+    line(
+        b"6 resend at in-flight 610305",
+        shut,
+        calls::resend(shut, 6, 200),
+    );
+}
+
+// 7: a resend needs no slot.
+fn rings() {
+    let spare = make::nearly_full();
+    let packed = make::full();
+    line(
+        b"7 new packet at 63 of 64",
+        spare,
+        calls::fresh_send(spare, 68, 41),
+    );
+    line(
+        b"7 new packet at 64 of 64",
+        packed,
+        calls::fresh_send(packed, 69, 41),
+    );
+    let lost = calls::loss(packed, 6, 0);
+    line(b"7 loss at 64 of 64", packed, lost);
+    line(b"7 resend at 64 of 64", lost, calls::resend(lost, 6, 41));
+}
+
+// 8, on new packets and on resends.
+fn sends() {
+    let w = make::mixed();
+    line(b"8 new packet next", w, calls::fresh_send(w, 10, 41));
+    line(b"8 new packet next+1", w, calls::fresh_send(w, 11, 41));
+    line(b"8 new packet next-1", w, calls::fresh_send(w, 9, 41));
+    line(b"8 new packet next+64", w, calls::fresh_send(w, 74, 41));
+    line(b"8 new packet marked", w, calls::fresh_send(w, 6, 200));
+    line(b"8 resend marked", w, calls::resend(w, 6, 200));
+    line(b"8 resend marked, size-1", w, calls::resend(w, 6, 199));
+    line(b"8 resend marked, size+1", w, calls::resend(w, 6, 201));
+    line(b"8 resend flying", w, calls::resend(w, 5, 1024));
+    line(b"8 resend done", w, calls::resend(w, 7, 300));
+    line(b"8 resend low-1", w, calls::resend(w, 4, 200));
+    line(b"8 resend next", w, calls::resend(w, 10, 200));
+    line(b"8 resend marked+64", w, calls::resend(w, 70, 200));
+    line(b"8 resend marked-64", w, calls::resend(w, 4294967238, 200));
+}
+
+// 9: the highest bit against back, and how far back cum may be.
+fn acks() {
+    let w = make::mixed();
+    let old = std::num::wrapping_sub_u32(9, REACH);
+    let older = std::num::wrapping_sub_u32(8, REACH);
+    let f = make::full();
+    line(b"9 cum 5, bits 1 and 3", w, calls::ack(w, 5, 10, 5, 7));
+    line(b"9 cum 5, bit 4", w, calls::ack(w, 5, 16, 5, 7));
+    line(b"9 cum 5, bits 0 and 4", w, calls::ack(w, 5, 17, 5, 7));
+    line(
+        b"9 cum 4, bit 63 at back 64",
+        f,
+        calls::ack(f, 4, 1 << 63, 4, 7),
+    );
+    line(
+        b"9 cum 5, bit 63 at back 63",
+        f,
+        calls::ack(f, 5, 1 << 63, 5, 7),
+    );
+    line(b"9 cum next-1", w, calls::ack(w, 9, 0, 9, 7));
+    line(b"9 cum next-1, bit 0", w, calls::ack(w, 9, 1, 9, 7));
+    line(b"9 cum next", w, calls::ack(w, 10, 0, 10, 7));
+    line(
+        b"9 cum next+2^31",
+        w,
+        calls::ack(w, 2147483658, 0, 2147483658, 7),
+    );
+    line(b"9 back 2^30", w, calls::ack(w, old, 0, old, 7));
+    line(b"9 back 2^30+1", w, calls::ack(w, older, 0, older, 7));
+}
+
+// 10, of a NACK and of a loss.
+fn marks() {
+    let w = make::mixed();
+    line(b"10 NACK flying", w, calls::nack(w, 8, 0, 2));
+    line(b"10 NACK marked", w, calls::nack(w, 6, 0, 2));
+    line(b"10 NACK done", w, calls::nack(w, 7, 0, 2));
+    line(b"10 NACK low-1", w, calls::nack(w, 4, 0, 2));
+    line(b"10 NACK next", w, calls::nack(w, 10, 0, 2));
+    line(b"10 NACK flying+64", w, calls::nack(w, 72, 0, 2));
+    line(b"10 loss flying", w, calls::loss(w, 9, 0));
+    line(b"10 loss marked", w, calls::loss(w, 6, 0));
+    line(b"10 loss done", w, calls::loss(w, 7, 0));
+    line(b"10 loss low-1", w, calls::loss(w, 4, 0));
+    line(b"10 loss next", w, calls::loss(w, 10, 0));
+    line(b"10 loss flying-64", w, calls::loss(w, 4294967240, 0));
+}
+
+// 11: in-flight may reach -2^24 and not pass it. The held count is 7.
+fn sinks() {
+    let unit = make::with_in_flight(make::mixed(), LEAST + 256);
+    let less = make::with_in_flight(make::mixed(), LEAST + 255);
+    let least = make::with_in_flight(make::mixed(), LEAST);
+    let packet = make::with_in_flight(make::mixed(), LEAST + 1024);
+    let short = make::with_in_flight(make::mixed(), LEAST + 1023);
+    line(b"11 ACK to -2^24", unit, calls::ack(unit, 4, 0, 4, 8));
+    line(b"11 ACK to -2^24-1", less, calls::ack(less, 4, 0, 4, 8));
+    line(
+        b"11 equal count at -2^24",
+        least,
+        calls::ack(least, 4, 0, 4, 7),
+    );
+    line(
+        b"11 count 2^23-1 ahead at -2^24",
+        least,
+        calls::ack(least, 4, 0, 4, HALF + 6),
+    );
+    line(
+        b"11 count 2^23 ahead, old, at -2^24",
+        least,
+        calls::ack(least, 4, 0, 4, HALF + 7),
+    );
+    line(
+        b"11 count 1 behind, old, at -2^24",
+        least,
+        calls::ack(least, 4, 0, 4, 6),
+    );
+    line(b"11 NACK to -2^24", packet, calls::nack(packet, 5, 0, 2));
+    line(b"11 NACK to -2^24-1", short, calls::nack(short, 5, 0, 2));
+    line(b"11 loss to -2^24", packet, calls::loss(packet, 5, 0));
+    line(b"11 loss to -2^24-1", short, calls::loss(short, 5, 0));
+}
+
+pub(crate) fn run() {
+    times();
+    data_and_sizes();
+    fields();
+    triggers();
+    windows();
+    rings();
+    sends();
+    acks();
+    marks();
+    sinks();
+}

@@ -1,0 +1,52 @@
+// What the program writes.
+use crate::same::same_world;
+use crate::worlds::World;
+use sender::Phase;
+
+pub(crate) fn text(t: &[u8]) {
+    io::write_all(libc::STDOUT_FILENO, t);
+}
+
+pub(crate) fn number(n: u64) {
+    io::print_decimal(libc::STDOUT_FILENO, n);
+}
+
+// A space and a number.
+pub(crate) fn also(n: u64) {
+    text(b" ");
+    number(n);
+}
+
+pub(crate) fn word_of(phase: Phase) {
+    match phase {
+        Phase::Idle => text(b" IDLE"),
+        Phase::Pending => text(b" PENDING"),
+        Phase::Ready => text(b" READY"),
+        Phase::Active => text(b" ACTIVE"),
+    }
+}
+
+// The number that a call answered; where it is a refusal, whether state and lent memory are as they were.
+pub(crate) fn report(number: u64, same: bool) {
+    also(number);
+    if number == 0 {
+        return;
+    }
+    if same {
+        text(b" same");
+        return;
+    }
+    text(b" CHANGED");
+}
+
+pub(crate) fn answer(before: World, after: World) {
+    report(after.number, same_world(before, after));
+}
+
+// One case a line.
+pub(crate) fn line(label: &[u8], before: World, after: World) {
+    text(label);
+    text(b":");
+    answer(before, after);
+    text(b"\n");
+}
