@@ -1,0 +1,2 @@
+-- What the contracts of `little` cite.
+pub mod Little
