@@ -1,7 +1,8 @@
 -- Every statement of specs/Demands with its proof, in the order of the statements.
 -- Assumes nothing.
 use mathlib.Core.Logic.{⊎-elim}
-use Rattle.sender.proofs.Refusals.{new-data-exact, send-exact, ack-exact, nack-exact, loss-exact, path-exact, set-up-exact, permitted-new, permitted-resend}
+use Rattle.sender.proofs.Refusals.{new-data-exact, send-exact, ack-exact, nack-exact, loss-exact, path-exact, permitted-new, permitted-resend}
+use Rattle.sender.proofs.Refusals as refusals
 use Rattle.demands.specs.Events.{newData, send, ack, nack, loss, path}
 use Rattle.demands.specs.Demands as demand
 use Rattle.demands.proofs.Runs as runs
@@ -19,8 +20,8 @@ number-exact (nack time a) w = nack-exact time w a
 number-exact (loss time a) w = loss-exact time w a
 number-exact (path time) w = path-exact time w
 
-pub set-up-number : demand.SetUpExact
-set-up-number = set-up-exact
+pub set-up-exact : demand.SetUpExact
+set-up-exact = refusals.set-up-exact
 
 pub refused-same : demand.RefusedSame
 refused-same = runs.refused-same
