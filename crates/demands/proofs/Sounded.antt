@@ -1,5 +1,6 @@
--- `always-sound`: after any list of events from an accepted set-up, state and buffers pass the full test of number 2; low and next stay PSNs of the
--- machine's width (`run-holds`). By induction over the events: an accepted one keeps both (the sender's ..-kept laws), a refused one changes nothing.
+-- `always-sound`: after any list of events from an accepted set-up, state and buffers pass the full test of number 2, by induction over the events:
+-- each leaves a sound world sound, whatever it answers (the sender's ..-lasts laws). Besides, low and next stay PSNs of the machine's width
+-- (`answer-holds`): an accepted event keeps both, a refused one changes nothing.
 -- Assumes nothing.
 use mathlib.Core.Path.{_≡_, sym, subst}
 use mathlib.Core.Bool.{true}
@@ -21,7 +22,20 @@ use Rattle.sender.specs.Sound.{sound}
 use Rattle.sender.specs.Start.{freshState}
 use Rattle.sender.proofs.Sounds.{sound-facts}
 use Rattle.sender.proofs.Starts.{set-up-fresh, set-up-sound}
-use Rattle.sender.proofs.Kept.{new-data-kept, send-kept, ack-kept, nack-kept, loss-kept, path-kept}
+use Rattle.sender.proofs.Kept.{
+  new-data-kept,
+  send-kept,
+  ack-kept,
+  nack-kept,
+  loss-kept,
+  path-kept,
+  new-data-lasts,
+  send-lasts,
+  ack-lasts,
+  nack-lasts,
+  loss-lasts,
+  path-lasts,
+}
 use Rattle.demands.specs.Events.{Event, newData, send, ack, nack, loss, path, answer, run, SetUp}
 use Rattle.demands.specs.Demands.{AlwaysSound}
 use Rattle.demands.proofs.Runs.{rowsOf, stepOf, ledgerStep, step-ledger, accepted, refused-same}
@@ -37,13 +51,13 @@ holds-facts {w} H = coherent-facts _ _ _ (ledgerOf w) (sound-facts w (H .sound-s
 
 -- ---- an accepted event
 
-step-sound : (e : Event) (w : World) → Holds w → firstOf (rowsOf e w) ≡ 0 → sound (stepOf e w) ≡ true
-step-sound (newData time bytes) w H rows = new-data-kept time bytes w (H .sound-so) rows
-step-sound (send time a) w H rows = send-kept time a w (H .sound-so) rows (H .next-fits)
-step-sound (ack time a) w H rows = ack-kept time a w (H .sound-so) rows (H .low-fits) (H .next-fits)
-step-sound (nack time a) w H rows = nack-kept time a w (H .sound-so) rows
-step-sound (loss time a) w H rows = loss-kept time a w (H .sound-so) rows
-step-sound (path time) w H rows = path-kept time w (H .sound-so) rows
+step-sound : (e : Event) (w : World) → sound w ≡ true → firstOf (rowsOf e w) ≡ 0 → sound (stepOf e w) ≡ true
+step-sound (newData time bytes) w = new-data-kept time bytes w
+step-sound (send time a) w = send-kept time a w
+step-sound (ack time a) w = ack-kept time a w
+step-sound (nack time a) w = nack-kept time a w
+step-sound (loss time a) w = loss-kept time a w
+step-sound (path time) w = path-kept time w
 
 -- low and next are PSNs
 abbrev Fit : Ledger → Type 0
@@ -62,9 +76,9 @@ step-fit (path time) l f = f
 pub step-holds : (e : Event) (w : World) → Holds w → firstOf (rowsOf e w) ≡ 0 → Holds (stepOf e w)
 step-holds e w H rows =
     let f : Fit (ledgerOf (stepOf e w)) = subst Fit (sym (step-ledger e w)) (step-fit e (ledgerOf w) (H .low-fits, H .next-fits)) in
-    record { sound-so = step-sound e w H rows; low-fits = f .0; next-fits = f .1 }
+    record { sound-so = step-sound e w (H .sound-so) rows; low-fits = f .0; next-fits = f .1 }
 
--- ---- a run
+-- ---- an event, whatever it answers
 
 pub answer-holds : (e : Event) (w : World) → Holds w → Holds (answer e w .after)
 answer-holds e w H =
@@ -72,9 +86,19 @@ answer-holds e w H =
     (λ n. let A = accepted e w n in rw (A .leaves) (step-holds e w H (A .none-refuses)))
     (λ n. rw (refused-same e w n) H)
 
-pub run-holds : (es : List Event) (w : World) → Holds w → Holds (run w es)
-run-holds [] w H = H
-run-holds (e ∷ es) w H = run-holds es (answer e w .after) (answer-holds e w H)
+answer-sound : (e : Event) (w : World) → sound w ≡ true → sound (answer e w .after) ≡ true
+answer-sound (newData time bytes) w = new-data-lasts time bytes w
+answer-sound (send time a) w = send-lasts time a w
+answer-sound (ack time a) w = ack-lasts time a w
+answer-sound (nack time a) w = nack-lasts time a w
+answer-sound (loss time a) w = loss-lasts time a w
+answer-sound (path time) w = path-lasts time w
+
+-- ---- a run
+
+run-sound : (es : List Event) (w : World) → sound w ≡ true → sound (run w es) ≡ true
+run-sound [] w h = h
+run-sound (e ∷ es) w h = run-sound es (answer e w .after) (answer-sound e w h)
 
 pub set-up-holds : {s : Settings} {r : Ring} {times : List ℕ} {w : World} → SetUp s r times w → Holds w
 unfolding freshState
@@ -88,4 +112,4 @@ set-up-holds {s} {r} {times} {w} U =
 
 -- DEMAND 2: state and buffers hold together for ever
 pub always-sound : AlwaysSound
-always-sound s r times w es U = run-holds es w (set-up-holds U) .sound-so
+always-sound s r times w es U = run-sound es w (set-up-holds U .sound-so)

@@ -14,7 +14,7 @@ use mir.Syntax.{w64}
 use mir.Val.{toZ, ofZ}
 use Rattle.decide.specs.Branch.{so-both}
 use Rattle.decide.specs.Rows.{firstOf}
-use Rattle.serial.specs.Psn.{psns, plus, covered, backOf, spanOf}
+use Rattle.serial.specs.Psn.{plus, covered, backOf, spanOf}
 use Rattle.serial.specs.Count.{counts, isOld}
 use Rattle.serial.proofs.Cover.{minus-step, sent-facts, beyond}
 use Rattle.ledger.specs.Packets.{doneStatus, none, withStatus, isOut, flyingOne, markedOne, markedSize, sumOf, coverOne, coverAll, coveredSum, doneRun}
@@ -29,7 +29,7 @@ use Rattle.ledger.specs.declared.Totals.{Totals}
 use Rattle.ledger.specs.declared.Packet.{Packet}
 use Rattle.ledger.proofs.Geometry.{cap-facts, laid-cap, laid-even, queue-laid}
 use Rattle.ledger.proofs.Facts.{Live, live-later, Facts, packets-long, stands-facts, stands-laid, packets-laid, tallies-facts, tallies-test, coherent-parts, coherent-whole, coheres-facts}
-use Rattle.ledger.proofs.Queues.{OfOut, flying-out, marked-out, bytes-out, cover-long, cover-at, cover-sum, run-adds, run-le, run-next}
+use Rattle.ledger.proofs.Queues.{OfOut, flying-out, marked-out, bytes-out, cover-long, cover-each, cover-sum, run-adds, run-le, run-next}
 use Rattle.ledger.proofs.Signs.{word, flown-word, flown-less, coheres-flown}
 use Rattle.ledger.proofs.Judging.{ack-facts}
 
@@ -147,7 +147,7 @@ held-lt : (count held : ℕ) → count < counts → held < counts → heldOf cou
 unfolding heldOf
 held-lt count held c h = so-both (λ (x : ℕ). x < counts) (isOld count held) held count (λ e. h) (λ e. c)
 
-module _ (cum map count mtu clock : ℕ) (l : Ledger) (e : stands mtu clock (l .flow) (l .slots) ≡ true) (b : l .flow .low < psns) where
+module _ (cum map count mtu clock : ℕ) (l : Ledger) (e : stands mtu clock (l .flow) (l .slots) ≡ true) where
   S : Facts mtu clock (l .flow) (l .slots)
   S = stands-facts mtu clock (l .flow) (l .slots) e
 
@@ -179,9 +179,9 @@ module _ (cum map count mtu clock : ℕ) (l : Ledger) (e : stands mtu clock (l .
       stands-laid (capOf (l .slots)) (ackedOf cum map count l .flow) (drop (doneRun ys) ys) (S .cap) mtu time
       (omega (arith, left-long, S .fits))
       (λ k h.
-      let i : doneRun ys + k < longOf (l .flow) = omega (arith, left-long) in
-      rw (left-at k, cover-at (covered cum map) (l .flow .low) (doneRun ys + k) xs b (omega (arith, packets-long (l .flow) (l .slots))))
-      (cover-live (covered cum map (plus (l .flow .low) (doneRun ys + k))) (live-later ht (S .live (doneRun ys + k) i))))
+      rw (left-at k)
+      (cover-each (covered cum map) (Live mtu time) (λ hit x. cover-live hit) (l .flow .low) (doneRun ys + k) xs
+      (live-later ht (S .live (doneRun ys + k) (omega (arith, left-long))))))
       (λ h. rw (left-at 0, add-zero (doneRun ys)) (run-next ys (omega (arith, left-long, ys-long))))
       counts-left
       (held-lt count (l .flow .held) hc (S .held))
@@ -198,16 +198,16 @@ module _ (cum map count mtu clock : ℕ) (l : Ledger) (e : stands mtu clock (l .
       (omega (arith, run-adds adds z ys, cover-sum adds z (covered cum map) (l .flow .low) xs))
 
 -- the whole ledger
-pub ack-keeps : (cum map count mtu maxwnd clock time : ℕ) (l : Ledger) → coherent mtu maxwnd clock l ≡ true → l .flow .low < psns → l .flow .next < psns
+pub ack-keeps : (cum map count mtu maxwnd clock time : ℕ) (l : Ledger) → coherent mtu maxwnd clock l ≡ true
     → count < counts → firstOf (ackRows (l .flow) (l .totals .«in_flight») cum map count) ≡ 0 → clock ≤ time
     → coherent mtu maxwnd time (ackedOf cum map count l) ≡ true
 unfolding ackedOf
-ack-keeps cum map count mtu maxwnd clock time l co hl hn hc none-refuses ht =
+ack-keeps cum map count mtu maxwnd clock time l co hc none-refuses ht =
     let p = coherent-parts mtu maxwnd clock l co in
     let T = tallies-facts maxwnd (l .totals) (packets (l .flow) (l .slots)) (p .1) in
-    let left = acked-sum cum map count mtu clock l (p .0) hl in
+    let left = acked-sum cum map count mtu clock l (p .0) in
     let m = ackedOf cum map count l in
-    coherent-whole mtu maxwnd time m (acked-stands cum map count mtu clock l (p .0) hl time hc ht)
+    coherent-whole mtu maxwnd time m (acked-stands cum map count mtu clock l (p .0) time hc ht)
     (tallies-test maxwnd (m .totals) (packets (m .flow) (m .slots))
     (omega (arith, T .0, left flyingOne flying-out))
     (omega (arith, T .1, left markedOne marked-out))

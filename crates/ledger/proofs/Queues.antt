@@ -93,6 +93,14 @@ module _ (cov : ℕ → Bool) where
   cover-at p (suc k) (x ∷ xs) b h =
       cover-at (plus p 1) k xs (plus-lt p 1) (le-of-suc-le-suc h) ∙ ap (λ (q : ℕ). coverOne (cov q) (getD xs k none)) (plus-next p k)
 
+  -- what covering keeps of one packet, it keeps of each
+  pub cover-each : (P : Packet → Type 0) → ((hit : Bool) (x : Packet) → P x → P (coverOne hit x)) → (p k : ℕ) (xs : List Packet)
+      → P (getD xs k none) → P (getD (coverAll cov p xs) k none)
+  unfolding coverAll
+  cover-each P f p k [] h = h
+  cover-each P f p zero (x ∷ xs) h = f (cov p) x h
+  cover-each P f p (suc k) (x ∷ xs) h = cover-each P f (plus p 1) k xs h
+
   -- the first k packets covered, and the others as they are
   unfoldable pub coverTo : ℕ → ℕ → List Packet → List Packet
   coverTo p zero xs = xs

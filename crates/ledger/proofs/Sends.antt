@@ -5,7 +5,7 @@ use mathlib.Core.Path.{_≡_, refl, sym, ap, _∙_, subst}
 use mathlib.Core.Bool.{true, false}
 use mathlib.Core.Logic.{by-cases}
 use mathlib.Core.List.{List, [], _∷_, _++_}
-use Prim.Native.Nat.{ℕ, _+_, _-_, _%_, _^_, _≤_, _<_, min}
+use Prim.Native.Nat.{ℕ, _+_, _-_, _/_, _%_, _^_, _≤_, _<_, min}
 use native.Mathlib.Decide.{ℕ-discrete, decLt}
 use native.Mathlib.Omega.{arith}
 use lib.IntN.{ℤ, pos, _+ℤ_}
@@ -17,7 +17,7 @@ use Rattle.decide.specs.Branch.{ifEq}
 use Rattle.decide.specs.Rows.{firstOf}
 use Rattle.serial.specs.Wrap.{minus}
 use Rattle.serial.specs.Psn.{psns, plus}
-use Rattle.serial.proofs.Cover.{plus-plus, plus-minus, minus-plus}
+use Rattle.serial.proofs.Wraps.{minus-is, laps, minus-turns}
 use Rattle.ledger.specs.declared.Flow.{Flow}
 use Rattle.ledger.specs.declared.Totals.{Totals}
 use Rattle.ledger.specs.declared.Packet.{Packet}
@@ -188,13 +188,14 @@ new-room mtu clock f r F psn size e =
     (n .1, by-cases (decLt (longOf f) (capOf r)) (λ l. l) (λ g. absurd (n .2 (omega (arith, F .fits)))))
 
 -- one PSN more
-long-more : (low next : ℕ) → next < psns → minus psns next low < 4096 → minus psns (plus next 1) low ≡ minus psns next low + 1
-long-more low next h few =
-    ap (λ (p : ℕ). minus psns (plus p 1) low) (sym (plus-minus low next h))
-    ∙ ap (λ (p : ℕ). minus psns p low) (plus-plus low (minus psns next low) 1)
-    ∙ minus-plus low (minus psns next low + 1) (omega arith)
+long-more : (low next : ℕ) → minus psns next low < 4096 → minus psns (plus next 1) low ≡ minus psns next low + 1
+unfolding plus
+long-more low next few =
+    sym
+    (minus-is psns (minus psns next low + 1) (plus next 1) low (laps psns next low) ((next + 1) / psns + low / psns + 1) (omega arith)
+    (omega (arith, minus-turns psns next low (omega arith))))
 
-module _ (mtu clock : ℕ) (f : Flow) (r : Ring) (F : Facts mtu clock f r) (fits : f .next < psns) (room : longOf f < capOf r) where
+module _ (mtu clock : ℕ) (f : Flow) (r : Ring) (F : Facts mtu clock f r) (room : longOf f < capOf r) where
   -- the flow, one packet longer
   abbrev longer : ℕ → Flow
   longer size = record { low = f .low; next = plus (f .next) 1; held = f .held; backlog = f .backlog - size }
@@ -202,12 +203,12 @@ module _ (mtu clock : ℕ) (f : Flow) (r : Ring) (F : Facts mtu clock f r) (fits
   longer-long : (size : ℕ) (x : Packet) → longOf (longer size) ≡ length (packets f r ++ (x ∷ []))
   unfolding longOf
   longer-long size x =
-      long-more (f .low) (f .next) fits (omega (arith, F .even .few, room)) ∙ omega (arith, packets-long f r, length-append (packets f r) (x ∷ []))
+      long-more (f .low) (f .next) (omega (arith, F .even .few, room)) ∙ omega (arith, packets-long f r, length-append (packets f r) (x ∷ []))
 
   -- the slot of next overwritten
-  pub put-behind : (i : ℕ) → i ≡ f .next % capOf r → (x : Packet) → putAt r i x ≡ laid (capOf r) (f .low) (packets f r ++ (x ∷ []))
+  pub put-behind : f .next < psns → (i : ℕ) → i ≡ f .next % capOf r → (x : Packet) → putAt r i x ≡ laid (capOf r) (f .low) (packets f r ++ (x ∷ []))
   unfolding longOf
-  put-behind i e x =
+  put-behind fits i e x =
       let here : i ≡ placeOf (capOf r) (f .low) (length (packets f r)) =
       e ∙ sym (place-psn (capOf r) (f .low) (f .next) fits) ∙ ap (placeOf (capOf r) (f .low)) (sym (packets-long f r)) in
       ap (λ (s : Ring). putAt s i x) (F .laid-so)
@@ -215,13 +216,13 @@ module _ (mtu clock : ℕ) (f : Flow) (r : Ring) (F : Facts mtu clock f r) (fits
       ∙ laid-snoc (capOf r) (cap-facts (capOf r) (F .cap)) (f .low) (packets f r) x (omega (arith, packets-long f r, room))
 
   -- what the code leaves
-  pub push-is : (t : Totals) (time size i next : ℕ) (z : ℤ) (s : Ring) → i ≡ f .next % capOf r → next ≡ plus (f .next) 1
+  pub push-is : f .next < psns → (t : Totals) (time size i next : ℕ) (z : ℤ) (s : Ring) → i ≡ f .next % capOf r → next ≡ plus (f .next) 1
       → z ≡ t .«in_flight» +ℤ pos size → s ≡ putAt r i (newPacket time size)
       → ledger (record { low = f .low; next = next; held = f .held; backlog = f .backlog - size })
       (record { flying = t .flying + 1; marked = t .marked; «marked_bytes» = t .«marked_bytes»; «in_flight» = z }) s
       ≡ pushedOf time size (ledger f t r)
   unfolding pushedOf
-  push-is t time size i next z s ei en ez es = rw (en, ez, es, put-behind i ei (newPacket time size))
+  push-is fits t time size i next z s ei en ez es = rw (en, ez, es, put-behind fits i ei (newPacket time size))
 
   -- the packets of the longer flow
   longer-packets : (size : ℕ) (x : Packet) → packets (longer size) (laid (capOf r) (f .low) (packets f r ++ (x ∷ []))) ≡ packets f r ++ (x ∷ [])
@@ -257,10 +258,10 @@ module _ (mtu clock : ℕ) (f : Flow) (r : Ring) (F : Facts mtu clock f r) (fits
 
 pub push-keeps : (mtu maxwnd clock time psn size : ℕ) (l : Ledger) → coherent mtu maxwnd clock l ≡ true
     → firstOf (newRows (l .flow) (capOf (l .slots)) psn size) ≡ 0 → clock ≤ time → sizeLeast ≤ size → size ≤ mtu
-    → leZ (l .totals .«in_flight» +ℤ pos mtu) (pos maxwnd) ≡ true → l .flow .next < psns
+    → leZ (l .totals .«in_flight» +ℤ pos mtu) (pos maxwnd) ≡ true
     → coherent mtu maxwnd time (pushedOf time size l) ≡ true
 unfolding pushedOf isDone
-push-keeps mtu maxwnd clock time psn size l co rows later least most under fits =
+push-keeps mtu maxwnd clock time psn size l co rows later least most under =
     let f = l .flow in
     let r = l .slots in
     let p = coherent-parts mtu maxwnd clock l co in
@@ -278,8 +279,8 @@ push-keeps mtu maxwnd clock time psn size l co rows later least most under fits 
       sent-most = omega arith;
       resent-most = omega arith;
     } in
-    let sum = push-sum mtu clock f r F fits room size x in
-    coherent-whole mtu maxwnd time (pushedOf time size l) (push-stands mtu clock f r F fits room time size x later live refl)
+    let sum = push-sum mtu clock f r F room size x in
+    coherent-whole mtu maxwnd time (pushedOf time size l) (push-stands mtu clock f r F room time size x later live refl)
     (tallies-test maxwnd (pushedOf time size l .totals) (packets (pushedOf time size l .flow) (pushedOf time size l .slots))
     (omega (arith, sum flyingOne, a .0, T .0))
     (omega (arith, sum markedOne, a .1, T .1))

@@ -1,13 +1,15 @@
--- Each accepted event keeps state and buffers together: a sound world, stepped by an event that no row refuses, is sound. From what the ledger's
--- step and the window's rules keep (Stepping) and what makes a world sound (Sounds). The widths are those of the machine's PSNs.
+-- Each event keeps state and buffers together: a sound world, stepped by an event that no row refuses, is sound (..-kept), and so what an event
+-- leaves of a sound world is sound whatever it answers (..-lasts). From what the ledger's step and the window's rules keep (Stepping) and what makes
+-- a world sound (Sounds).
 -- Assumes nothing.
-use mathlib.Core.Path.{_≡_, refl}
-use mathlib.Core.Bool.{Bool, true, _||_}
-use Prim.Native.Nat.{ℕ, _<_}
+use mathlib.Core.Path.{_≡_, refl, ap, _∙_}
+use mathlib.Core.Bool.{Bool, true, not, _||_}
+use mathlib.Core.List.{List}
+use Prim.Native.Nat.{ℕ}
 use native.Mathlib.Omega.{arith}
 use lib.Dec.{eqb}
-use Rattle.decide.specs.Rows.{firstOf}
-use Rattle.serial.specs.Psn.{psns}
+use Rattle.decide.specs.Branch.{ifEq, eq-both}
+use Rattle.decide.specs.Rows.{Row, firstOf, first-later}
 use Rattle.window.specs.Held.{Held}
 use Rattle.window.specs.declared.Window.{Window}
 use Rattle.window.proofs.Tests.{sample-held}
@@ -15,10 +17,11 @@ use Rattle.window.proofs.Keeps.{held-ack, held-nack, held-loss}
 use Rattle.ledger.specs.Packets.{isOut}
 use Rattle.ledger.specs.Ring.{Ledger, packetOf}
 use Rattle.ledger.specs.Steps.{suppliedOf, newlyOf}
-use Rattle.sender.specs.World.{World}
+use Rattle.sender.specs.World.{World, Answered, Routing}
 use Rattle.sender.specs.Sound.{sound}
-use Rattle.sender.specs.Rows.{newDataRows, sendAllRows, ackAllRows, nackAllRows, lossAllRows, pathRows}
+use Rattle.sender.specs.Rows.{withSound, newDataRows, sendAllRows, ackAllRows, nackAllRows, lossAllRows, pathRows}
 use Rattle.sender.specs.Steps.{settled, avoidedIn, newDataState, newDataStep, sendStep, ackSample, ackStep, nackSample, nackStep, lossStep, routeOf, pathState, pathStep}
+use Rattle.sender.specs.Events.{decided, onNewData, onSend, onAck, onNack, onLoss, onPath}
 use Rattle.sender.specs.declared.Send.{Send}
 use Rattle.sender.specs.declared.Ack.{Ack}
 use Rattle.sender.specs.declared.Nack.{Nack}
@@ -48,20 +51,20 @@ new-data-kept time bytes w e rows =
     (R .range) (R .held) (R .coheres) (R .early) (S .times-long) (S .times-ok) (S .cursor-ok)
 
 pub send-kept : (time : ℕ) (a : Send) (w : World) → sound w ≡ true → firstOf (sendAllRows time a (w .state) (w .slots)) ≡ 0
-    → w .state .flow .next < psns → sound (sendStep time a w) ≡ true
+    → sound (sendStep time a w) ≡ true
 unfolding sendStep
-send-kept time a w e rows fits =
+send-kept time a w e rows =
     let S = sound-facts w e in
-    let R = send-ready S (send-facts time a (w .state) (w .slots) rows) fits in
+    let R = send-ready S (send-facts time a (w .state) (w .slots) rows) in
     settled-sound time (w .state) _ (w .state .window) (w .times) (R .range) (R .held) (R .coheres) (R .early) (S .times-long) (S .times-ok) (S .cursor-ok)
 
 pub ack-kept : (time : ℕ) (a : Ack) (w : World) → sound w ≡ true → firstOf (ackAllRows time a (w .state)) ≡ 0
-    → w .state .flow .low < psns → w .state .flow .next < psns → sound (ackStep time a w) ≡ true
+    → sound (ackStep time a w) ≡ true
 unfolding ackStep ackSample
-ack-kept time a w e rows low next =
+ack-kept time a w e rows =
     let c = w .state in
     let S = sound-facts w e in
-    let R = ack-ready S (ack-facts time a c rows) low next in
+    let R = ack-ready S (ack-facts time a c rows) in
     let x = packetOf (c .flow) (w .slots) (a .trigger) in
     kept-of S R
     (held-ack (R .range) _ (R .early) (R .flown .high) (newlyOf (a .count) (c .flow .held)) (a .marked)
@@ -99,3 +102,42 @@ path-kept time w e rows =
     stated-sound (c .settings) (c .flow) (c .totals) (c .window) time (routeOf time w .cursor) (w .slots) (w .times)
     (R .range) (R .held) (R .coheres) (R .early) (S .times-long) (S .times-ok)
     (taken-inside time (c .cursor) (w .times) {x = routeOf time w} refl (S .times-long) (S .cursor-ok) .1)
+
+-- ---- whatever is answered
+
+-- of two answers by the rows' number, the one leaves a sound world where no row refuses, the other the world as it was
+lasts : {A : Type 0} (leaves : A → World) (w : World) (xs : List Row) (done refused : A) → sound w ≡ true → (firstOf xs ≡ 0 → sound (leaves done) ≡ true)
+    → leaves refused ≡ w → sound (leaves (ifEq (firstOf (withSound w xs)) 0 done refused)) ≡ true
+lasts {A} leaves w xs done refused e kept same =
+    eq-both (λ (a : A). sound (leaves a) ≡ true) (firstOf (withSound w xs)) 0 done refused
+    (λ z. kept (first-later (firstOf xs) 2 (not (sound w)) xs (ap not e) refl ∙ z))
+    (λ z. ap sound same ∙ e)
+
+decided-lasts : (w after : World) (xs : List Row) → sound w ≡ true → (firstOf xs ≡ 0 → sound after ≡ true)
+    → sound (decided (firstOf (withSound w xs)) w after .after) ≡ true
+unfolding decided
+decided-lasts w after xs e kept = lasts (λ (a : Answered). a .after) w xs _ _ e kept refl
+
+pub new-data-lasts : (time bytes : ℕ) (w : World) → sound w ≡ true → sound (onNewData time bytes w .after) ≡ true
+unfolding onNewData
+new-data-lasts time bytes w e = decided-lasts w _ _ e (new-data-kept time bytes w e)
+
+pub send-lasts : (time : ℕ) (a : Send) (w : World) → sound w ≡ true → sound (onSend time a w .after) ≡ true
+unfolding onSend
+send-lasts time a w e = decided-lasts w _ _ e (send-kept time a w e)
+
+pub ack-lasts : (time : ℕ) (a : Ack) (w : World) → sound w ≡ true → sound (onAck time a w .after) ≡ true
+unfolding onAck
+ack-lasts time a w e = decided-lasts w _ _ e (ack-kept time a w e)
+
+pub nack-lasts : (time : ℕ) (a : Nack) (w : World) → sound w ≡ true → sound (onNack time a w .after) ≡ true
+unfolding onNack
+nack-lasts time a w e = decided-lasts w _ _ e (nack-kept time a w e)
+
+pub loss-lasts : (time : ℕ) (a : Loss) (w : World) → sound w ≡ true → sound (onLoss time a w .after) ≡ true
+unfolding onLoss
+loss-lasts time a w e = decided-lasts w _ _ e (loss-kept time a w e)
+
+pub path-lasts : (time : ℕ) (w : World) → sound w ≡ true → sound (onPath time w .after) ≡ true
+unfolding onPath
+path-lasts time w e = lasts (λ (a : Routing). a .after) w (pathRows time (w .state)) _ _ e (path-kept time w e) refl

@@ -15,7 +15,7 @@ use borrow.Author.Tests.{ltb-false, leb-false, leb-true, le-leb, not-false}
 use Rattle.decide.specs.Branch.{ifSo, ifEq, so-both, eq-both}
 use Rattle.decide.specs.Rows.{Row, row, firstOf, none-here}
 use Rattle.decide.specs.Test.{inside-tells, neither}
-use Rattle.serial.specs.Psn.{psns, covered}
+use Rattle.serial.specs.Psn.{covered}
 use Rattle.serial.specs.Count.{counts}
 use Rattle.window.specs.Range.{InRange}
 use Rattle.window.specs.Held.{Held}
@@ -217,10 +217,9 @@ module _ {w : World} (S : SoundFacts w) where
     pub resend-asks : a .resend ≡ true → isMarked (packetOf (w .state .flow) (w .slots) (a .psn)) ≡ true
     resend-asks e = resend-facts (w .state .flow) (w .slots) (a .psn) (a .size) (rw e at (A .rows)) .0
 
-    pub send-ready : w .state .flow .next < psns
-        → Ready (w .state .settings) time (w .state .window)
+    pub send-ready : Ready (w .state .settings) time (w .state .window)
         (ifSo (a .resend) (resentOf time (a .psn) (ledgerOf w)) (pushedOf time (a .size) (ledgerOf w)))
-    send-ready fits =
+    send-ready =
         let s = w .state .settings in
         let under = room-under (A .room) in
         ready-of _ (A .timely)
@@ -228,15 +227,15 @@ module _ {w : World} (S : SoundFacts w) where
         (λ e. resend-keeps (s .mtu) (s .maxwnd) (w .state .clock) time (a .psn) (a .size) (ledgerOf w) (S .coheres) (rw e at (A .rows)) (A .timely .later) under)
         (λ e.
         push-keeps (s .mtu) (s .maxwnd) (w .state .clock) time (a .psn) (a .size) (ledgerOf w) (S .coheres) (rw e at (A .rows)) (A .timely .later)
-        (A .least) (A .most) under fits))
+        (A .least) (A .most) under))
 
   -- an ACK
-  pub ack-ready : {time : ℕ} {a : Ack} → Ackable time a (w .state) → w .state .flow .low < psns → w .state .flow .next < psns
+  pub ack-ready : {time : ℕ} {a : Ack} → Ackable time a (w .state)
       → Ready (w .state .settings) time (w .state .window) (ackedOf (a .cum) (a .map) (a .count) (ledgerOf w))
-  ack-ready {time} {a} A hl hn =
+  ack-ready {time} {a} A =
       let s = w .state .settings in
       ready-of _ (A .timely)
-      (ack-keeps (a .cum) (a .map) (a .count) (s .mtu) (s .maxwnd) (w .state .clock) time (ledgerOf w) (S .coheres) hl hn (A .count-ok) (A .rows)
+      (ack-keeps (a .cum) (a .map) (a .count) (s .mtu) (s .maxwnd) (w .state .clock) time (ledgerOf w) (S .coheres) (A .count-ok) (A .rows)
       (A .timely .later))
 
   -- a NACK or a loss

@@ -2,6 +2,7 @@
 // the ring and the EV times are lent. No event has a `requires`: whatever is handed in, it ends, and answers by document 01's table.
 pub mod judge;
 pub mod naming;
+pub mod rely;
 pub mod sound;
 pub mod start;
 pub mod steps;
@@ -134,8 +135,47 @@ fn refusal_of(number: u32) -> Refusal
     }
 }
 
+// The number of a row.
+fn row_of(r: Refusal) -> u32
+    ensures { λ n. ⌜ n ≡ rowOf r ⌝ }
+{
+    match r {
+        Refusal::Setting => 1,
+        Refusal::Unsound => 2,
+        Refusal::Time => 3,
+        Refusal::Field => 4,
+        Refusal::Backlog => 5,
+        Refusal::WindowFull => 6,
+        Refusal::RingFull => 7,
+        Refusal::WrongPsn => 8,
+        Refusal::UnsentOrOld => 9,
+        Refusal::NotFlying => 10,
+        Refusal::Sinks => 11,
+    }
+}
+
+// The number of an outcome: 0 for accepted.
+pub fn number_of(outcome: Outcome) -> u32
+    ensures { λ r. ⌜ r ≡ numberOf outcome ⌝ }
+{
+    match outcome {
+        Outcome::Accepted => 0,
+        Outcome::Refused(r) => row_of(r),
+    }
+}
+
+// The number of a path choice: 0 for a chosen EV.
+pub fn path_number(route: Route) -> u32
+    ensures { λ r. ⌜ r ≡ pathNumber route ⌝ }
+{
+    match route {
+        Route::Chosen(_) => 0,
+        Route::Refused(r) => row_of(r),
+    }
+}
+
 // The state as it was given, refused with a number.
-fn refused(state: Controller, number: u32) -> Answer
+pub(crate) fn refused(state: Controller, number: u32) -> Answer
     requires { ⌜ (0 < number) × (number ≤ 11) ⌝ }
     ensures { λ r. ⌜ (r .state ≡ state) × (numberOf (r .outcome) ≡ number) ⌝ }
 {
@@ -146,7 +186,7 @@ fn refused(state: Controller, number: u32) -> Answer
 }
 
 // A state that was accepted.
-fn accepted(state: Controller) -> Answer
+pub(crate) fn accepted(state: Controller) -> Answer
     ensures { λ r. ⌜ (r .state ≡ state) × (numberOf (r .outcome) ≡ 0) ⌝ }
 {
     Answer {
@@ -172,11 +212,7 @@ impl Controller {
         if !is_sound(self, status, size, sent, resent, evs) {
             return refused(self, judge::UNSOUND);
         }
-        let number = judge::judge_new_data(self, time, bytes);
-        if number != 0 {
-            return refused(self, number);
-        }
-        accepted(steps::new_data(self, time, bytes))
+        rely::new_data(self, status, size, sent, resent, evs, time, bytes)
     }
 
     // A new packet or a resend.
@@ -195,11 +231,7 @@ impl Controller {
         if !is_sound(self, status, size, sent, resent, evs) {
             return refused(self, judge::UNSOUND);
         }
-        let number = judge::judge_send(self, status, size, sent, resent, time, a);
-        if number != 0 {
-            return refused(self, number);
-        }
-        accepted(steps::send(self, status, size, sent, resent, evs, time, a))
+        rely::send(self, status, size, sent, resent, evs, time, a)
     }
 
     // An ACK.
@@ -218,11 +250,7 @@ impl Controller {
         if !is_sound(self, status, size, sent, resent, evs) {
             return refused(self, judge::UNSOUND);
         }
-        let number = judge::judge_ack(self, time, a);
-        if number != 0 {
-            return refused(self, number);
-        }
-        accepted(steps::ack(self, status, size, sent, resent, evs, time, a))
+        rely::ack(self, status, size, sent, resent, evs, time, a)
     }
 
     // A NACK.
@@ -241,11 +269,7 @@ impl Controller {
         if !is_sound(self, status, size, sent, resent, evs) {
             return refused(self, judge::UNSOUND);
         }
-        let number = judge::judge_nack(self, status, size, sent, resent, time, a);
-        if number != 0 {
-            return refused(self, number);
-        }
-        accepted(steps::nack(self, status, size, sent, resent, evs, time, a))
+        rely::nack(self, status, size, sent, resent, evs, time, a)
     }
 
     // A loss.
@@ -264,11 +288,7 @@ impl Controller {
         if !is_sound(self, status, size, sent, resent, evs) {
             return refused(self, judge::UNSOUND);
         }
-        let number = judge::judge_loss(self, status, size, sent, resent, time, a);
-        if number != 0 {
-            return refused(self, number);
-        }
-        accepted(steps::loss(self, status, size, sent, resent, evs, time, a))
+        rely::loss(self, status, size, sent, resent, evs, time, a)
     }
 
     // The next path. The ring and the EV times are only read.
@@ -289,17 +309,6 @@ impl Controller {
                 route: Route::Refused(Refusal::Unsound),
             };
         }
-        if judge::judge_path(self, time) != 0 {
-            return Routed {
-                state: self,
-                route: Route::Refused(Refusal::Time),
-            };
-        }
-        let stepped = steps::path(self, evs, time);
-        let state = stepped.state;
-        Routed {
-            state,
-            route: Route::Chosen(stepped.ev),
-        }
+        rely::path(self, status, size, sent, resent, evs, time)
     }
 }

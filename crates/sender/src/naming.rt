@@ -39,7 +39,7 @@ pub(crate) fn phase_of(mtu: u64, cwnd: u64, flow: Flow, totals: Totals) -> Phase
 }
 
 // A name as a number, to compare it by.
-pub(crate) fn phase_number(phase: Phase) -> u32
+pub fn phase_number(phase: Phase) -> u32
     ensures { λ r. ⌜ r ≡ phaseNumber phase ⌝ }
 {
     match phase {

@@ -45,7 +45,7 @@ fn clear_64(xs: &mut [u64])
 }
 
 // Settings of zeros.
-fn no_settings() -> Settings
+pub fn no_settings() -> Settings
     ensures { λ r. ⌜ r ≡ noSettings ⌝ }
 {
     Settings {

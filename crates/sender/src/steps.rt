@@ -1,5 +1,5 @@
 // What each accepted event does. Inner steps: the caller proves that state and buffers hold together and that no row refuses the event.
-// Each keeps them together (proofs/Kept), so a replay tests number 2 once and goes on with these.
+// Each keeps them together (proofs/Kept).
 use crate::Ack;
 use crate::Controller;
 use crate::Loss;

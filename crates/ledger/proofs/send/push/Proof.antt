@@ -61,7 +61,7 @@ returns c =
     let s = p .before .before .before .before .before .before .before in
     let a = s .args in
     let l = books-in s in
-    push-is (s .pre .0 .mtu) (s .pre .0 .clock) (l .flow) (l .slots) (coheres-facts (s .pre .0)) (next-fits s) (s .pre .1 .1)
+    push-is (s .pre .0 .mtu) (s .pre .0 .clock) (l .flow) (l .slots) (coheres-facts (s .pre .0)) (s .pre .1 .1) (next-fits s)
     (l .totals) (a .time) (a .bytes) (p .place .result) (q .psn-plus .result) (c .more .result)
     (ring (w .write .last .0) (w .write .last .1 .0) (w .write .last .1 .1 .0) (w .write .last .1 .1 .1 .0))
     (p .place .ensures .0) (q .psn-plus .ensures)

@@ -1,48 +1,23 @@
--- The method `loss` tests number 2, then the other rows, then takes the step: each answer is a case of `onLoss`, by the laws of `Rowing`.
-use mathlib.Core.Path.{_≡_, refl, sym, _∙_}
-use mathlib.Core.Bool.{true, false}
-use mathlib.Core.List.{List}
+-- The method `loss` tests number 2 and then relies on it: either answer is a case of `onLoss`.
+use mathlib.Core.Path.{sym, _∙_}
 use borrow.Author.Needs.{needs}
 use borrow.Author.Tests.{not-true, not-false}
-use Rattle.decide.specs.Test.{inside}
-use Rattle.decide.specs.Rows.{Row, firstOf}
 use Rattle.ledger.specs.Ring.{ring}
 use Rattle.sender.specs.World.{World, world}
-use Rattle.sender.specs.Sound.{sound}
 use Rattle.sender.specs.Rows.{lossAllRows}
 use Rattle.sender.specs.Steps.{lossStep}
 use Rattle.sender.specs.Events.{onLoss}
-use Rattle.sender.proofs.Sounds.{sound-bounded, sound-even}
-use Rattle.sender.proofs.Rowing.{numbered, in-table, answer-unsound, answer-refused, answer-accepted}
+use Rattle.sender.proofs.Rowing.{answer-unsound}
 use Rattle.sender.proofs.Controller.loss.Statement.{statement}
 use Rattle.sender.proofs.Controller.loss.Tie as tie
 
--- what was handed in, the rows past 2, and the world after the step
+-- what was handed in
 abbrev handed : tie.Start → World
 handed s = world (s .args .self) (ring (s .args .status .now) (s .args .size .now) (s .args .sent .now) (s .args .resent .now)) (s .args .evs .now)
 
-abbrev rows : tie.Start → List Row
-rows s = lossAllRows (s .args .time) (s .args .a) (s .args .self) (handed s .slots)
-
-abbrev stepped : tie.Start → World
-stepped s = lossStep (s .args .time) (s .args .a) (handed s)
-
--- where the first test was not passed, and where it was
-abbrev failed : tie.Then1 → tie.Start
-failed c = c .before .before .before .before .before .before .before .before .before
-
-unsound-here : (c : tie.Then1) → sound (handed (failed c)) ≡ false
-unsound-here c = sym (c .before .is-sound .ensures) ∙ not-true _ (c .if1 .taken)
-
-abbrev start : tie.Else1 → tie.Start
-start c = c .before .before .before .before .before .before .before .before .before
-
-sound-here : (c : tie.Else1) → sound (handed (start c)) ≡ true
-sound-here c = sym (c .before .is-sound .ensures) ∙ not-false _ (c .if1 .left)
-
--- where no row refuses
-none-here : (c : tie.Else2) → firstOf (rows (start (c .before .before .before))) ≡ 0
-none-here c = sym (c .before .judge-loss .ensures) ∙ c .if2 .left
+-- from the test back to the entry
+abbrev start : tie.After-is-sound → tie.Start
+start i = i .before .before .before .before .before .before .before .before
 
 is-sound-requires : tie.Need-is-sound-requires
 is-sound-requires c κs = search needs
@@ -59,17 +34,15 @@ same-length-2 c = search needs
 returns : tie.Need-returns
 unfolding onLoss
 returns c =
-    let s = failed (c .before) in
-    answer-unsound (handed s) (rows s) (stepped s) _ _ (unsound-here (c .before)) (c .refused .ensures .0) (c .refused .ensures .1)
+    let i = c .before .before in
+    let s = start i in
+    answer-unsound (handed s) (lossAllRows (s .args .time) (s .args .a) (s .args .self) (handed s .slots)) (lossStep (s .args .time) (s .args .a) (handed s)) _ _
+    (sym (i .is-sound .ensures) ∙ not-true _ (c .before .if1 .taken)) (c .refused .ensures .0) (c .refused .ensures .1)
 
-judge-loss-requires : tie.Need-judge-loss-requires
-judge-loss-requires c κs =
-    let i = c .before in
-    (sound-bounded (handed (start i)) (sound-here i), sound-even (handed (start i)) (sound-here i))
-
-refused-requires-2 : tie.Need-refused-requires-2
-unfolding numbered inside
-refused-requires-2 c κs = in-table (rows (start (c .before .before .before))) refl (c .before .judge-loss .result) (c .before .judge-loss .ensures) (c .if2 .taken)
+loss-requires : tie.Need-loss-requires
+loss-requires c κs =
+    let e = c .before .before in
+    sym (e .before .is-sound .ensures) ∙ not-false _ (e .if1 .left)
 
 same-length-3 : tie.Need-same-length-3
 same-length-3 c = search needs
@@ -78,38 +51,7 @@ same-length-4 : tie.Need-same-length-4
 same-length-4 c = search needs
 
 returns-2 : tie.Need-returns-2
-unfolding onLoss
-returns-2 c =
-    let j = c .before .before in
-    let i = j .before .before in
-    let s = start i in
-    answer-refused (handed s) (rows s) (stepped s) _ _ (sound-here i) (j .judge-loss .result) (j .judge-loss .ensures) (c .before .if2 .taken) (c .refused2 .ensures .0)
-    (c .refused2 .ensures .1)
-
-loss-requires : tie.Need-loss-requires
-loss-requires c κs = (sound-here (c .before .before .before .before .before), none-here (c .before .before))
-
-accepted-requires : tie.Need-accepted-requires
-accepted-requires c κs = search needs
-
-same-length-5 : tie.Need-same-length-5
-same-length-5 c = search needs
-
-same-length-6 : tie.Need-same-length-6
-same-length-6 c = search needs
-
-returns-3 : tie.Need-returns-3
-unfolding onLoss
-returns-3 c =
-    let k = c .before .before .before .before .before in
-    let l = k .loss .last in
-    let e = k .before .before .before in
-    let j = e .before in
-    let i = j .before .before in
-    let s = start i in
-    answer-accepted (handed s) (rows s) (stepped s) _ _ (sound-here i) (j .judge-loss .result) (j .judge-loss .ensures) (e .if2 .left)
-    (k .loss .result) (ring (l .1 .0) (s .args .size .now) (s .args .sent .now) (s .args .resent .now)) (l .1 .1 .1 .1 .1 .0)
-    (k .loss .ensures) (c .accepted .ensures .0) (c .accepted .ensures .1)
+returns-2 c = c .before .before .before .before .loss .ensures
 
 pub loss-spec : {M : Type 1} → statement M
 loss-spec =
@@ -120,13 +62,7 @@ loss-spec =
     same-length
     same-length-2
     returns
-    judge-loss-requires
-    refused-requires-2
+    loss-requires
     same-length-3
     same-length-4
-    returns-2
-    loss-requires
-    accepted-requires
-    same-length-5
-    same-length-6
-    returns-3)
+    returns-2)

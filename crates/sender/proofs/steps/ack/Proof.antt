@@ -1,9 +1,6 @@
 -- `ack` puts the ledger's step, the window's rules and the EV's time together (`ack-is`); each call's need is what a sound world and an ACK that
 -- no row refuses leave (`ack-ready`).
-use Prim.Native.Nat.{_<_}
-use native.Mathlib.Omega.{arith}
 use borrow.Author.Needs.{needs}
-use Rattle.serial.specs.Psn.{psns}
 use Rattle.ledger.specs.Ring.{Ledger, ring, ledger}
 use Rattle.sender.specs.World.{World, world}
 use Rattle.sender.proofs.Sounds.{SoundFacts, sound-facts, sound-even, sound-coheres}
@@ -22,9 +19,6 @@ facts s = sound-facts (world-in s) (s .pre .0)
 accepted : (s : tie.Start) → Ackable (s .args .time) (s .args .a) (s .args .c)
 accepted s = ack-facts (s .args .time) (s .args .a) (s .args .c) (s .pre .1)
 
-psns-fit : (s : tie.Start) → (s .args .c .flow .low < psns) × (s .args .c .flow .next < psns)
-psns-fit s = omega arith
-
 -- from the place after the ledger's step back to the entry
 abbrev entry : tie.After-ack → tie.Start
 entry p = p .before .before .before .before .before .before .before .before .before .before .before .before .before .before .before .before .before .before .before .before .before .before
@@ -36,7 +30,7 @@ ledger-out p =
     (ring (p .ack .last .1 .1 .1 .1 .0) (p .ack .last .1 .1 .1 .1 .1 .0) (p .ack .last .1 .1 .1 .1 .1 .1 .0) (p .ack .last .1 .1 .1 .1 .1 .1 .1 .0))
 
 after : (p : tie.After-ack) → Ready (entry p .args .c .settings) (entry p .args .time) (entry p .args .c .window) (ledger-out p)
-after p = let s = entry p in rw (p .ack .ensures) (ack-ready (facts s) (accepted s) (psns-fit s .0) (psns-fit s .1))
+after p = let s = entry p in rw (p .ack .ensures) (ack-ready (facts s) (accepted s))
 
 newly-requires : tie.Need-newly-requires
 newly-requires c κs = search needs

@@ -1,11 +1,8 @@
 -- `send` pushes a new packet or resends a marked one and names the state; each call's need is what a sound world and a send that no row refuses
 -- leave (`send-ready`).
 use mathlib.Core.Path.{_≡_, refl}
-use Prim.Native.Nat.{_<_}
-use native.Mathlib.Omega.{arith}
 use borrow.Author.Needs.{needs}
 use Rattle.decide.specs.Branch.{ifSo, so-yes, so-no}
-use Rattle.serial.specs.Psn.{psns}
 use Rattle.ledger.specs.Ring.{Ledger, ring, ledger}
 use Rattle.ledger.specs.Steps.{pushedOf, resentOf}
 use Rattle.sender.specs.World.{World, world, ledgerOf}
@@ -26,9 +23,6 @@ facts s = sound-facts (world-in s) (s .pre .0)
 accepted : (s : tie.Start) → Sendable (s .args .time) (s .args .a) (s .args .c) (world-in s .slots)
 accepted s = send-facts (s .args .time) (s .args .a) (s .args .c) (world-in s .slots) (s .pre .1)
 
-next-fits : (s : tie.Start) → s .args .c .flow .next < psns
-next-fits s = omega arith
-
 -- the ledger that the definition gives, and what it leaves to the state's name
 abbrev sent-of : tie.Start → Ledger
 sent-of s =
@@ -36,7 +30,7 @@ sent-of s =
     (pushedOf (s .args .time) (s .args .a .size) (ledgerOf (world-in s)))
 
 ready : (s : tie.Start) → Ready (s .args .c .settings) (s .args .time) (s .args .c .window) (sent-of s)
-ready s = send-ready (facts s) (accepted s) (next-fits s)
+ready s = send-ready (facts s) (accepted s)
 
 -- either call gives that ledger
 abbrev entry-resend : tie.After-resend → tie.Start

@@ -1,0 +1,93 @@
+-- `loss` judges the rows past 2, then takes the step: each answer is a case of `onLoss` of a sound world, by the laws of `Rowing`.
+use mathlib.Core.Path.{refl, sym, _∙_}
+use mathlib.Core.List.{List}
+use borrow.Author.Needs.{needs}
+use Rattle.decide.specs.Test.{inside}
+use Rattle.decide.specs.Rows.{Row}
+use Rattle.ledger.specs.Ring.{ring}
+use Rattle.sender.specs.World.{World, world}
+use Rattle.sender.specs.Rows.{lossAllRows}
+use Rattle.sender.specs.Steps.{lossStep}
+use Rattle.sender.specs.Events.{onLoss}
+use Rattle.sender.proofs.Sounds.{sound-bounded, sound-even}
+use Rattle.sender.proofs.Rowing.{numbered, in-table, answer-refused, answer-accepted}
+use Rattle.sender.proofs.rely.loss.Statement.{statement}
+use Rattle.sender.proofs.rely.loss.Tie as tie
+
+-- what was handed in, the rows past 2, and the world after the step
+abbrev handed : tie.Start → World
+handed s = world (s .args .c) (ring (s .args .status .now) (s .args .size .now) (s .args .sent .now) (s .args .resent .now)) (s .args .evs .now)
+
+abbrev rows : tie.Start → List Row
+rows s = lossAllRows (s .args .time) (s .args .a) (s .args .c) (handed s .slots)
+
+abbrev stepped : tie.Start → World
+stepped s = lossStep (s .args .time) (s .args .a) (handed s)
+
+-- from the judging back to the entry
+abbrev start : tie.After-judge-loss → tie.Start
+start j = j .before .before .before .before .before .before .before
+
+judge-loss-requires : tie.Need-judge-loss-requires
+judge-loss-requires c κs =
+    let s = c .before .before .before .before .before .before in
+    (sound-bounded (handed s) (s .pre), sound-even (handed s) (s .pre))
+
+refused-requires : tie.Need-refused-requires
+unfolding numbered inside
+refused-requires c κs =
+    let j = c .before in
+    let s = start j in
+    in-table (rows s) refl (j .judge-loss .result) (j .judge-loss .ensures) (c .if1 .taken)
+
+same-length : tie.Need-same-length
+same-length c = search needs
+
+returns : tie.Need-returns
+unfolding onLoss
+returns c =
+    let j = c .before .before in
+    let s = start j in
+    answer-refused (handed s) (rows s) (stepped s) _ _ (s .pre) (j .judge-loss .result) (j .judge-loss .ensures) (c .before .if1 .taken) (c .refused .ensures .0)
+    (c .refused .ensures .1)
+
+loss-requires : tie.Need-loss-requires
+loss-requires c κs =
+    let e = c .before .before in
+    let j = e .before in
+    (start j .pre, sym (j .judge-loss .ensures) ∙ e .if1 .left)
+
+accepted-requires : tie.Need-accepted-requires
+accepted-requires c κs = search needs
+
+same-length-2 : tie.Need-same-length-2
+same-length-2 c = search needs
+
+same-length-3 : tie.Need-same-length-3
+same-length-3 c = search needs
+
+returns-2 : tie.Need-returns-2
+unfolding onLoss
+returns-2 c =
+    let k = c .before .before .before .before .before in
+    let l = k .loss .last in
+    let e = k .before .before .before in
+    let j = e .before in
+    let s = start j in
+    answer-accepted (handed s) (rows s) (stepped s) _ _ (s .pre) (j .judge-loss .result) (j .judge-loss .ensures) (e .if1 .left)
+    (k .loss .result) (ring (l .1 .0) (s .args .size .now) (s .args .sent .now) (s .args .resent .now)) (l .1 .1 .1 .1 .1 .0)
+    (k .loss .ensures) (c .accepted .ensures .0) (c .accepted .ensures .1)
+
+pub loss-spec : {M : Type 1} → statement M
+loss-spec =
+    tie.close
+    (tie.spec
+    judge-loss-requires
+    refused-requires
+    same-length
+    returns
+    loss-requires
+    accepted-requires
+    same-length-2
+    same-length-3
+    returns-2)

@@ -1,0 +1,93 @@
+-- `nack` judges the rows past 2, then takes the step: each answer is a case of `onNack` of a sound world, by the laws of `Rowing`.
+use mathlib.Core.Path.{refl, sym, _∙_}
+use mathlib.Core.List.{List}
+use borrow.Author.Needs.{needs}
+use Rattle.decide.specs.Test.{inside}
+use Rattle.decide.specs.Rows.{Row}
+use Rattle.ledger.specs.Ring.{ring}
+use Rattle.sender.specs.World.{World, world}
+use Rattle.sender.specs.Rows.{nackAllRows}
+use Rattle.sender.specs.Steps.{nackStep}
+use Rattle.sender.specs.Events.{onNack}
+use Rattle.sender.proofs.Sounds.{sound-bounded, sound-even}
+use Rattle.sender.proofs.Rowing.{numbered, in-table, answer-refused, answer-accepted}
+use Rattle.sender.proofs.rely.nack.Statement.{statement}
+use Rattle.sender.proofs.rely.nack.Tie as tie
+
+-- what was handed in, the rows past 2, and the world after the step
+abbrev handed : tie.Start → World
+handed s = world (s .args .c) (ring (s .args .status .now) (s .args .size .now) (s .args .sent .now) (s .args .resent .now)) (s .args .evs .now)
+
+abbrev rows : tie.Start → List Row
+rows s = nackAllRows (s .args .time) (s .args .a) (s .args .c) (handed s .slots)
+
+abbrev stepped : tie.Start → World
+stepped s = nackStep (s .args .time) (s .args .a) (handed s)
+
+-- from the judging back to the entry
+abbrev start : tie.After-judge-nack → tie.Start
+start j = j .before .before .before .before .before .before .before
+
+judge-nack-requires : tie.Need-judge-nack-requires
+judge-nack-requires c κs =
+    let s = c .before .before .before .before .before .before in
+    (sound-bounded (handed s) (s .pre), sound-even (handed s) (s .pre))
+
+refused-requires : tie.Need-refused-requires
+unfolding numbered inside
+refused-requires c κs =
+    let j = c .before in
+    let s = start j in
+    in-table (rows s) refl (j .judge-nack .result) (j .judge-nack .ensures) (c .if1 .taken)
+
+same-length : tie.Need-same-length
+same-length c = search needs
+
+returns : tie.Need-returns
+unfolding onNack
+returns c =
+    let j = c .before .before in
+    let s = start j in
+    answer-refused (handed s) (rows s) (stepped s) _ _ (s .pre) (j .judge-nack .result) (j .judge-nack .ensures) (c .before .if1 .taken) (c .refused .ensures .0)
+    (c .refused .ensures .1)
+
+nack-requires : tie.Need-nack-requires
+nack-requires c κs =
+    let e = c .before .before in
+    let j = e .before in
+    (start j .pre, sym (j .judge-nack .ensures) ∙ e .if1 .left)
+
+accepted-requires : tie.Need-accepted-requires
+accepted-requires c κs = search needs
+
+same-length-2 : tie.Need-same-length-2
+same-length-2 c = search needs
+
+same-length-3 : tie.Need-same-length-3
+same-length-3 c = search needs
+
+returns-2 : tie.Need-returns-2
+unfolding onNack
+returns-2 c =
+    let k = c .before .before .before .before .before in
+    let l = k .nack .last in
+    let e = k .before .before .before in
+    let j = e .before in
+    let s = start j in
+    answer-accepted (handed s) (rows s) (stepped s) _ _ (s .pre) (j .judge-nack .result) (j .judge-nack .ensures) (e .if1 .left)
+    (k .nack .result) (ring (l .1 .0) (s .args .size .now) (s .args .sent .now) (s .args .resent .now)) (l .1 .1 .1 .1 .1 .0)
+    (k .nack .ensures) (c .accepted .ensures .0) (c .accepted .ensures .1)
+
+pub nack-spec : {M : Type 1} → statement M
+nack-spec =
+    tie.close
+    (tie.spec
+    judge-nack-requires
+    refused-requires
+    same-length
+    returns
+    nack-requires
+    accepted-requires
+    same-length-2
+    same-length-3
+    returns-2)

@@ -1,0 +1,81 @@
+-- `new_data` judges the rows past 2, then takes the step: each answer is a case of `onNewData` of a sound world, by the laws of `Rowing`.
+use mathlib.Core.Path.{refl, sym, ap, _∙_}
+use mathlib.Core.List.{List}
+use borrow.Author.Needs.{needs}
+use Rattle.decide.specs.Test.{inside}
+use Rattle.decide.specs.Rows.{Row}
+use Rattle.ledger.specs.Ring.{ring}
+use Rattle.sender.specs.World.{World, world}
+use Rattle.sender.specs.Rows.{newDataRows}
+use Rattle.sender.specs.Steps.{newDataStep}
+use Rattle.sender.specs.Events.{onNewData}
+use Rattle.sender.specs.declared.Controller.{Controller}
+use Rattle.sender.proofs.Sounds.{sound-bounded}
+use Rattle.sender.proofs.Rowing.{numbered, in-table, answer-refused, answer-accepted}
+use Rattle.sender.proofs.rely.new_data.Statement.{statement}
+use Rattle.sender.proofs.rely.new_data.Tie as tie
+
+-- what was handed in, the rows past 2, and the world after the step
+abbrev handed : tie.Start → World
+handed s = world (s .args .c) (ring (s .args .status .now) (s .args .size .now) (s .args .sent .now) (s .args .resent .now)) (s .args .evs .now)
+
+abbrev rows : tie.Start → List Row
+rows s = newDataRows (s .args .time) (s .args .bytes) (s .args .c)
+
+abbrev stepped : tie.Start → World
+stepped s = newDataStep (s .args .time) (s .args .bytes) (handed s)
+
+-- from the judging back to the entry
+abbrev start : tie.After-judge-new-data → tie.Start
+start j = j .before .before .before .before .before .before
+
+judge-new-data-requires : tie.Need-judge-new-data-requires
+judge-new-data-requires c κs =
+    let s = c .before .before .before .before .before in
+    sound-bounded (handed s) (s .pre)
+
+refused-requires : tie.Need-refused-requires
+unfolding numbered inside
+refused-requires c κs =
+    let j = c .before in
+    let s = start j in
+    in-table (rows s) refl (j .judge-new-data .result) (j .judge-new-data .ensures) (c .if1 .taken)
+
+returns : tie.Need-returns
+unfolding onNewData
+returns c =
+    let j = c .before .before in
+    let s = start j in
+    answer-refused (handed s) (rows s) (stepped s) _ _ (s .pre) (j .judge-new-data .result) (j .judge-new-data .ensures) (c .before .if1 .taken) (c .refused .ensures .0)
+    (c .refused .ensures .1)
+
+new-data-requires : tie.Need-new-data-requires
+new-data-requires c κs =
+    let j = c .before in
+    let s = start j in
+    (sound-bounded (handed s) (s .pre), sym (j .judge-new-data .ensures) ∙ c .if1 .left)
+
+accepted-requires : tie.Need-accepted-requires
+accepted-requires c κs = search needs
+
+returns-2 : tie.Need-returns-2
+unfolding onNewData newDataStep
+returns-2 c =
+    let k = c .before in
+    let e = k .before in
+    let j = e .before in
+    let s = start j in
+    answer-accepted (handed s) (rows s) (stepped s) _ _ (s .pre) (j .judge-new-data .result) (j .judge-new-data .ensures) (e .if1 .left)
+    (k .new-data .result) (handed s .slots) (handed s .times)
+    (ap (λ (x : Controller). world x (handed s .slots) (handed s .times)) (k .new-data .ensures)) (c .accepted .ensures .0) (c .accepted .ensures .1)
+
+pub new-data-spec : {M : Type 1} → statement M
+new-data-spec =
+    tie.close
+    (tie.spec
+    judge-new-data-requires
+    refused-requires
+    returns
+    new-data-requires
+    accepted-requires
+    returns-2)

@@ -1,0 +1,154 @@
+// Each event for a caller who knows that state and buffers hold together: the entry point without its test of number 2. A replay tests once; what
+// an event leaves holds together again (proofs/Kept), whatever it answers.
+use crate::Ack;
+use crate::Answer;
+use crate::Controller;
+use crate::Loss;
+use crate::Nack;
+use crate::Refusal;
+use crate::Route;
+use crate::Routed;
+use crate::Send;
+use crate::accepted;
+use crate::judge;
+use crate::refused;
+use crate::steps;
+ghost use mathlib.Core.Path.{_≡_};
+ghost use mathlib.Core.Bool.{true};
+ghost use Rattle.ledger.specs.Ring.{ring};
+ghost use Rattle.sender.specs.Numbers.{numberOf, pathNumber, pathEv};
+ghost use Rattle.sender.specs.World.{world, answered, routed};
+ghost use Rattle.sender.specs.Sound.{sound};
+ghost use Rattle.sender.specs.Events.{onNewData, onSend, onAck, onNack, onLoss, onPath};
+
+// New data in the backlog. The ring and the EV times are lent for what is required of them.
+pub fn new_data<'a>(
+    c: Controller,
+    status: &'a [u8],
+    size: &'a [u32],
+    sent: &'a [u64],
+    resent: &'a [u8],
+    evs: &'a [u64],
+    time: u64,
+    bytes: u64,
+) -> Answer
+    requires { ⌜ sound (world c (ring (now status) (now size) (now sent) (now resent)) (now evs)) ≡ true ⌝ }
+    ensures { λ r. ⌜ answered (numberOf (r .outcome)) (r .state) (ring (now (status .entry)) (now (size .entry)) (now (sent .entry)) (now (resent .entry))) (now (evs .entry)) ≡ onNewData time bytes (world c (ring (now (status .entry)) (now (size .entry)) (now (sent .entry)) (now (resent .entry))) (now (evs .entry))) ⌝ }
+{
+    let number = judge::judge_new_data(c, time, bytes);
+    if number != 0 {
+        return refused(c, number);
+    }
+    accepted(steps::new_data(c, time, bytes))
+}
+
+// A new packet or a resend.
+pub fn send<'a, 'b, 'c, 'd, 'e>(
+    c: Controller,
+    status: &'a mut [u8],
+    size: &'b mut [u32],
+    sent: &'c mut [u64],
+    resent: &'d mut [u8],
+    evs: &'e [u64],
+    time: u64,
+    a: Send,
+) -> Answer
+    requires { ⌜ sound (world c (ring (now status) (now size) (now sent) (now resent)) (now evs)) ≡ true ⌝ }
+    ensures { λ r. ⌜ answered (numberOf (r .outcome)) (r .state) (ring (now (status .exit)) (now (size .exit)) (now (sent .exit)) (now (resent .exit))) (now (evs .entry)) ≡ onSend time a (world c (ring (now (status .entry)) (now (size .entry)) (now (sent .entry)) (now (resent .entry))) (now (evs .entry))) ⌝ }
+{
+    let number = judge::judge_send(c, status, size, sent, resent, time, a);
+    if number != 0 {
+        return refused(c, number);
+    }
+    accepted(steps::send(c, status, size, sent, resent, evs, time, a))
+}
+
+// An ACK.
+pub fn ack<'a, 'b, 'c, 'd, 'e>(
+    c: Controller,
+    status: &'a mut [u8],
+    size: &'b mut [u32],
+    sent: &'c mut [u64],
+    resent: &'d mut [u8],
+    evs: &'e mut [u64],
+    time: u64,
+    a: Ack,
+) -> Answer
+    requires { ⌜ sound (world c (ring (now status) (now size) (now sent) (now resent)) (now evs)) ≡ true ⌝ }
+    ensures { λ r. ⌜ answered (numberOf (r .outcome)) (r .state) (ring (now (status .exit)) (now (size .exit)) (now (sent .exit)) (now (resent .exit))) (now (evs .exit)) ≡ onAck time a (world c (ring (now (status .entry)) (now (size .entry)) (now (sent .entry)) (now (resent .entry))) (now (evs .entry))) ⌝ }
+{
+    let number = judge::judge_ack(c, time, a);
+    if number != 0 {
+        return refused(c, number);
+    }
+    accepted(steps::ack(c, status, size, sent, resent, evs, time, a))
+}
+
+// A NACK.
+pub fn nack<'a, 'b, 'c>(
+    c: Controller,
+    status: &'a mut [u8],
+    size: &'b [u32],
+    sent: &'b [u64],
+    resent: &'b [u8],
+    evs: &'c mut [u64],
+    time: u64,
+    a: Nack,
+) -> Answer
+    requires { ⌜ sound (world c (ring (now status) (now size) (now sent) (now resent)) (now evs)) ≡ true ⌝ }
+    ensures { λ r. ⌜ answered (numberOf (r .outcome)) (r .state) (ring (now (status .exit)) (now (size .entry)) (now (sent .entry)) (now (resent .entry))) (now (evs .exit)) ≡ onNack time a (world c (ring (now (status .entry)) (now (size .entry)) (now (sent .entry)) (now (resent .entry))) (now (evs .entry))) ⌝ }
+{
+    let number = judge::judge_nack(c, status, size, sent, resent, time, a);
+    if number != 0 {
+        return refused(c, number);
+    }
+    accepted(steps::nack(c, status, size, sent, resent, evs, time, a))
+}
+
+// A loss.
+pub fn loss<'a, 'b, 'c>(
+    c: Controller,
+    status: &'a mut [u8],
+    size: &'b [u32],
+    sent: &'b [u64],
+    resent: &'b [u8],
+    evs: &'c mut [u64],
+    time: u64,
+    a: Loss,
+) -> Answer
+    requires { ⌜ sound (world c (ring (now status) (now size) (now sent) (now resent)) (now evs)) ≡ true ⌝ }
+    ensures { λ r. ⌜ answered (numberOf (r .outcome)) (r .state) (ring (now (status .exit)) (now (size .entry)) (now (sent .entry)) (now (resent .entry))) (now (evs .exit)) ≡ onLoss time a (world c (ring (now (status .entry)) (now (size .entry)) (now (sent .entry)) (now (resent .entry))) (now (evs .entry))) ⌝ }
+{
+    let number = judge::judge_loss(c, status, size, sent, resent, time, a);
+    if number != 0 {
+        return refused(c, number);
+    }
+    accepted(steps::loss(c, status, size, sent, resent, evs, time, a))
+}
+
+// The next path. The EV times are only read, the ring is lent for what is required of it.
+pub fn path<'a>(
+    c: Controller,
+    status: &'a [u8],
+    size: &'a [u32],
+    sent: &'a [u64],
+    resent: &'a [u8],
+    evs: &'a [u64],
+    time: u64,
+) -> Routed
+    requires { ⌜ sound (world c (ring (now status) (now size) (now sent) (now resent)) (now evs)) ≡ true ⌝ }
+    ensures { λ r. ⌜ routed (pathNumber (r .route)) (pathEv (r .route)) (r .state) (ring (now (status .entry)) (now (size .entry)) (now (sent .entry)) (now (resent .entry))) (now (evs .entry)) ≡ onPath time (world c (ring (now (status .entry)) (now (size .entry)) (now (sent .entry)) (now (resent .entry))) (now (evs .entry))) ⌝ }
+{
+    if judge::judge_path(c, time) != 0 {
+        return Routed {
+            state: c,
+            route: Route::Refused(Refusal::Time),
+        };
+    }
+    let stepped = steps::path(c, evs, time);
+    let state = stepped.state;
+    Routed {
+        state,
+        route: Route::Chosen(stepped.ev),
+    }
+}
