@@ -19,6 +19,7 @@ pub mod replay;
 pub mod rng;
 pub mod settings;
 pub mod state;
+pub mod vectors;
 mod window;
 
 pub use check::number_two;

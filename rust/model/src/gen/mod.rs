@@ -16,7 +16,7 @@ pub const E: [u64; 12] = [
     4096, 614_400, 96, 72, 4096, 1024, 224, 819, 512, 96, 32_768, 288,
 ];
 
-fn settings_record(settings: &Settings) -> Record {
+pub(crate) fn settings_record(settings: &Settings) -> Record {
     Record::Settings {
         numbers: settings.numbers(),
         first_psn: settings.first_psn,

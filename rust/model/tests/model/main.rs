@@ -12,4 +12,5 @@ mod refusals;
 mod rig;
 mod samples;
 mod stops;
+mod vectors;
 mod window;

@@ -1,0 +1,4 @@
+-- The laws that the proofs of `lines` share.
+pub mod Fits
+pub mod Headers
+pub mod Lengths

@@ -1,0 +1,2 @@
+-- What the contracts of `player` cite.
+pub mod Played

@@ -1,0 +1,208 @@
+//! The bundled logs: their files are up to date, and lines of them that were worked out by hand.
+
+use model::vectors::{bundled, examples, files, Vector, DATA};
+use model::{replay, Reader};
+use std::collections::BTreeSet;
+use std::fs;
+use std::path::{Path, PathBuf};
+
+fn root() -> PathBuf {
+    Path::new(env!("CARGO_MANIFEST_DIR")).join("../..")
+}
+
+#[test]
+fn the_files_in_place_are_those_of_the_list() {
+    for file in files() {
+        let path = root().join(&file.path);
+        let in_place = fs::read(&path).unwrap_or_else(|error| panic!("{}: {error}", file.path));
+        assert!(
+            in_place == file.bytes,
+            "{} is stale: model-vectors writes it anew",
+            file.path
+        );
+    }
+}
+
+#[test]
+fn no_other_file_lies_among_the_logs() {
+    let listed: BTreeSet<String> = bundled().iter().map(Vector::file_name).collect();
+    let in_place: BTreeSet<String> = fs::read_dir(root().join(DATA))
+        .expect("the folder of the logs")
+        .map(|entry| entry.expect("a file").file_name())
+        .map(|name| name.to_string_lossy().into_owned())
+        .collect();
+    assert_eq!(in_place, listed);
+}
+
+#[test]
+fn names_differ_and_are_short_words() {
+    for vectors in [bundled(), examples()] {
+        let names: BTreeSet<&str> = vectors.iter().map(|vector| vector.name.as_str()).collect();
+        assert_eq!(names.len(), vectors.len());
+        for name in names {
+            let plain = |c: char| c.is_ascii_lowercase() || c.is_ascii_digit() || c == '-';
+            assert!(name.chars().all(plain) && name.len() < 24, "{name}");
+        }
+    }
+}
+
+/// All but 2 and 13, which are no answers to a log.
+#[test]
+fn every_number_that_a_log_can_meet_is_met() {
+    let numbers: BTreeSet<u8> = bundled()
+        .iter()
+        .flat_map(|vector| answers(&replay(&vector.log)))
+        .collect();
+    let expected = [0, 1, 3, 4, 5, 6, 7, 8, 9, 10, 11, 12];
+    assert_eq!(numbers, BTreeSet::from(expected));
+}
+
+fn answers(text: &str) -> Vec<u8> {
+    let answer = |line: &str| line.split(' ').nth(1)?.parse().ok();
+    text.lines().skip(1).filter_map(answer).collect()
+}
+
+/// Only a refused record 1 and a malformed record stop a replay.
+#[test]
+fn every_other_log_is_replayed_to_its_end() {
+    for vector in bundled().into_iter().chain(examples()) {
+        let answers = answers(&replay(&vector.log));
+        if !matches!(answers.last(), Some(1 | 12)) {
+            assert_eq!(answers.len(), records(&vector.log), "{}", vector.name);
+        }
+    }
+}
+
+fn records(log: &[u8]) -> usize {
+    let mut reader = Reader::new(log);
+    let mut records = 0;
+    while reader.next_record().expect("well-formed").is_some() {
+        records += 1;
+    }
+    records
+}
+
+fn text(vectors: &[Vector], name: &str) -> String {
+    let vector = vectors.iter().find(|vector| vector.name == name);
+    replay(&vector.expect(name).log)
+}
+
+#[test]
+fn the_worked_example_prints_the_text_of_01() {
+    let expected = "rec ans inflight cwnd flying waiting backlog state\n\
+                    1 0 0 614400 0 0 0 IDLE\n\
+                    2 0 0 614400 0 0 8192 READY\n\
+                    3 0 4096 614400 1 0 4096 READY\n\
+                    4 8 4096 614400 1 0 4096 READY\n\
+                    5 0 0 614400 0 0 4096 READY\n";
+    assert_eq!(text(&bundled(), "worked"), expected);
+    assert_eq!(text(&examples(), "worked"), expected);
+}
+
+/// Lines worked out by hand from 01. The window is the fourth word.
+#[test]
+fn lines_worked_out_by_hand() {
+    let expected = [
+        ("closed", "6 6 8193 12288 3 0 11807 ACTIVE"),
+        ("closed", "9 0 8234 12288 4 0 11766 ACTIVE"), // sent at 8,192
+        ("in-flight", "6 0 -16777216 614400 2 0 144 READY"),
+        ("map", "9 0 -12 614400 2 0 0 PENDING"), // P7: 5, 7 and 9 are delivered
+        ("psn-wrap", "11 0 400 614400 1 0 100 READY"), // P8: three delivered
+        ("counts", "11 11 3072 614400 1 0 0 PENDING"),
+        ("burst", "9 0 4096 614400 1 0 5424 READY"),
+        ("burst", "13 0 4096 614400 1 0 5424 READY"),
+        // 12 losses of 4,096; then 224 * 4,096 * 36 / 565,248 = 58 by a sample, else 116.
+        ("resends", "34 0 32768 565248 8 0 0 PENDING"),
+        ("resends", "35 0 28672 565306 7 0 0 PENDING"),
+        ("resends", "36 0 24576 565422 6 0 0 PENDING"),
+        ("resends", "37 0 20480 565538 5 0 0 PENDING"),
+        ("resends", "38 0 16384 565596 4 0 0 PENDING"),
+        ("resends", "42 0 0 566060 0 0 0 IDLE"),
+        // P2: 91,750,400 / 610,495 = 150; the average is 75, so 819 * 3 / 75 = 32 is cut.
+        ("delays", "23 0 -24576 610645 0 1 0 READY"),
+        ("delays", "24 0 -24576 591562 0 1 0 READY"),
+        ("fast-mode", "12 0 -581632 610304 7 1 0 READY"),
+        ("fast-mode", "13 0 -581888 610560 7 1 0 READY"),
+        // 224 * 32,768 * 72 / 606,208 = 871; 524,353,536 / 607,079 = 863, and eta.
+        ("adjustment", "8 0 -32768 607079 0 2 0 READY"),
+        ("adjustment", "10 0 -65280 608966 0 2 0 READY"),
+        ("adjustment", "13 0 -409600 614400 0 2 0 READY"),
+        ("cut", "8 0 16384 369000 2 0 0 PENDING"), // P3
+        ("cut", "9 0 16384 369000 2 0 0 PENDING"),
+        ("cut", "10 0 16384 221616 2 0 0 PENDING"), // times 615 / 1,024
+        ("cut", "13 0 16384 110808 0 0 0 IDLE"),
+        ("floors", "6 0 4296 5935 2 0 0 PENDING"), // times 1,013 / 1,024
+        ("floors", "7 0 4296 4096 1 0 0 PENDING"),
+        ("quick-adapt", "16 0 -613444 614400 2 1 44 READY"),
+        ("quick-adapt", "17 0 -1227588 614144 1 1 44 READY"),
+        ("quick-adapt", "19 0 -1227588 4096 0 1 44 READY 1"),
+        // 12,288 + (2 * 224 * 4,096 * 72) / 12,288 + 1,024.
+        ("quick-adapt-loss", "12 0 -634580 24064 2 1 0 READY"),
+        ("quick-adapt-off", "12 0 -634580 614400 2 1 0 READY"),
+        ("ignoring", "11 0 0 4766 2 1 0 READY"), // 7,936 * 615 / 1,024
+        ("backlog-full", "259 0 0 614400 0 0 1099511627776 READY"),
+        ("backlog-full", "260 4 0 614400 0 0 1099511627776 READY"),
+        ("paths", "130 0 0 614400 0 0 0 IDLE 128"),
+        ("paths", "132 0 0 614400 0 0 0 IDLE 129"),
+        ("paths", "257 0 0 614400 0 0 0 IDLE 254"),
+        ("paths", "260 0 0 614400 0 0 0 IDLE 1"),
+        ("ring-full", "1029 7 41984 46079 1024 0 100 ACTIVE"),
+        ("ring-full", "1037 7 41728 46079 961 0 100 READY"),
+        ("ring-full", "1039 0 41769 46079 961 0 59 READY"),
+    ];
+    let bundled = bundled();
+    for (name, line) in expected {
+        let text = text(&bundled, name);
+        assert!(text.lines().any(|l| l == line), "{name}: {line}\n{text}");
+    }
+}
+
+#[test]
+fn insane_numbers_are_refused_and_change_nothing() {
+    let text = text(&examples(), "insane");
+    let unchanged = "8192 614400 2 0 11808 READY";
+    let numbers = [3, 3, 4, 4, 4, 8, 8, 4, 4, 4, 4, 4, 9, 9, 9, 10, 10, 11];
+    let mut lines = text.lines().skip(5);
+    for (record, number) in (5..).zip(numbers) {
+        let line = format!("{record} {number} {unchanged}");
+        assert_eq!(lines.next(), Some(line.as_str()));
+    }
+    assert_eq!(lines.next(), Some("23 0 4096 614400 1 0 11808 READY"));
+    assert_eq!(lines.next(), Some("24 0 4096 614400 1 0 11808 READY 0"));
+    assert_eq!(lines.next(), None);
+}
+
+/// The windows after the ACKs of the log, each the one before plus eta and what was saved up.
+#[test]
+fn a_packet_sent_twice_spoils_nothing() {
+    let text = text(&examples(), "resent");
+    let expected = [
+        "6 0 0 611436 0 0 20480 READY",    // no sample: 108
+        "9 0 4096 612562 1 0 12288 READY", // delay 4: 102
+        "12 0 0 609598 0 0 12288 READY",   // base 90, delay 0: 108
+        "14 0 0 610715 0 0 8192 READY",    // delay 10: 93
+        "20 0 0 603656 0 0 4096 READY",    // no sample: 109
+        "23 0 0 604680 0 0 0 IDLE 1",      // EV 0 is avoided until 1,480
+    ];
+    for line in expected {
+        assert!(text.lines().any(|l| l == line), "{line}\n{text}");
+    }
+}
+
+#[test]
+fn lost_acks_leave_the_ledger_of_all_acks() {
+    let examples = examples();
+    let all = text(&examples, "all-acks");
+    let lost = text(&examples, "lost-acks");
+    assert_eq!(all.lines().last(), Some("17 0 4096 614400 1 0 4096 READY"));
+    // The newest is record 13 here; those after it change nothing.
+    let from_newest: Vec<&str> = lost.lines().skip(13).collect();
+    assert_eq!(
+        from_newest,
+        [
+            "13 0 4096 614400 1 0 4096 READY",
+            "14 0 4096 614400 1 0 4096 READY",
+            "15 0 4096 614400 1 0 4096 READY",
+        ]
+    );
+}
