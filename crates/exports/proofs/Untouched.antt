@@ -1,0 +1,182 @@
+-- A REFUSED CALL LEAVES EVERYTHING THAT IT WAS LENT AS IT WAS: the state's words, the ring, the EV times; for any event that does so to its state
+-- (`refused-words`), so for each of the sender's, for a path choice and for setting up; for a replay its place and its answers too (`replay-untouched`).
+-- A replay refuses words that are no state's where it looks at them (`replay-no-state`). And a path choice's word tells both its number and its EV (`path-word`).
+-- Assumes nothing.
+use mathlib.Core.Path.{_≡_, refl, sym, ap, _∙_}
+use mathlib.Core.Bool.{Bool, true, false, _&&_}
+use mathlib.Core.List.{List}
+use Prim.Native.Nat.{ℕ, _+_, _*_, _^_, _/_, _%_, _≤_}
+use native.Mathlib.Omega.{arith}
+use lib.Dec.{leb}
+use borrow.Author.Tests.{ne-eqb}
+use Rattle.decide.specs.Branch.{so-no, eq-no, eq-both, so-both}
+use Rattle.decide.specs.Rows.{firstOf}
+use Rattle.decide.specs.Test.{inside}
+use Rattle.window.specs.Range.{inRange}
+use Rattle.ledger.specs.Ring.{Ring}
+use Rattle.sender.specs.World.{World, world, Answered, Routing}
+use Rattle.sender.specs.Sound.{sound}
+use Rattle.sender.specs.Rows.{withSound, pathRows}
+use Rattle.sender.specs.Events.{onNewData, onSend, onAck, onNack, onLoss, onPath}
+use Rattle.sender.specs.Start.{noSettings, freshState, onSetUp}
+use Rattle.sender.specs.declared.Controller.{Controller}
+use Rattle.sender.specs.declared.Send.{Send}
+use Rattle.sender.specs.declared.Ack.{Ack}
+use Rattle.sender.specs.declared.Nack.{Nack}
+use Rattle.sender.specs.declared.Loss.{Loss}
+use Rattle.sender.proofs.Rowing.{numbered, first-most}
+use Rattle.sender.proofs.Refusals.{new-data-same, send-same, ack-same, nack-same, loss-same, path-same, set-up-same}
+use Rattle.replay.specs.Answers.{soundAfter}
+use Rattle.replay.specs.Places.{holds}
+use Rattle.replay.specs.Batches.{Batching, filled, batchOf}
+use Rattle.words.specs.Layout.{word, flag, settingsFrom, stateFrom, wordsOk, unpacked}
+use Rattle.words.specs.declared.Unpacked.{Unpacked}
+use Rattle.exports.specs.Calls.{Called, called, wordsAfter, pathWord, onWords, onPathWords, onSetUpWords}
+use Rattle.exports.specs.Batch.{placeFrom, lentOk, Replayed, replayCalled, handed, onReplayWords}
+
+pub record Untouched (x : Called) (ws : List ℕ) (r : Ring) (t : List ℕ) : Type 0 where
+  pub words-same : x .words ≡ ws
+  pub slots-same : x .slots ≡ r
+  pub times-same : x .times ≡ t
+
+-- ---- a path choice's word
+
+-- a number stands in the low 32 bits, an EV above them
+word-parts : (ev n : ℕ) → n ≤ 11 → ((2 ^ 32 * ev + n) % 2 ^ 32 ≡ n) × ((2 ^ 32 * ev + n) / 2 ^ 32 ≡ ev)
+word-parts ev n h = (omega arith, omega arith)
+
+path-most : (time : ℕ) (w : World) → onPath time w .number ≤ 11
+unfolding onPath numbered inside
+path-most time w =
+    let rows = withSound w (pathRows time (w .state)) in
+    eq-both (λ (a : Routing). a .number ≤ 11) (firstOf rows) 0 _ _ (λ _. omega arith) (λ _. first-most 11 rows refl)
+
+pub path-word :
+    (time : ℕ) (w : World) →
+    (pathWord (onPath time w) % 2 ^ 32 ≡ onPath time w .number) × (pathWord (onPath time w) / 2 ^ 32 ≡ onPath time w .ev)
+path-word time w = word-parts (onPath time w .ev) (onPath time w .number) (path-most time w)
+
+-- ---- refused calls
+
+module _ (ws : List ℕ) (r : Ring) (t : List ℕ) where
+  -- a number other than 0 leaves all as it was
+  abbrev pub Spared : Called → Type 0
+  Spared x = (x .number ≡ 0 → ⊥) → Untouched x ws r t
+
+  refused-here : (n : ℕ) → Untouched (called n ws r t) ws r t
+  refused-here n = record { words-same = refl; slots-same = refl; times-same = refl }
+
+  -- a number other than 0, beside a world whose ring and EV times are those that were lent
+  refused-after : (n m : ℕ) (after : World) (c : Controller) → (n ≡ 0 → ⊥) → after ≡ world c r t
+      → Untouched (called m (wordsAfter n ws (after .state)) (after .slots) (after .times)) ws r t
+  unfolding wordsAfter
+  refused-after n m after c h e =
+      record {
+        words-same = sym (eq-no n 0 ws _ ws h refl);
+        slots-same = ap (λ (v : World). v .slots) e;
+        times-same = ap (λ (v : World). v .times) e;
+      }
+
+  pub refused-words :
+      (event : World → Answered) → ((w : World) → (event w .number ≡ 0 → ⊥) → event w .after ≡ w) →
+      Spared (onWords ws r t event)
+  unfolding onWords
+  refused-words event same =
+      let w = world (stateFrom ws) r t in
+      so-both Spared (wordsOk ws) _ _
+      (λ _ h. refused-after (event w .number) (event w .number) (event w .after) (w .state) h (same w h))
+      (λ _ _. refused-here 2)
+
+  module _ (time : ℕ) where
+    pub new-data-untouched : (bytes : ℕ) → Spared (onWords ws r t (onNewData time bytes))
+    new-data-untouched bytes = refused-words (onNewData time bytes) (λ w. new-data-same time w bytes)
+
+    pub send-untouched : (a : Send) → Spared (onWords ws r t (onSend time a))
+    send-untouched a = refused-words (onSend time a) (λ w. send-same time w a)
+
+    pub ack-untouched : (a : Ack) → Spared (onWords ws r t (onAck time a))
+    ack-untouched a = refused-words (onAck time a) (λ w. ack-same time w a)
+
+    pub nack-untouched : (a : Nack) → Spared (onWords ws r t (onNack time a))
+    nack-untouched a = refused-words (onNack time a) (λ w. nack-same time w a)
+
+    pub loss-untouched : (a : Loss) → Spared (onWords ws r t (onLoss time a))
+    loss-untouched a = refused-words (onLoss time a) (λ w. loss-same time w a)
+
+    -- a path choice's number stands in the low 32 bits of its word
+    pub path-untouched :
+        (onPathWords ws r t (onPath time) .number % 2 ^ 32 ≡ 0 → ⊥) → Untouched (onPathWords ws r t (onPath time)) ws r t
+    unfolding onPathWords
+    path-untouched =
+        let w = world (stateFrom ws) r t in
+        let a = onPath time w in
+        so-both (λ (x : Called). (x .number % 2 ^ 32 ≡ 0 → ⊥) → Untouched x ws r t) (wordsOk ws) _ _
+        (λ _ h.
+        let refused : a .number ≡ 0 → ⊥ = λ z. h (path-word time w .0 ∙ z) in
+        refused-after (a .number) (pathWord a) (a .after) (w .state) refused (path-same time w refused .0))
+        (λ _ _. refused-here 2)
+
+  pub set-up-untouched : (ns : List ℕ) (psn : ℕ) (off : Bool) → Spared (onSetUpWords ns psn off ws r t)
+  unfolding onSetUpWords
+  set-up-untouched ns psn off =
+      let g = settingsFrom ns psn off in
+      let a = onSetUp g r t in
+      so-both Spared _ _ _
+      (λ _.
+      so-both Spared _ _ _
+      (λ _.
+      so-both Spared _ _ _
+      (λ _ h. refused-after (a .number) (a .number) (a .after) (freshState noSettings) h (set-up-same g r t h))
+      (λ _ _. refused-here 2))
+      (λ _ _. refused-here 1))
+      (λ _ _. refused-here 2)
+
+-- ---- a refused replay
+
+-- a state of zeros does not hold together: its MTU is out of range
+zeros-unsound : (r : Ring) (t : List ℕ) → sound (world (freshState noSettings) r t) ≡ false
+unfolding sound inRange inside freshState noSettings
+zeros-unsound r t = refl
+
+and-no : (b : Bool) → (b && false) ≡ false
+and-no true = refl
+and-no false = refl
+
+module _ (log place ws : List ℕ) (r : Ring) (t answers : List ℕ) where
+  -- a number other than 0 is 2, and all is as it was
+  abbrev pub SparedReplay : Replayed → Type 0
+  SparedReplay x = (x .number ≡ 0 → ⊥) → x ≡ replayCalled 2 place ws r t answers
+
+  -- beside a refused batch nothing is stored
+  batch-spared :
+      (b : Batching) → SparedReplay (replayCalled (b .number) place ws (b .after .slots) (b .after .times) (b .room)) → SparedReplay (handed place ws b)
+  unfolding handed
+  batch-spared b f = eq-both SparedReplay (b .number) 0 _ _ (λ _ h. absurd (h refl)) (λ _. f)
+
+  pub replay-untouched : SparedReplay (onReplayWords log place ws r t answers)
+  unfolding onReplayWords batchOf filled
+  replay-untouched =
+      let p = placeFrom place in
+      let w = world (unpacked ws .state) r t in
+      so-both SparedReplay (lentOk place ws) _ _
+      (λ _.
+      batch-spared (batchOf log p w answers)
+      (so-both (λ (b : Batching). SparedReplay (replayCalled (b .number) place ws (b .after .slots) (b .after .times) (b .room))) (holds p w) _ _
+      (λ _ h. absurd (h refl))
+      (λ _ _. refl)))
+      (λ _ _. refl)
+
+  -- past record 1 and before a stop, words that are no state's are refused
+  pub replay-no-state :
+      wordsOk ws ≡ false → (word place 1 ≡ 0 → ⊥) → flag place 2 ≡ false →
+      onReplayWords log place ws r t answers ≡ replayCalled 2 place ws r t answers
+  unfolding onReplayWords batchOf handed holds soundAfter unpacked
+  replay-no-state bad done going =
+      let p = placeFrom place in
+      let w = world (unpacked ws .state) r t in
+      let zeros : unpacked ws .state ≡ freshState noSettings = ap (λ (u : Unpacked). u .state) (sym (so-no (wordsOk ws) _ _ _ bad refl)) in
+      let unsound : sound w ≡ false = ap (λ (c : Controller). sound (world c r t)) zeros ∙ zeros-unsound r t in
+      let broken : holds p w ≡ false = rw (going, ne-eqb (word place 1) 0 done, unsound) (and-no (leb (word place 1) (word place 0))) in
+      so-both (λ (x : Replayed). x ≡ replayCalled 2 place ws r t answers) (lentOk place ws) _ _
+      (λ _. sym (ap (handed place ws) (so-no (holds p w) _ _ _ broken refl)) ∙ sym (eq-no 2 0 _ _ _ (λ e. omega arith) refl))
+      (λ _. refl)

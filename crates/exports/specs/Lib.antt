@@ -1,0 +1,3 @@
+-- What the contracts of `exports` cite.
+pub mod Calls
+pub mod Batch

@@ -1,0 +1,4 @@
+pub mod Checked
+pub mod Copied
+pub mod InFlight
+pub mod Inverse

@@ -1,0 +1,162 @@
+/*
+ * nscc.h: a proved sender-side NSCC congestion controller, for network card firmware.
+ *
+ * One context is a state of NSCC_WORDS words, a ring of four arrays and NSCC_EVS times, all of them the caller's memory. Nothing is allocated, nothing is kept
+ * between calls, no function blocks; each may be called from any thread as long as no two calls share memory.
+ *
+ * Every function answers for every number that is handed in. The answer is 0, or the number of a refusal (nscc_refusal), and a refusal leaves every lent
+ * word and byte as it was. That is proved. What no proof can see is asked of the caller:
+ *   - each pointer is followed by the length, in elements, of the memory that it points to, and that memory may be read (const) or read and written;
+ *   - no two arrays of one call overlap;
+ *   - a pointer is not null, also where its length is 0, and is aligned for its type.
+ *
+ * The ring has as many slots as its four arrays have elements: a power of two from 64 to 4096, the same for all four. Time is in ticks of 128 ns.
+ */
+#ifndef NSCC_H
+#define NSCC_H
+
+#include <stdbool.h>
+#include <stddef.h>
+#include <stdint.h>
+
+#ifdef __cplusplus
+extern "C" {
+#endif
+
+/* Why a call was refused. */
+enum nscc_refusal {
+    NSCC_ACCEPTED = 0,
+    NSCC_SETTING = 1,      /* a setting is outside its range */
+    NSCC_UNSOUND = 2,      /* state or buffers don't hold together, or a length is wrong */
+    NSCC_TIME = 3,         /* time before the held clock, or 2^48 or more */
+    NSCC_FIELD = 4,        /* a size, byte count, received count, reason, EV or trigger out of range */
+    NSCC_BACKLOG = 5,      /* a new packet larger than the backlog */
+    NSCC_WINDOW_FULL = 6,  /* in-flight + MTU is over the window */
+    NSCC_RING_FULL = 7,    /* no slot for a new packet */
+    NSCC_WRONG_PSN = 8,    /* a new packet's PSN is not next; a resend's is not marked, or its size differs */
+    NSCC_UNSENT_OR_OLD = 9, /* an ACK that names an unsent packet, or is too old */
+    NSCC_NOT_FLYING = 10,  /* a NACK or a loss of a packet that does not fly */
+    NSCC_SINKS = 11,       /* in-flight would fall below -2^24 */
+    NSCC_MALFORMED = 12    /* nscc_replay: a log record is malformed */
+};
+
+/* The twelve settings, in this order, as nscc_set_up takes them. */
+enum nscc_setting {
+    NSCC_MTU,             /* 1024..16384 bytes */
+    NSCC_MAXWND,          /* MTU..2^26 bytes */
+    NSCC_CONFIG_BASE_RTT, /* 1..2^14 ticks */
+    NSCC_TARGET_QDELAY,   /* 1..2^14 ticks */
+    NSCC_FI,              /* 0..2^20 */
+    NSCC_ETA,             /* 0..2^20 */
+    NSCC_ALPHA,           /* 0..2^14 */
+    NSCC_GAMMA,           /* 0..1024, parts of 1024 */
+    NSCC_MAX_MD_JUMP,     /* 0..1024, parts of 1024 */
+    NSCC_ADJUST_PERIOD,   /* 1..2^20 ticks */
+    NSCC_ADJUST_BYTES,    /* 1..2^26 bytes */
+    NSCC_QA_THRESHOLD,    /* 0..2^20 ticks */
+    NSCC_SETTINGS         /* how many there are */
+};
+
+/* The state's words, in this order. A word that no state has is refused with 2. */
+enum nscc_word {
+    /* 0..11: the twelve settings, as above */
+    NSCC_FIRST_PSN = NSCC_SETTINGS,
+    NSCC_QUICK_ADAPT_OFF, /* 0 or 1 */
+    NSCC_LOW,             /* the oldest PSN that is not done */
+    NSCC_NEXT,            /* the PSN of the next new packet */
+    NSCC_HELD,            /* the received count, in units of 256 bytes */
+    NSCC_BACKLOG_BYTES,
+    NSCC_FLYING,          /* packets */
+    NSCC_MARKED,          /* packets that wait to be sent again */
+    NSCC_MARKED_BYTES,
+    NSCC_IN_FLIGHT,       /* in-flight bytes + 2^24: in-flight itself may be below zero */
+    NSCC_CWND,
+    NSCC_BASE,
+    NSCC_AVG,             /* the delay average, in 1/1024 tick */
+    NSCC_INC_BYTES,
+    NSCC_RECEIVED,
+    NSCC_ACHIEVED,
+    NSCC_IGNORED,
+    NSCC_BYTES_TO_IGNORE,
+    NSCC_FI_COUNT,
+    NSCC_FAST,            /* fast mode, 0 or 1 */
+    NSCC_TRIGGER,         /* quick adapt's trigger, 0 or 1 */
+    NSCC_QA_END,
+    NSCC_LAST_ADJUST,
+    NSCC_LAST_DEC,
+    NSCC_CLOCK,
+    NSCC_CURSOR,
+    NSCC_PHASE,           /* 0 IDLE, 1 PENDING, 2 READY, 3 ACTIVE */
+    NSCC_WORDS            /* how many there are: 39 */
+};
+
+/* What is added to in-flight in its word. */
+#define NSCC_IN_FLIGHT_ADDED 16777216
+
+/* The EV times: exactly so many. */
+#define NSCC_EVS 256
+
+/*
+ * Sets a context up: 1, or 2 on lengths. Clears the ring and the EV times and writes the state's words; a refusal changes nothing.
+ * settings_len is NSCC_SETTINGS, state_len NSCC_WORDS, evs_len NSCC_EVS.
+ */
+uint32_t nscc_set_up(const uint64_t *settings, size_t settings_len, uint32_t first_psn, bool quick_adapt_off,
+                     uint64_t *state, size_t state_len, uint8_t *status, size_t status_len, uint32_t *size, size_t size_len,
+                     uint64_t *sent, size_t sent_len, uint8_t *resent, size_t resent_len, uint64_t *evs, size_t evs_len);
+
+/* New data in the backlog: 2, 3, 4. The ring and the EV times are only read. */
+uint32_t nscc_new_data(uint64_t *state, size_t state_len, const uint8_t *status, size_t status_len, const uint32_t *size, size_t size_len,
+                       const uint64_t *sent, size_t sent_len, const uint8_t *resent, size_t resent_len, const uint64_t *evs, size_t evs_len,
+                       uint64_t time, uint64_t bytes);
+
+/* A new packet of that PSN and size, or a resend: 2, 3, 4, 8, 5, 7, 6. The EV times are only read. */
+uint32_t nscc_send(uint64_t *state, size_t state_len, uint8_t *status, size_t status_len, uint32_t *size, size_t size_len,
+                   uint64_t *sent, size_t sent_len, uint8_t *resent, size_t resent_len, const uint64_t *evs, size_t evs_len,
+                   uint64_t time, uint32_t psn, uint32_t bytes, bool resend);
+
+/* An ACK: 2, 3, 4, 9, 11. cum covers every PSN up to itself, bit i of map covers cum + 1 + i; marked is the M flag. */
+uint32_t nscc_ack(uint64_t *state, size_t state_len, uint8_t *status, size_t status_len, uint32_t *size, size_t size_len,
+                  uint64_t *sent, size_t sent_len, uint8_t *resent, size_t resent_len, uint64_t *evs, size_t evs_len,
+                  uint64_t time, uint32_t cum, uint64_t map, uint32_t trigger, uint32_t count, uint32_t service, uint32_t ev,
+                  bool marked, bool retx);
+
+/* A NACK: 2, 3, 4, 10, 11. reason is 0 trimmed, 1 trimmed at the last hop, 2 other. Sizes, send times and resend counts are only read. */
+uint32_t nscc_nack(uint64_t *state, size_t state_len, uint8_t *status, size_t status_len, const uint32_t *size, size_t size_len,
+                   const uint64_t *sent, size_t sent_len, const uint8_t *resent, size_t resent_len, uint64_t *evs, size_t evs_len,
+                   uint64_t time, uint32_t psn, uint32_t ev, uint32_t reason, bool marked, bool retx);
+
+/* A packet taken for lost: 2, 3, 4, 10, 11. Sizes, send times and resend counts are only read. */
+uint32_t nscc_loss(uint64_t *state, size_t state_len, uint8_t *status, size_t status_len, const uint32_t *size, size_t size_len,
+                   const uint64_t *sent, size_t sent_len, const uint8_t *resent, size_t resent_len, uint64_t *evs, size_t evs_len,
+                   uint64_t time, uint32_t psn, uint32_t ev);
+
+/* The next path: the number (2, 3) in the low 32 bits of the answer, and where it is 0 the EV above them. The ring and the EV times are only read. */
+uint64_t nscc_path(uint64_t *state, size_t state_len, const uint8_t *status, size_t status_len, const uint32_t *size, size_t size_len,
+                   const uint64_t *sent, size_t sent_len, const uint8_t *resent, size_t resent_len, const uint64_t *evs, size_t evs_len,
+                   uint64_t time);
+
+/* The words of a place in a log, all 0 at its start. */
+enum nscc_place {
+    NSCC_AT,       /* the offset of the first record that is not done */
+    NSCC_DONE,     /* how many records are done */
+    NSCC_STOPPED,  /* 0 or 1: record 1 was refused, or a record with 12 */
+    NSCC_ANSWERED, /* how many answers the last call gave */
+    NSCC_PLACE     /* how many words there are */
+};
+
+/*
+ * Replays a log's bytes from a place on, until the answers' room is full, the log ends or replay stops; call again, with room for at least one answer, until
+ * NSCC_ANSWERED is 0. Answers 0, or 2 with nothing changed. An answer is the record's number of refusal in its low 32 bits, and above them the EV of an
+ * accepted path choice.
+ * The first record sets the context up: the state's words are looked at only between an accepted settings record and a stop. A first record that is refused
+ * with 1 leaves the words of a state of zeros.
+ */
+uint32_t nscc_replay(uint64_t *place, size_t place_len, uint64_t *state, size_t state_len, uint8_t *status, size_t status_len,
+                     uint32_t *size, size_t size_len, uint64_t *sent, size_t sent_len, uint8_t *resent, size_t resent_len,
+                     uint64_t *evs, size_t evs_len, const uint8_t *log, size_t log_len, uint64_t *answers, size_t answers_len);
+
+#ifdef __cplusplus
+}
+#endif
+
+#endif
