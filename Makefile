@@ -8,7 +8,7 @@ LOG = examples/worked.log
 run:
 	@mkdir -p target
 	@rt check nscc >target/run.log 2>&1 || { cat target/run.log >&2; exit 1; }
-	@tools/x86-64 target/bin/nscc "$(LOG)"
+	@tools/x86-64 run target/bin/nscc "$(LOG)"
 
 # Runs the tests of the Rust model; then proves every crate of crates.txt, tries every must-fail edit and runs every program.
 # The last line is 'N passed, 0 failed' where all is well; anything red is red.
