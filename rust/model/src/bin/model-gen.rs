@@ -1,10 +1,10 @@
-//! `model-gen traffic|hostile|bulk SEED RECORDS`: writes a generated event log to standard output.
+//! `model-gen traffic|lossy|marked|hostile|bulk SEED RECORDS`: writes a generated event log to standard output.
 
 use model::gen;
 use std::io::{self, Write};
 use std::process::ExitCode;
 
-const USAGE: &str = "usage: model-gen traffic|hostile|bulk SEED RECORDS";
+const USAGE: &str = "usage: model-gen traffic|lossy|marked|hostile|bulk SEED RECORDS";
 
 fn main() -> ExitCode {
     let arguments: Vec<String> = std::env::args().skip(1).collect();
@@ -28,6 +28,8 @@ fn generate(arguments: &[String]) -> Option<Vec<u8>> {
     let records = records.parse().ok()?;
     match kind.as_str() {
         "traffic" => Some(gen::traffic(seed, records)),
+        "lossy" => Some(gen::lossy(seed, records)),
+        "marked" => Some(gen::marked(seed, records)),
         "hostile" => Some(gen::hostile(seed, records)),
         "bulk" => Some(gen::bulk(seed, records)),
         _ => None,

@@ -4,7 +4,7 @@ mod hostile;
 mod traffic;
 
 pub use hostile::hostile;
-pub use traffic::traffic;
+pub use traffic::{lossy, marked, traffic};
 
 use crate::bounds::{COUNT_END, UNIT};
 use crate::log::{append, Record, QUICK_ADAPT_OFF};

@@ -14,10 +14,25 @@ use std::cmp::Reverse;
 use std::collections::{BinaryHeap, VecDeque};
 
 pub fn traffic(seed: u64, records: usize) -> Vec<u8> {
+    run(seed, records, |_| {})
+}
+
+/// Traffic of which about one packet in six is trimmed, refused or lost.
+pub fn lossy(seed: u64, records: usize) -> Vec<u8> {
+    run(seed, records, |sim| sim.road.losses = 40)
+}
+
+/// Traffic of which at least three packets in four are marked.
+pub fn marked(seed: u64, records: usize) -> Vec<u8> {
+    run(seed, records, |sim| sim.road.marks = 3)
+}
+
+fn run(seed: u64, records: usize, shape: impl Fn(&mut Sim)) -> Vec<u8> {
     let mut rng = Rng::new(seed);
     let settings = settings(&mut rng);
     let start = rng.below(1 << 20);
     let mut sim = Sim::new(rng, settings, start, records);
+    shape(&mut sim);
     while !sim.full() {
         sim.step();
     }
@@ -71,6 +86,10 @@ struct Road {
     free_at: u64,
     bytes_per_base: u64,
     base: u64,
+    /// How many times as many packets as usual are lost.
+    losses: u64,
+    /// Of four packets so many are marked, whatever the queue.
+    marks: u64,
 }
 
 impl Road {
@@ -155,6 +174,8 @@ impl Sim {
             free_at: 0,
             bytes_per_base: rng.between(settings.max_wnd / 4, settings.max_wnd).max(1),
             base: rng.between(base / 2, base).max(1),
+            losses: 1,
+            marks: 0,
         };
         let mut sim = Sim {
             small: rng.between(1, 16),
@@ -295,7 +316,9 @@ impl Sim {
         let base = self.road.base;
         let (fate, after) = self.fate(queue);
         let target = self.state.settings.target_qdelay;
-        let marked = queue > target || (queue > target / 2 && self.rng.one_in(3));
+        let marked = queue > target
+            || (queue > target / 2 && self.rng.one_in(3))
+            || (self.road.marks > 0 && self.rng.below(4) < self.road.marks);
         let flags = if marked { M } else { 0 } | if resend { RETX } else { 0 };
         self.put_on_road(Packet {
             due: self.now + base + after,
@@ -311,7 +334,7 @@ impl Sim {
     /// What becomes of a packet that queues so long, and when, counted from the base.
     fn fate(&mut self, queue: u64) -> (Fate, u64) {
         let base = self.road.base;
-        match self.rng.below(4000) {
+        match self.rng.below(4000) / self.road.losses {
             0..=7 => (Fate::Lost, 2 * base),
             8 => (Fate::Late, 2 * base),
             9..=11 => (Fate::Refused(OTHER), queue),

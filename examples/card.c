@@ -1,0 +1,103 @@
+/*
+ * A card's first steps with nscc.h: the requirements' worked example by calls, then a packet that is trimmed, sent again and acknowledged.
+ *
+ *     gcc -std=c99 -Wall -Wextra -Werror -Iinclude examples/card.c target/staticlib/libexports.a
+ *
+ * The archive is for x86-64. card.out has what this program prints.
+ */
+#include "nscc.h"
+
+#include <stdio.h>
+#include <stdlib.h>
+#include <string.h>
+
+/* A power of two, 64..4096. */
+enum { SLOTS = 64 };
+
+/* All the memory of one context. It is the card's: the library keeps nothing between calls. */
+struct card {
+    uint64_t state[NSCC_WORDS];
+    uint8_t status[SLOTS];
+    uint32_t size[SLOTS];
+    uint64_t sent[SLOTS];
+    uint8_t resent[SLOTS];
+    uint64_t evs[NSCC_EVS];
+};
+
+/* What every call is lent: each array with its length. */
+#define LENT(card)                                                                                                                                           \
+    (card)->state, NSCC_WORDS, (card)->status, SLOTS, (card)->size, SLOTS, (card)->sent, SLOTS, (card)->resent, SLOTS, (card)->evs, NSCC_EVS
+
+/* Settings E of the requirements, in the order of enum nscc_setting. */
+static const uint64_t settings[NSCC_SETTINGS] = {4096, 614400, 96, 72, 4096, 1024, 224, 819, 512, 96, 32768, 288};
+
+static const char *const phases[] = {"IDLE", "PENDING", "READY", "ACTIVE"};
+
+/* In-flight is held with an offset, since it may be below zero. */
+static long long in_flight(const struct card *card)
+{
+    return (long long)card->state[NSCC_IN_FLIGHT] - NSCC_IN_FLIGHT_ADDED;
+}
+
+static void show(const char *call, uint32_t answer, const struct card *card)
+{
+    const uint64_t *state = card->state;
+    printf("%s %u %lld %llu %llu %llu %llu %s\n", call, (unsigned)answer, in_flight(card), (unsigned long long)state[NSCC_CWND],
+           (unsigned long long)state[NSCC_FLYING], (unsigned long long)state[NSCC_MARKED], (unsigned long long)state[NSCC_BACKLOG_BYTES],
+           phases[state[NSCC_PHASE]]);
+}
+
+/* A send of a PSN that is not next. The refusal must leave the whole context as it was. */
+static void refused_send(struct card *card)
+{
+    const struct card before = *card;
+    show("send-2", nscc_send(LENT(card), 20, 2, 4096, false), card);
+    bool same = memcmp(before.state, card->state, sizeof before.state) == 0 && memcmp(before.status, card->status, sizeof before.status) == 0 &&
+                memcmp(before.size, card->size, sizeof before.size) == 0 && memcmp(before.sent, card->sent, sizeof before.sent) == 0 &&
+                memcmp(before.resent, card->resent, sizeof before.resent) == 0 && memcmp(before.evs, card->evs, sizeof before.evs) == 0;
+    if (!same) {
+        puts("the refusal changed something");
+        exit(EXIT_FAILURE);
+    }
+    puts("refused, and nothing changed");
+}
+
+/* The EV to send the next packet with. */
+static uint32_t next_path(struct card *card, uint64_t time)
+{
+    uint64_t answer = nscc_path(LENT(card), time);
+    uint32_t ev = (uint32_t)(answer >> 32);
+    show("path", (uint32_t)answer, card);
+    printf("EV %u\n", (unsigned)ev);
+    return ev;
+}
+
+int main(void)
+{
+    static struct card card;
+    puts("call ans inflight cwnd flying waiting backlog state");
+    show("set-up", nscc_set_up(settings, NSCC_SETTINGS, 0, false, LENT(&card)), &card);
+
+    /* The worked example. */
+    show("new-data", nscc_new_data(LENT(&card), 0, 8192), &card);
+    show("send-0", nscc_send(LENT(&card), 10, 0, 4096, false), &card);
+    refused_send(&card);
+    show("ack-0", nscc_ack(LENT(&card), 110, 0, 0, 0, 16, 4, 0, false, false), &card);
+
+    /* PSN 1 goes out on the next path, and is trimmed there: its EV is avoided for a while. */
+    uint32_t ev = next_path(&card, 120);
+    show("send-1", nscc_send(LENT(&card), 130, 1, 4096, false), &card);
+    show("nack-1", nscc_nack(LENT(&card), 230, 1, ev, 0, false, false), &card);
+    printf("EV %u is avoided until %llu\n", (unsigned)ev, (unsigned long long)card.evs[ev]);
+
+    /* Sent again on another path. Its ACK has the retx flag, so it gives a sample. */
+    ev = next_path(&card, 235);
+    show("resend-1", nscc_send(LENT(&card), 240, 1, 4096, true), &card);
+    show("ack-1", nscc_ack(LENT(&card), 340, 1, 0, 1, 32, 4, ev, false, true), &card);
+    printf("base %llu, average %llu/1024 ticks\n", (unsigned long long)card.state[NSCC_BASE], (unsigned long long)card.state[NSCC_AVG]);
+
+    /* Firmware that hands in insane numbers is told so. */
+    card.state[NSCC_CWND] = 0;
+    printf("a window of 0: %u\n", (unsigned)nscc_new_data(LENT(&card), 341, 1));
+    return EXIT_SUCCESS;
+}

@@ -1,0 +1,166 @@
+use model::{Event, Loss, NewData, Outcome, Send};
+use nscc::raw::Lent;
+use nscc::{Ack, Nack};
+
+/// A call of a C function, with fields as wide as the function takes them.
+#[derive(Clone, Debug, PartialEq, Eq)]
+pub enum Call {
+    SetUp {
+        settings: Vec<u64>,
+        first_psn: u32,
+        quick_adapt_off: bool,
+    },
+    NewData {
+        time: u64,
+        bytes: u64,
+    },
+    Send {
+        time: u64,
+        psn: u32,
+        bytes: u32,
+        resend: bool,
+    },
+    Ack(Ack),
+    Nack(Nack),
+    Loss {
+        time: u64,
+        psn: u32,
+        ev: u32,
+    },
+    Path {
+        time: u64,
+    },
+}
+
+impl Call {
+    pub fn set_up(settings: &model::Settings) -> Call {
+        Call::SetUp {
+            settings: settings.numbers().to_vec(),
+            first_psn: settings.first_psn,
+            quick_adapt_off: settings.quick_adapt_off,
+        }
+    }
+
+    /// Calls the C function: the number in the low 32 bits, an EV above them.
+    pub fn ask(&self, lent: &mut Lent) -> u64 {
+        let number = match self {
+            Call::SetUp {
+                settings,
+                first_psn,
+                quick_adapt_off,
+            } => lent.set_up(settings, *first_psn, *quick_adapt_off),
+            Call::NewData { time, bytes } => lent.new_data(*time, *bytes),
+            Call::Send {
+                time,
+                psn,
+                bytes,
+                resend,
+            } => lent.send(*time, *psn, *bytes, *resend),
+            Call::Ack(ack) => lent.ack(ack),
+            Call::Nack(nack) => lent.nack(nack),
+            Call::Loss { time, psn, ev } => lent.loss(*time, *psn, *ev),
+            Call::Path { time } => return lent.path(*time),
+        };
+        number.into()
+    }
+
+    /// The model's event; `None` for setting up. The model's EVs and reasons are narrower: a wider
+    /// one is handed to it as its widest, which it refuses alike.
+    pub fn event(&self) -> Option<Event> {
+        let event = match *self {
+            Call::SetUp { .. } => return None,
+            Call::NewData { time, bytes } => NewData { time, bytes }.into(),
+            Call::Send {
+                time,
+                psn,
+                bytes,
+                resend,
+            } => Event::Send(Send {
+                time,
+                size: bytes,
+                psn,
+                resend,
+            }),
+            Call::Ack(ack) => Event::Ack(model_ack(&ack)),
+            Call::Nack(nack) => Event::Nack(model_nack(&nack)),
+            Call::Loss { time, psn, ev } => Event::Loss(Loss {
+                time,
+                psn,
+                ev: narrow_ev(ev),
+            }),
+            Call::Path { time } => Event::Path { time },
+        };
+        Some(event)
+    }
+
+    pub fn of(event: &Event) -> Call {
+        match *event {
+            Event::NewData(NewData { time, bytes }) => Call::NewData { time, bytes },
+            Event::Send(send) => Call::Send {
+                time: send.time,
+                psn: send.psn,
+                bytes: send.size,
+                resend: send.resend,
+            },
+            Event::Ack(ack) => Call::Ack(Ack {
+                time: ack.time,
+                cum: ack.cum,
+                map: ack.map,
+                trigger: ack.trigger,
+                count: ack.count,
+                service: ack.service,
+                ev: ack.ev.into(),
+                marked: ack.marked,
+                retx: ack.retx,
+            }),
+            Event::Nack(nack) => Call::Nack(Nack {
+                time: nack.time,
+                psn: nack.psn,
+                ev: nack.ev.into(),
+                reason: nack.reason.into(),
+                marked: nack.marked,
+                retx: nack.retx,
+            }),
+            Event::Loss(Loss { time, psn, ev }) => Call::Loss {
+                time,
+                psn,
+                ev: ev.into(),
+            },
+            Event::Path { time } => Call::Path { time },
+        }
+    }
+}
+
+fn model_ack(ack: &Ack) -> model::Ack {
+    model::Ack {
+        time: ack.time,
+        cum: ack.cum,
+        map: ack.map,
+        trigger: ack.trigger,
+        count: ack.count,
+        service: ack.service,
+        ev: narrow_ev(ack.ev),
+        marked: ack.marked,
+        retx: ack.retx,
+    }
+}
+
+fn model_nack(nack: &Nack) -> model::Nack {
+    model::Nack {
+        time: nack.time,
+        psn: nack.psn,
+        ev: narrow_ev(nack.ev),
+        reason: nack.reason.try_into().unwrap_or(u8::MAX),
+        marked: nack.marked,
+        retx: nack.retx,
+    }
+}
+
+fn narrow_ev(ev: u32) -> u16 {
+    ev.try_into().unwrap_or(u16::MAX)
+}
+
+/// The model's outcome as the C functions answer it.
+pub fn answer_of(outcome: Outcome) -> u64 {
+    u64::from(outcome.number) | u64::from(outcome.ev.unwrap_or(0)) << 32
+}

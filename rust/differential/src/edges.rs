@@ -1,0 +1,205 @@
+//! Calls with fields at and beyond their edges, as wide as the C functions take them.
+
+use crate::call::Call;
+use crate::numbers::edge;
+use crate::source::{Source, View};
+use model::bounds::{BACKLOG_MAX, COUNT_END, IN_FLIGHT_MIN, PSN_REACH, TIME_END, UNIT};
+use nscc::{Ack, Nack};
+
+impl Source {
+    pub(crate) fn edge_call(&mut self, view: &View) -> Call {
+        let time = self.edge_time(view);
+        match self.rng.below(12) {
+            0 => Call::NewData {
+                time,
+                bytes: self.edge_bytes(view),
+            },
+            1..=3 => self.edge_send(view, time),
+            4..=6 => Call::Ack(self.edge_ack(view, time)),
+            7 => Call::Ack(self.spoilt_ack(view, time)),
+            8 | 9 => Call::Nack(Nack {
+                time,
+                psn: self.edge_psn(view),
+                ev: self.edge_ev(),
+                reason: self.rng.pick(&[0, 1, 2, 2, 3, 256, 1 << 16, u32::MAX]),
+                marked: self.rng.one_in(2),
+                retx: self.rng.one_in(2),
+            }),
+            10 => Call::Loss {
+                time,
+                psn: self.edge_psn(view),
+                ev: self.edge_ev(),
+            },
+            _ => Call::Path { time },
+        }
+    }
+
+    fn edge_time(&mut self, view: &View) -> u64 {
+        let clock = view.state.clock;
+        let any = edge(&mut self.rng);
+        match self.rng.below(24) {
+            0 => clock.wrapping_sub(1),
+            1 => TIME_END,
+            2 => self
+                .rng
+                .pick(&[0, u64::MAX, clock + (1 << 32), any | TIME_END]),
+            3 => (clock + self.rng.pick(&[1 << 20, (1 << 20) + 1])).min(TIME_END - 1),
+            4 if self.rng.one_in(50) => TIME_END - 1,
+            _ => (clock + self.rng.below(50)).min(TIME_END - 1),
+        }
+    }
+
+    fn edge_bytes(&mut self, view: &View) -> u64 {
+        let left = BACKLOG_MAX - view.state.backlog;
+        let any = edge(&mut self.rng);
+        let rare = self.rng.one_in(8);
+        let bytes = [0, 1, 41, left + 1, any, if rare { left } else { 1 << 20 }];
+        self.rng.pick(&bytes)
+    }
+
+    pub(crate) fn edge_psn(&mut self, view: &View) -> u32 {
+        let (low, next) = (view.state.low, view.state.next);
+        let inside = low.wrapping_add(self.rng.below(u64::from(view.outstanding()) + 1) as u32);
+        self.rng.pick(&[
+            low.wrapping_sub(1),
+            low,
+            next.wrapping_sub(1),
+            next,
+            next.wrapping_add(1),
+            low.wrapping_add(view.capacity() as u32),
+            low.wrapping_sub(view.capacity() as u32),
+            next.wrapping_sub(1 + PSN_REACH),
+            next.wrapping_sub(2 + PSN_REACH),
+            next ^ 1 << 31,
+            inside,
+            inside,
+            inside,
+        ])
+    }
+
+    fn edge_ev(&mut self) -> u32 {
+        let any = self.ev();
+        self.rng
+            .pick(&[0, 255, 256, 1 << 16, u32::MAX, any, any, any, any, any])
+    }
+
+    fn edge_send(&mut self, view: &View, time: u64) -> Call {
+        let mtu = view.state.settings.mtu as u32;
+        let any = self.rng.between(41, u64::from(mtu)) as u32;
+        let over_backlog = (view.state.backlog as u32).saturating_add(1).min(mtu);
+        let psn = self.edge_psn(view);
+        let next = view.state.next;
+        let psn = self.rng.pick(&[psn, psn, next, next]);
+        let held = view.memory.size[view.slot(psn)];
+        let sizes = [
+            0,
+            40,
+            41,
+            mtu,
+            mtu + 1,
+            any,
+            over_backlog,
+            held,
+            held,
+            held + 1,
+            u32::MAX,
+        ];
+        Call::Send {
+            time,
+            psn,
+            bytes: self.rng.pick(&sizes),
+            resend: self.rng.one_in(2),
+        }
+    }
+
+    fn edge_ack(&mut self, view: &View, time: u64) -> Ack {
+        let cum = self.edge_psn(view);
+        let map = self.edge_map(view.state.next.wrapping_sub(1).wrapping_sub(cum));
+        let any = self.edge_psn(view);
+        let trigger = self.rng.pick(&[
+            cum,
+            cum,
+            cum.wrapping_add(1),
+            cum.wrapping_add(1 + map.trailing_zeros()),
+            cum.wrapping_sub(PSN_REACH),
+            cum.wrapping_sub(PSN_REACH + 1),
+            any,
+        ]);
+        Ack {
+            time,
+            cum,
+            map,
+            trigger,
+            count: self.edge_count(view),
+            service: self.edge_service(view, time, trigger),
+            ev: self.edge_ev(),
+            marked: self.rng.one_in(2),
+            retx: self.rng.one_in(2),
+        }
+    }
+
+    /// A good ACK but for one field.
+    fn spoilt_ack(&mut self, view: &View, time: u64) -> Ack {
+        let good = self.ack(view, view.state.clock);
+        let strange = self.edge_ack(view, time);
+        match self.rng.below(6) {
+            0 => Ack { time, ..good },
+            1 => Ack {
+                map: strange.map,
+                ..good
+            },
+            2 => Ack {
+                trigger: strange.trigger,
+                ..good
+            },
+            3 => Ack {
+                ev: strange.ev,
+                ..good
+            },
+            4 => Ack {
+                service: strange.service,
+                ..good
+            },
+            _ => Ack {
+                count: strange.count,
+                ..good
+            },
+        }
+    }
+
+    fn edge_map(&mut self, back: u32) -> u64 {
+        let thin = self.rng.next_u64() & self.rng.next_u64();
+        let sent = if back < 64 { (1 << back) - 1 } else { u64::MAX };
+        let furthest = sent ^ (sent >> 1);
+        let beyond = 1u64.checked_shl(back).unwrap_or(0);
+        let maps = [0, 1, sent, thin & sent, thin & sent, furthest, beyond, thin];
+        self.rng.pick(&maps)
+    }
+
+    /// In-flight falls to its bound or under it, or the count is at the edge of being old.
+    fn edge_count(&mut self, view: &View) -> u32 {
+        let to_bound = (view.state.in_flight - IN_FLIGHT_MIN) as u64 / UNIT;
+        let step = self.rng.below(64);
+        // From the bound it takes a stream long to come back.
+        let deep = if self.rng.one_in(16) { to_bound } else { step };
+        let end = u64::from(COUNT_END);
+        let half = end / 2;
+        let old = self.rng.pick(&[end - 1, half - 1, half, half + 1]);
+        let ahead = self.rng.pick(&[0, 1, step, step, old, deep, to_bound + 1]);
+        match self.rng.below(16) {
+            0 => self
+                .rng
+                .pick(&[COUNT_END - 1, COUNT_END, 1 << 25, u32::MAX]),
+            _ => ((u64::from(view.state.held) + ahead) % end) as u32,
+        }
+    }
+
+    /// So that the sample is -1, 0 or 1, or anything.
+    fn edge_service(&mut self, view: &View, time: u64, trigger: u32) -> u32 {
+        let sent = view.memory.sent[view.slot(trigger)];
+        let trip = time.saturating_sub(sent).try_into().unwrap_or(u32::MAX);
+        let short = trip.saturating_sub(1);
+        let long = trip.saturating_add(1);
+        self.rng.pick(&[0, 0, short, trip, long, 50, u32::MAX])
+    }
+}

@@ -1,0 +1,23 @@
+use crate::call::Call;
+use crate::logs::{generated, CAPACITY};
+use crate::session::Session;
+use crate::sides::Model;
+use crate::tally::Tally;
+use model::{Reader, Rng};
+
+/// The records as calls, up to the first that is malformed.
+pub fn run(seed: u64, tally: &mut Tally) -> Result<(), String> {
+    let mut rng = Rng::new(seed);
+    let log = generated(&mut rng, 1_500);
+    let mut reader = Reader::new(&log);
+    let mut session = Session::new(Model::empty(CAPACITY));
+    tally.cases += 1;
+    while let Ok(Some(record)) = reader.next_record() {
+        let settings = record.settings().map(|settings| Call::set_up(&settings));
+        let event = record.event().map(|event| Call::of(&event));
+        if let Some(call) = settings.or(event) {
+            session.call(call, tally)?;
+        }
+    }
+    Ok(())
+}

@@ -1,0 +1,70 @@
+use super::capacity;
+use super::streams::used;
+use crate::call::Call;
+use crate::numbers::{edge, instead_of, settings};
+use crate::session::Session;
+use crate::spoil::spoil_length;
+use crate::tally::Tally;
+use model::{Rng, Settings};
+
+pub fn run(seed: u64, tally: &mut Tally) -> Result<(), String> {
+    let mut rng = Rng::new(seed);
+    for _ in 0..50 {
+        one(&mut rng, tally)?;
+    }
+    Ok(())
+}
+
+fn one(rng: &mut Rng, tally: &mut Tally) -> Result<(), String> {
+    let capacity = capacity(rng);
+    let mut start = used(rng, capacity);
+    if rng.one_in(3) {
+        spoil_length(rng, &mut start);
+    }
+    let mut session = Session::new(start);
+    tally.cases += 1;
+    let call = call(rng);
+    session.call(call, tally)?;
+    // The fresh state, or what was refused, in use.
+    for _ in 0..3 {
+        let time = rng.below(3);
+        session.call(Call::Path { time }, tally)?;
+    }
+    Ok(())
+}
+
+/// Settings of which none, one or all are spoilt, or are too few or too many.
+fn call(rng: &mut Rng) -> Call {
+    let good = settings(rng, true);
+    let mut numbers = good.numbers();
+    match rng.below(8) {
+        0..=4 => beyond(rng, &mut numbers),
+        5 => numbers.fill_with(|| edge(rng)),
+        _ => {}
+    }
+    let mut call = Call::set_up(&Settings::from_numbers(
+        numbers,
+        good.first_psn,
+        good.quick_adapt_off,
+    ));
+    if let Call::SetUp { settings, .. } = &mut call {
+        if good.numbers() == numbers && rng.one_in(4) {
+            settings.resize(rng.pick(&[0, 1, 11, 13, 24]), 1_024);
+        }
+    }
+    call
+}
+
+/// One number at an edge of its range or beyond it.
+fn beyond(rng: &mut Rng, numbers: &mut [u64; 12]) {
+    let i = rng.below(12) as usize;
+    let range = Settings::ranges(numbers[0])[i].clone();
+    let strange = instead_of(rng, numbers[i]);
+    numbers[i] = rng.pick(&[
+        *range.start(),
+        range.start().wrapping_sub(1),
+        *range.end(),
+        range.end() + 1,
+        strange,
+    ]);
+}

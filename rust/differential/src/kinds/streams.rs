@@ -1,0 +1,47 @@
+use crate::call::Call;
+use crate::numbers::edge;
+use crate::profile::PROFILES;
+use crate::session::Session;
+use crate::sides::Model;
+use crate::source::Source;
+use crate::tally::Tally;
+use model::Rng;
+
+/// Capacity, and calls of a stream: enough to fill the ring.
+const SIZES: [(usize, usize); 3] = [(64, 2_000), (1_024, 3_000), (4_096, 6_000)];
+
+/// Seeds go through the profiles and the capacities.
+pub fn run(seed: u64, tally: &mut Tally) -> Result<(), String> {
+    let mut rng = Rng::new(seed);
+    let turn = seed as usize;
+    let profile = PROFILES[turn % PROFILES.len()];
+    let (capacity, calls) = SIZES[(turn + turn / PROFILES.len()) % SIZES.len()];
+    let settings = profile.settings(&mut rng);
+    let mut session = Session::new(used(&mut rng, capacity));
+    let mut source = Source { rng, profile };
+    tally.cases += 1;
+    session.call(Call::set_up(&settings), tally)?;
+    for _ in 0..calls {
+        let call = source.next(&session.model);
+        session
+            .call(call, tally)
+            .map_err(|report| format!("{}: {report}", profile.name))?;
+    }
+    Ok(())
+}
+
+/// Memory with something in it, which setting up has to clear.
+pub fn used(rng: &mut Rng, capacity: usize) -> Model {
+    let mut model = Model::empty(capacity);
+    let memory = &mut model.memory;
+    for _ in 0..16 {
+        let slot = rng.below(capacity as u64) as usize;
+        memory.status[slot] = edge(rng) as u8;
+        memory.size[slot] = edge(rng) as u32;
+        memory.sent[slot] = edge(rng);
+        memory.resent[slot] = edge(rng) as u8;
+        memory.ev_times[rng.below(256) as usize] = edge(rng);
+    }
+    model.words.fill_with(|| edge(rng));
+    model
+}

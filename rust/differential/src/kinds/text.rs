@@ -1,0 +1,154 @@
+use super::replay::report;
+use crate::logs::{damage, generated, long, LONG_EVERY};
+use crate::tally::Tally;
+use model::Rng;
+use std::io::Write;
+use std::path::{Path, PathBuf};
+use std::process::{Command, Output, Stdio};
+use std::{env, fs, io, process, thread};
+
+/// The variable that names another program, for this processor.
+const PROGRAM: &str = "NSCC_PROGRAM";
+
+/// The longest log that the program takes, in bytes.
+pub const LOG_MOST: usize = 4 << 20;
+
+/// How the program is run: by itself, or under an emulator on processors other than x86-64.
+/// `Err` is a message that it is missing.
+pub fn program() -> Result<Command, String> {
+    let root = Path::new(env!("CARGO_MANIFEST_DIR")).join("../..");
+    let named = env::var_os(PROGRAM).map(PathBuf::from);
+    let native = named.is_some() || cfg!(target_arch = "x86_64");
+    let program = named.unwrap_or_else(|| root.join("target/bin/nscc"));
+    if !program.is_file() {
+        let program = program.display();
+        return Err(format!(
+            "{program} is missing. Make it with `rt check nscc` at the repository's root, \
+             or name it in {PROGRAM}."
+        ));
+    }
+    if native {
+        return Ok(Command::new(program));
+    }
+    let mut command = Command::new(root.join("tools/x86-64"));
+    command.arg("run").arg(program);
+    Ok(command)
+}
+
+pub fn run(seed: u64, tally: &mut Tally) -> Result<(), String> {
+    let mut rng = Rng::new(seed);
+    let log = if seed.is_multiple_of(LONG_EVERY) {
+        front(long(seed))
+    } else {
+        let log = generated(&mut rng, 1_000);
+        let damaged = damage(&mut rng, &log);
+        if rng.one_in(2) {
+            log
+        } else {
+            damaged
+        }
+    };
+    let named = rng.one_in(2);
+    tally.cases += 1;
+    let text = compare(&log, named).map_err(|difference| {
+        let fails = |log: &[Vec<u8>]| compare(&log.concat(), named).is_err();
+        report(&log, &difference, fails)
+    })?;
+    count(&text, tally);
+    Ok(())
+}
+
+/// As many whole records as the program takes.
+fn front(mut log: Vec<u8>) -> Vec<u8> {
+    let mut end = 0;
+    while let Ok(Some((_, after))) = model::parse(&log, end) {
+        if after > LOG_MOST {
+            break;
+        }
+        end = after;
+    }
+    log.truncate(end);
+    log
+}
+
+/// Of a log that is too long nothing is printed, and why is told on standard error.
+pub fn too_long() -> Result<(), String> {
+    let log = vec![0; LOG_MOST + 1];
+    let output = from_input(program()?, &log).map_err(|error| format!("the program: {error}"))?;
+    if output.stdout.is_empty() && !output.stderr.is_empty() {
+        return Ok(());
+    }
+    Err(String::from_utf8_lossy(&output.stdout).into_owned())
+}
+
+/// The text on which both agree.
+fn compare(log: &[u8], named: bool) -> Result<String, String> {
+    let expected = model::replay(log);
+    let program = program()?;
+    let output = if named {
+        from_file(program, log)
+    } else {
+        from_input(program, log)
+    };
+    let output = output.map_err(|error| format!("the program: {error}"))?;
+    if output.status.code().is_none() {
+        return Err(format!("the program died: {}", output.status));
+    }
+    if output.stdout == expected.as_bytes() {
+        return Ok(expected);
+    }
+    Err(difference(
+        &String::from_utf8_lossy(&output.stdout),
+        &expected,
+    ))
+}
+
+fn from_file(mut program: Command, log: &[u8]) -> io::Result<Output> {
+    let name = format!("nscc-{}-{:?}.log", process::id(), thread::current().id());
+    let file = env::temp_dir().join(name);
+    fs::write(&file, log)?;
+    let output = program.arg(&file).output();
+    fs::remove_file(&file)?;
+    output
+}
+
+fn from_input(mut program: Command, log: &[u8]) -> io::Result<Output> {
+    let mut child = program
+        .stdin(Stdio::piped())
+        .stdout(Stdio::piped())
+        .stderr(Stdio::piped())
+        .spawn()?;
+    let input = child.stdin.take();
+    thread::scope(|scope| {
+        scope.spawn(move || {
+            // A program that stops reading is seen by what it prints.
+            input.map(|mut input| input.write_all(log))
+        });
+        child.wait_with_output()
+    })
+}
+
+fn difference(ours: &str, expected: &str) -> String {
+    let mut lines = ours.lines().zip(expected.lines()).enumerate();
+    match lines.find(|(_, (ours, expected))| ours != expected) {
+        Some((i, (ours, expected))) => {
+            format!("line {}: `{ours}`, the model's `{expected}`", i + 1)
+        }
+        None => format!(
+            "{} lines ({} bytes), the model's {} ({} bytes)",
+            ours.lines().count(),
+            ours.len(),
+            expected.lines().count(),
+            expected.len()
+        ),
+    }
+}
+
+fn count(text: &str, tally: &mut Tally) {
+    for line in text.lines().skip(1) {
+        let answer = line.split(' ').nth(1).and_then(|word| word.parse().ok());
+        if let Some(answer) = answer {
+            tally.count(answer);
+        }
+    }
+}

@@ -1,0 +1,28 @@
+//! The proved C library and the program against the model of 01.
+//!
+//! Each [`Kind`] makes its cases from a seed, lets both sides answer and compares all that can be
+//! seen of them.
+
+mod call;
+mod edges;
+mod kinds;
+mod logs;
+mod numbers;
+mod profile;
+mod session;
+mod shorten;
+mod sides;
+mod sound;
+mod source;
+mod spoil;
+mod tally;
+mod words;
+
+pub use call::Call;
+pub use kinds::text::{program, too_long};
+pub use kinds::Kind;
+pub use profile::GOOD;
+pub use sides::Model;
+pub use source::Source;
+pub use tally::{Seen, Tally};
+pub use words::{state_of, words_of};

@@ -1,0 +1,115 @@
+//! A list of calls from a start on, compared after every call.
+
+use crate::call::Call;
+use crate::shorten::thin;
+use crate::sides::{Model, Ours};
+use crate::tally::Tally;
+use std::fmt::Write;
+
+/// Both sides answer the call; then all that was lent is compared.
+fn compare_call(ours: &mut Ours, model: &mut Model, call: &Call) -> Result<u64, String> {
+    let our_answer = call.ask(&mut ours.lend());
+    let answer = model.answer(call);
+    if our_answer != answer {
+        return Err(format!("answered {our_answer:#x}, the model {answer:#x}"));
+    }
+    ours.compare(model)?;
+    Ok(answer)
+}
+
+/// Calls made so far from a start.
+pub struct Session {
+    start: Model,
+    calls: Vec<Call>,
+    ours: Ours,
+    pub model: Model,
+}
+
+impl Session {
+    pub fn new(start: Model) -> Session {
+        Session {
+            ours: Ours::of(&start),
+            model: start.clone(),
+            start,
+            calls: Vec::new(),
+        }
+    }
+
+    /// The answer, or what differs with the shortest list of calls that shows it.
+    pub fn call(&mut self, call: Call, tally: &mut Tally) -> Result<u64, String> {
+        self.calls.push(call);
+        let call = &self.calls[self.calls.len() - 1];
+        let before = Tally::before(call, &self.model);
+        match compare_call(&mut self.ours, &mut self.model, call) {
+            Ok(answer) => {
+                tally.note(answer, &before, &self.model);
+                Ok(answer)
+            }
+            Err(difference) => Err(self.report(&difference)),
+        }
+    }
+
+    fn report(&self, difference: &str) -> String {
+        let calls = thin(&self.calls, |calls| {
+            first_difference(&self.start, calls).is_some()
+        });
+        let shown = first_difference(&self.start, &calls);
+        let mut report = format!(
+            "call {}: {difference}\nthinned to {} calls: {}\n",
+            self.calls.len(),
+            calls.len(),
+            shown.as_deref().unwrap_or(difference)
+        );
+        describe(&self.start, &mut report);
+        for call in &calls {
+            // Writing to a String does not fail.
+            let _ = writeln!(report, "{call:?}");
+        }
+        report
+    }
+}
+
+fn first_difference(start: &Model, calls: &[Call]) -> Option<String> {
+    let mut model = start.clone();
+    let mut ours = Ours::of(start);
+    calls
+        .iter()
+        .find_map(|call| compare_call(&mut ours, &mut model, call).err())
+}
+
+/// The start's words, lengths and whatever is not zero.
+fn describe(start: &Model, report: &mut String) {
+    let memory = &start.memory;
+    let lengths = [
+        memory.status.len(),
+        memory.size.len(),
+        memory.sent.len(),
+        memory.resent.len(),
+        memory.ev_times.len(),
+    ];
+    let _ = writeln!(
+        report,
+        "start: words {:?}\nlengths {lengths:?}",
+        start.words
+    );
+    list("status", &memory.status, report);
+    list("size", &memory.size, report);
+    list("sent", &memory.sent, report);
+    list("resent", &memory.resent, report);
+    list("EV times", &memory.ev_times, report);
+}
+
+fn list<T: Copy + Default + PartialEq + std::fmt::Debug>(
+    name: &str,
+    numbers: &[T],
+    report: &mut String,
+) {
+    let numbered = numbers.iter().enumerate();
+    let some: Vec<(usize, T)> = numbered
+        .filter(|(_, &number)| number != T::default())
+        .map(|(i, &number)| (i, number))
+        .collect();
+    if !some.is_empty() {
+        let _ = writeln!(report, "{name} {some:?}");
+    }
+}

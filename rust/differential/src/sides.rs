@@ -1,0 +1,214 @@
+//! The two sides of a comparison: the model's, and the memory that the C functions are lent.
+
+use crate::call::{answer_of, Call};
+use crate::words::{state_of, words_of};
+use model::{Memory, Settings, State};
+use nscc::raw::Lent;
+use nscc::{Word, WORDS};
+
+const UNSOUND: u64 = 2;
+const SETTING: u64 = 1;
+
+/// A context as the model has it, with the state in words, so that any words can be handed in.
+#[derive(Clone, Debug, PartialEq, Eq)]
+pub struct Model {
+    pub words: Vec<u64>,
+    pub memory: Memory,
+}
+
+impl Model {
+    pub fn empty(capacity: usize) -> Model {
+        Model {
+            words: vec![0; WORDS],
+            memory: Memory::new(capacity),
+        }
+    }
+
+    /// `None` for words that no state has.
+    pub fn state(&self) -> Option<State> {
+        state_of(&self.words)
+    }
+
+    pub fn set_state(&mut self, state: &State) {
+        self.words.clear();
+        self.words.extend(words_of(state));
+    }
+
+    pub fn sound(&mut self) -> bool {
+        let state = self.state();
+        state.is_some_and(|state| model::number_two(&state, &self.memory.lend()))
+    }
+
+    pub fn answer(&mut self, call: &Call) -> u64 {
+        let Some(event) = call.event() else {
+            return self.set_up(call);
+        };
+        let Some(mut state) = self.state() else {
+            return UNSOUND;
+        };
+        let outcome = state.take(&mut self.memory.lend(), &event);
+        self.set_state(&state);
+        answer_of(outcome)
+    }
+
+    /// The state's words are written, not read. A refusal leaves them as they were: the state of
+    /// zeros that 01 speaks of is what the model answers beside the number.
+    fn set_up(&mut self, call: &Call) -> u64 {
+        let Call::SetUp {
+            settings,
+            first_psn,
+            quick_adapt_off,
+        } = call
+        else {
+            return UNSOUND;
+        };
+        let Ok(numbers) = settings.as_slice().try_into() else {
+            return UNSOUND;
+        };
+        let settings = Settings::from_numbers(numbers, *first_psn, *quick_adapt_off);
+        if !settings.in_range() {
+            return SETTING;
+        }
+        if self.words.len() != WORDS {
+            return UNSOUND;
+        }
+        let (number, state) = State::set_up(&settings, &mut self.memory.lend());
+        if number == 0 {
+            self.set_state(&state);
+        }
+        number.into()
+    }
+}
+
+/// Elements between two fences, which nobody may touch.
+struct Fenced<T> {
+    all: Vec<T>,
+    fence: T,
+}
+
+const FENCE: usize = 8;
+
+impl<T: Copy + PartialEq> Fenced<T> {
+    fn new(inner: &[T], fence: T) -> Fenced<T> {
+        let fences = [fence; FENCE];
+        Fenced {
+            all: [&fences, inner, &fences].concat(),
+            fence,
+        }
+    }
+
+    fn end(&self) -> usize {
+        self.all.len() - FENCE
+    }
+
+    fn inner(&self) -> &[T] {
+        &self.all[FENCE..self.end()]
+    }
+
+    fn inner_mut(&mut self) -> &mut [T] {
+        let end = self.end();
+        &mut self.all[FENCE..end]
+    }
+
+    fn whole(&self) -> bool {
+        let fences = [&self.all[..FENCE], &self.all[self.end()..]];
+        fences
+            .iter()
+            .all(|part| part.iter().all(|&t| t == self.fence))
+    }
+}
+
+/// The memory that the C functions are lent.
+pub struct Ours {
+    words: Fenced<u64>,
+    status: Fenced<u8>,
+    size: Fenced<u32>,
+    sent: Fenced<u64>,
+    resent: Fenced<u8>,
+    evs: Fenced<u64>,
+}
+
+impl Ours {
+    pub fn of(model: &Model) -> Ours {
+        const ODD: u64 = 0xa5a5_a5a5_a5a5_a5a5;
+        let memory = &model.memory;
+        Ours {
+            words: Fenced::new(&model.words, ODD),
+            status: Fenced::new(&memory.status, ODD as u8),
+            size: Fenced::new(&memory.size, ODD as u32),
+            sent: Fenced::new(&memory.sent, ODD),
+            resent: Fenced::new(&memory.resent, ODD as u8),
+            evs: Fenced::new(&memory.ev_times, ODD),
+        }
+    }
+
+    pub fn lend(&mut self) -> Lent<'_> {
+        Lent {
+            words: self.words.inner_mut(),
+            status: self.status.inner_mut(),
+            size: self.size.inner_mut(),
+            sent: self.sent.inner_mut(),
+            resent: self.resent.inner_mut(),
+            evs: self.evs.inner_mut(),
+        }
+    }
+
+    /// What differs from the model's side, if anything does.
+    pub fn compare(&self, model: &Model) -> Result<(), String> {
+        self.compare_words(&model.words)?;
+        self.compare_memory(&model.memory)
+    }
+
+    pub fn compare_words(&self, words: &[u64]) -> Result<(), String> {
+        let Some((i, ours, model)) = difference(self.words.inner(), words) else {
+            return Ok(());
+        };
+        let name = Word::ALL.get(i);
+        Err(format!(
+            "word {i} {name:?}: {ours:?}, the model's {model:?}"
+        ))
+    }
+
+    pub fn compare_memory(&self, memory: &Memory) -> Result<(), String> {
+        same("status", self.status.inner(), &memory.status)?;
+        same("size", self.size.inner(), &memory.size)?;
+        same("sent", self.sent.inner(), &memory.sent)?;
+        same("resent", self.resent.inner(), &memory.resent)?;
+        same("EV time", self.evs.inner(), &memory.ev_times)?;
+        let whole = self.words.whole()
+            && self.status.whole()
+            && self.size.whole()
+            && self.sent.whole()
+            && self.resent.whole()
+            && self.evs.whole();
+        if whole {
+            Ok(())
+        } else {
+            Err("memory beside what was lent was written".into())
+        }
+    }
+}
+
+fn same<T: Copy + PartialEq + std::fmt::Debug>(
+    name: &str,
+    ours: &[T],
+    model: &[T],
+) -> Result<(), String> {
+    match difference(ours, model) {
+        None => Ok(()),
+        Some((i, ours, model)) => Err(format!("{name} {i}: {ours:?}, the model's {model:?}")),
+    }
+}
+
+/// The first place where two slices of one length differ.
+fn difference<T: Copy + PartialEq>(ours: &[T], model: &[T]) -> Option<(usize, T, T)> {
+    // Most often nothing differs, and whole slices compare fast.
+    if ours == model {
+        return None;
+    }
+    let pairs = ours.iter().zip(model).enumerate();
+    let mut differing = pairs.filter(|(_, (ours, model))| ours != model);
+    differing
+        .next()
+        .map(|(i, (&ours, &model))| (i, ours, model))
+}

@@ -1,0 +1,199 @@
+//! Made-up states that pass number 2: anything that its bounds allow, whether or not traffic could
+//! lead to it.
+
+use crate::numbers::{beside, first_psn, settings, within};
+use crate::sides::Model;
+use model::bounds::{
+    AVG_MAX, BACKLOG_MAX, COUNT_END, INC_BYTES_MAX, IN_FLIGHT_MIN, LATER_END, SIZE_MIN, TALLY_MAX,
+    TIME_END,
+};
+use model::lent::{DONE, FLYING, MARKED};
+use model::{number_two, Memory, Name, Rng, State};
+
+/// A state with a ring of this capacity.
+pub fn sound(rng: &mut Rng, capacity: usize) -> Model {
+    let mut state = State {
+        settings: settings(rng, true),
+        ..State::default()
+    };
+    state.clock = match rng.below(4) {
+        0 => rng.below(3),
+        1 => TIME_END - 1 - rng.below(1 << 12),
+        _ => rng.below(1 << 30),
+    };
+    set_window(rng, &mut state);
+    set_times(rng, &mut state);
+    let mut memory = Memory::new(capacity);
+    set_ring(rng, &mut state, &mut memory);
+    set_in_flight(rng, &mut state);
+    set_ev_times(rng, &state, &mut memory);
+    set_name(&mut state, &mut memory);
+    let mut model = Model::empty(capacity);
+    model.set_state(&state);
+    model.memory = memory;
+    model
+}
+
+fn set_window(rng: &mut Rng, state: &mut State) {
+    let settings = state.settings;
+    state.cwnd = within(rng, settings.mtu, settings.max_wnd);
+    state.base = within(rng, 1, settings.config_base_rtt);
+    // Around the target, where the cut starts.
+    let target = beside(rng, settings.target_qdelay << 10);
+    let above = target + rng.below(1 << 18);
+    let any = within(rng, 0, AVG_MAX);
+    state.avg = rng.pick(&[target, above, any]).min(AVG_MAX);
+    state.inc_bytes = match rng.below(4) {
+        0 => 0,
+        1 => rng.below(1 << 36),
+        2 => INC_BYTES_MAX - rng.below(1 << 30),
+        _ => within(rng, 0, INC_BYTES_MAX),
+    };
+    state.received = tally(rng, settings.adjust_bytes);
+    state.achieved = tally(rng, state.cwnd);
+    state.fi_count = tally(rng, state.cwnd);
+    state.bytes_to_ignore = within(rng, 0, settings.max_wnd);
+    state.ignored = tally(rng, state.bytes_to_ignore);
+    state.fast_mode = rng.one_in(2);
+    state.trigger = rng.one_in(2);
+    state.cursor = within(rng, 0, 255);
+}
+
+/// Around the number that it is compared with, or around its stop.
+fn tally(rng: &mut Rng, compared: u64) -> u64 {
+    let around = compared.saturating_sub(rng.below(1 << 13));
+    let stop = TALLY_MAX - rng.below(1 << 13);
+    let stop = rng.pick(&[TALLY_MAX, stop]);
+    let any = within(rng, 0, TALLY_MAX);
+    let at = beside(rng, compared);
+    rng.pick(&[0, around, around, at, stop, any])
+}
+
+fn set_times(rng: &mut Rng, state: &mut State) {
+    let clock = state.clock;
+    let ago = |ticks: u64| clock.saturating_sub(ticks);
+    let around_period = beside(rng, state.settings.adjust_period);
+    let around_base = beside(rng, state.base);
+    let (any, other) = (rng.below(clock + 1), rng.below(clock + 1));
+    state.last_adjust = rng.pick(&[clock, ago(around_period), any, 0]);
+    state.last_dec = rng.pick(&[clock, ago(around_base), other, 0]);
+    let soon = clock + rng.below(2 * state.base);
+    let passed = rng.below(clock + 1);
+    state.qa_end = rng.pick(&[0, clock, clock + 1, soon, passed, LATER_END - 1]);
+    state.backlog = match rng.below(4) {
+        0 => 0,
+        1 => within(rng, 0, 1 << 14),
+        2 => within(rng, 0, BACKLOG_MAX),
+        _ => rng.below(1 << 24),
+    };
+    state.held = match rng.below(3) {
+        0 => rng.below(64) as u32,
+        1 => COUNT_END - 1 - rng.below(64) as u32,
+        _ => rng.below(COUNT_END.into()) as u32,
+    };
+}
+
+/// Fills the ring and counts the totals.
+fn set_ring(rng: &mut Rng, state: &mut State, memory: &mut Memory) {
+    let capacity = memory.status.len() as u64;
+    let many = match rng.below(4) {
+        0 => rng.below(4),
+        1 => within(rng, 0, capacity),
+        _ => rng.below(capacity.min(100)),
+    };
+    state.low = first_psn(rng);
+    state.next = state.low.wrapping_add(many as u32);
+    let mixes: [&[u8]; 4] = [
+        &[FLYING],
+        &[FLYING, FLYING, MARKED, DONE],
+        &[FLYING, DONE, DONE, DONE],
+        &[MARKED, MARKED, FLYING, DONE],
+    ];
+    let mix = rng.pick(&mixes);
+    for i in 0..many {
+        let slot = (u64::from(state.low) + i) as usize % memory.status.len();
+        let status = rng.pick(mix);
+        let status = if i == 0 && status == DONE {
+            FLYING
+        } else {
+            status
+        };
+        let size = within(rng, SIZE_MIN.into(), state.settings.mtu);
+        memory.status[slot] = status;
+        memory.size[slot] = size as u32;
+        memory.sent[slot] = sent(rng, state);
+        memory.resent[slot] = rng.pick(&[0, 0, 0, 1, 1, 2]);
+        state.flying += u64::from(status == FLYING);
+        if status == MARKED {
+            state.marked += 1;
+            state.marked_bytes += size;
+        }
+    }
+}
+
+/// A send time: lately, at the edge of a sample that is cut, or any.
+fn sent(rng: &mut Rng, state: &State) -> u64 {
+    let clock = state.clock;
+    let long = beside(rng, (1 << 20) + state.base);
+    let any = rng.below(clock + 1);
+    let lately = clock.saturating_sub(rng.below(4 * state.base));
+    rng.pick(&[
+        clock,
+        lately,
+        lately,
+        lately,
+        clock.saturating_sub(long),
+        any,
+    ])
+}
+
+/// At its bounds, at 0, or where the window opens and closes.
+fn set_in_flight(rng: &mut Rng, state: &mut State) {
+    let most = state.settings.max_wnd as i64;
+    let open = state.cwnd as i64 - state.settings.mtu as i64;
+    let deep = IN_FLIGHT_MIN + rng.below(1 << 14) as i64;
+    let any = rng.below((most - IN_FLIGHT_MIN) as u64 + 1) as i64 + IN_FLIGHT_MIN;
+    let some = rng.below(most as u64 + 1) as i64;
+    let in_flight = [
+        IN_FLIGHT_MIN,
+        deep,
+        deep,
+        -1,
+        0,
+        1,
+        open,
+        open,
+        open + 1,
+        most,
+        any,
+        some,
+    ];
+    state.in_flight = rng.pick(&in_flight).min(most);
+}
+
+/// None avoided, about half of them, or most.
+fn set_ev_times(rng: &mut Rng, state: &State, memory: &mut Memory) {
+    let avoided = rng.pick(&[0, 1, 127, 128, 129, 255, 256]);
+    let turn = rng.below(256) as usize;
+    for i in 0..memory.ev_times.len() {
+        let later = state.clock + rng.pick(&[1, 1, 2, 100, state.base]);
+        let earlier = rng.below(state.clock + 1);
+        let furthest = LATER_END - 1;
+        let time = if i < avoided {
+            rng.pick(&[later, later, later, furthest])
+        } else {
+            rng.pick(&[0, earlier, state.clock])
+        };
+        memory.ev_times[(i * 77 + turn) % 256] = time;
+    }
+}
+
+/// The name that number 2 asks for.
+fn set_name(state: &mut State, memory: &mut Memory) {
+    for name in [Name::Idle, Name::Pending, Name::Ready, Name::Active] {
+        state.name = name;
+        if number_two(state, &memory.lend()) {
+            return;
+        }
+    }
+}

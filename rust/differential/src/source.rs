@@ -1,0 +1,275 @@
+//! Calls that mean something to the present state.
+
+use crate::call::Call;
+use crate::numbers::beside;
+use crate::profile::Profile;
+use crate::sides::Model;
+use model::bounds::{COUNT_END, SIZE_MIN, TIME_END, UNIT};
+use model::lent::{FLYING, MARKED};
+use model::{Memory, Rng, State};
+use nscc::{Ack, Nack};
+
+/// A sound state and its ring, to choose fields by.
+pub struct View<'a> {
+    pub state: State,
+    pub memory: &'a Memory,
+}
+
+impl View<'_> {
+    pub fn capacity(&self) -> usize {
+        self.memory.status.len()
+    }
+
+    pub fn outstanding(&self) -> u32 {
+        self.state.next.wrapping_sub(self.state.low)
+    }
+
+    pub fn slot(&self, psn: u32) -> usize {
+        psn as usize % self.capacity()
+    }
+
+    /// Bytes of the flying packets that an ACK does not cover.
+    fn flying_behind(&self, cum: u32, map: u64) -> i64 {
+        let from = cum.wrapping_add(1);
+        let many = self.state.next.wrapping_sub(from).min(self.outstanding());
+        let after = (0..many).map(|i| self.state.next.wrapping_sub(many - i));
+        let flying = after.filter(|&psn| {
+            let bit = psn.wrapping_sub(from);
+            let covered = bit < u64::BITS && map >> bit & 1 == 1;
+            !covered && self.memory.status[self.slot(psn)] == FLYING
+        });
+        flying
+            .map(|psn| i64::from(self.memory.size[self.slot(psn)]))
+            .sum()
+    }
+
+    /// A packet of one of these statuses, from a random one on.
+    fn packet(&self, rng: &mut Rng, statuses: &[u8]) -> Option<u32> {
+        let many = self.outstanding();
+        let from = rng.below(many.into()) as u32;
+        (0..many)
+            .map(|i| self.state.low.wrapping_add((from + i) % many))
+            .find(|&psn| statuses.contains(&self.memory.status[self.slot(psn)]))
+    }
+}
+
+/// Makes the calls of a profile.
+pub struct Source {
+    pub rng: Rng,
+    pub profile: Profile,
+}
+
+impl Source {
+    /// The next call; the model must be sound.
+    pub fn next(&mut self, model: &Model) -> Call {
+        let Some(state) = model.state() else {
+            return Call::Path { time: 0 };
+        };
+        let memory = &model.memory;
+        let view = View { state, memory };
+        if self.profile.edges > 0 && self.rng.one_in(self.profile.edges) {
+            self.edge_call(&view)
+        } else {
+            self.good_call(&view)
+        }
+    }
+
+    fn good_call(&mut self, view: &View) -> Call {
+        let time = self.time(view);
+        match self.kind() {
+            0 => self.new_data(view, time),
+            1 => self.new_packet(view, time),
+            2 => self.resend(view, time),
+            3 => Call::Ack(self.ack(view, time)),
+            4 => self.nack(view, time),
+            5 => self.loss(view, time),
+            _ => Call::Path { time },
+        }
+    }
+
+    fn kind(&mut self) -> usize {
+        let weights = self.profile.weights;
+        let mut rest = self.rng.below(weights.iter().sum());
+        for (kind, weight) in weights.into_iter().enumerate() {
+            if rest < weight {
+                return kind;
+            }
+            rest -= weight;
+        }
+        0
+    }
+
+    /// Now, or a little later. Streams that run late start near the end of time.
+    fn time(&mut self, view: &View) -> u64 {
+        let clock = view.state.clock;
+        if self.profile.late && clock == 0 {
+            return TIME_END - 1 - self.rng.below(1 << 14);
+        }
+        let base = view.state.base;
+        let step = self.rng.below(base / 8 + 2);
+        let pause = self.rng.between(base, 4 * base);
+        let later = match self.rng.below(40) {
+            0 => pause,
+            1..=20 => 0,
+            _ => step,
+        };
+        (clock + later).min(TIME_END - 1)
+    }
+
+    /// Enough for a few packets.
+    fn new_data(&mut self, view: &View, time: u64) -> Call {
+        let mtu = view.state.settings.mtu;
+        let most = self.rng.pick(&[100, mtu, 4 * mtu, 32 * mtu]);
+        Call::NewData {
+            time,
+            bytes: self.rng.between(1, most),
+        }
+    }
+
+    /// A new packet; new data where the backlog has none.
+    fn new_packet(&mut self, view: &View, time: u64) -> Call {
+        let least = u64::from(SIZE_MIN);
+        let most = view.state.backlog.min(view.state.settings.mtu);
+        if most < least {
+            return self.new_data(view, time);
+        }
+        let any = self.rng.between(least, most);
+        // Over the backlog, where it is short.
+        let over = (most + 1).min(view.state.settings.mtu);
+        let size = match self.rng.below(32) {
+            0 if self.profile.edges > 0 => over,
+            _ if self.profile.small => least,
+            _ => self.rng.pick(&[most, most, any, least]),
+        };
+        Call::Send {
+            time,
+            psn: view.state.next,
+            bytes: size as u32,
+            resend: false,
+        }
+    }
+
+    fn resend(&mut self, view: &View, time: u64) -> Call {
+        let Some(psn) = view.packet(&mut self.rng, &[MARKED]) else {
+            return self.new_packet(view, time);
+        };
+        Call::Send {
+            time,
+            psn,
+            bytes: view.memory.size[view.slot(psn)],
+            resend: true,
+        }
+    }
+
+    fn nack(&mut self, view: &View, time: u64) -> Call {
+        let Some(psn) = view.packet(&mut self.rng, &[FLYING]) else {
+            return self.new_packet(view, time);
+        };
+        let resent = view.memory.resent[view.slot(psn)];
+        Call::Nack(Nack {
+            time,
+            psn,
+            ev: self.ev(),
+            reason: self.rng.below(3) as u32,
+            marked: self.rng.below(8) < self.profile.marked,
+            retx: (resent == 1) != self.rng.one_in(8),
+        })
+    }
+
+    fn loss(&mut self, view: &View, time: u64) -> Call {
+        let Some(psn) = view.packet(&mut self.rng, &[FLYING]) else {
+            return self.new_packet(view, time);
+        };
+        let ev = self.ev();
+        Call::Loss { time, psn, ev }
+    }
+
+    pub fn ev(&mut self) -> u32 {
+        self.rng.below(256) as u32
+    }
+
+    /// An ACK whose delay lies at one of the places where the rules change: the time is late enough
+    /// for it, and the service takes up the rest.
+    pub fn ack(&mut self, view: &View, time: u64) -> Ack {
+        let trigger = view.packet(&mut self.rng, &[FLYING, MARKED]);
+        let trigger = trigger.unwrap_or(view.state.low.wrapping_sub(1));
+        let slot = view.slot(trigger);
+        let trip = self.trip(view);
+        let due = view.memory.sent[slot] + trip;
+        let time = time.max(due).min(TIME_END - 1);
+        let (cum, map) = self.cover(view, trigger);
+        Ack {
+            time,
+            cum,
+            map,
+            trigger,
+            count: self.count(view, cum, map),
+            service: time.saturating_sub(due).try_into().unwrap_or(0),
+            ev: self.ev(),
+            marked: self.rng.below(8) < self.profile.marked,
+            retx: (view.memory.resent[slot] == 1) != self.rng.one_in(16),
+        }
+    }
+
+    /// A round trip.
+    fn trip(&mut self, view: &View) -> u64 {
+        let base = view.state.base;
+        let settings = &view.state.settings;
+        if self.rng.one_in(64) {
+            // The base falls.
+            return self.rng.between(base / 2, base);
+        }
+        let target = settings.target_qdelay;
+        let below = self.rng.below(target);
+        let near = self.rng.pick(&[0, 0, base / 8]);
+        let edge = self.rng.pick(&[target, 5 * base, settings.qa_threshold]);
+        let slow = self.rng.between(target, 6 * target);
+        let edge = beside(&mut self.rng, edge);
+        base + match self.rng.below(8) {
+            0..=3 => near,
+            4 => beside(&mut self.rng, base / 8),
+            5 => below,
+            6 => edge,
+            _ => slow,
+        }
+    }
+
+    /// A cum and a map that cover the trigger and name sent packets only.
+    fn cover(&mut self, view: &View, trigger: u32) -> (u32, u64) {
+        let last = view.state.next.wrapping_sub(1);
+        let ahead = last.wrapping_sub(trigger);
+        let behind = trigger.wrapping_sub(view.state.low).min(63);
+        let up = self.rng.below(u64::from(ahead) + 1) as u32;
+        let down = 1 + self.rng.below(u64::from(behind) + 1) as u32;
+        let cum = match self.rng.below(4) {
+            0 => trigger,
+            1 => trigger.wrapping_add(up.min(8)),
+            _ => trigger.wrapping_sub(down),
+        };
+        let back = last.wrapping_sub(cum);
+        let sent = if back < 64 { (1 << back) - 1 } else { u64::MAX };
+        let thin = self.rng.next_u64() & self.rng.next_u64();
+        let bit = trigger.wrapping_sub(cum).wrapping_sub(1);
+        let own = 1u64.checked_shl(bit).unwrap_or(0);
+        let map = self.rng.pick(&[0, thin & sent, thin & sent, sent]);
+        (cum, map | own)
+    }
+
+    /// All has arrived that is in flight and does not fly after this ACK; or a part of it, or more;
+    /// or the count is old.
+    fn count(&mut self, view: &View, cum: u32, map: u64) -> u32 {
+        let flying = view.flying_behind(cum, map);
+        let units = (view.state.in_flight - flying).max(0) as u64 / UNIT;
+        let more = view.state.in_flight.max(0) as u64 / UNIT;
+        let behind = u64::from(COUNT_END) - self.rng.between(1, 1 << 10);
+        let ahead = match self.rng.below(32) {
+            0..=23 => units,
+            24..=27 => self.rng.below(units + 1),
+            28 => 0,
+            29 => more,
+            30 => self.rng.below(more + 2),
+            _ => behind,
+        };
+        ((u64::from(view.state.held) + ahead) % u64::from(COUNT_END)) as u32
+    }
+}

@@ -1,0 +1,103 @@
+//! What was compared, so that one can see that it was worth something.
+
+use crate::call::Call;
+use crate::sides::Model;
+use nscc::{Word, IN_FLIGHT_ADDED, WORDS};
+use std::fmt;
+
+#[derive(Clone, Debug, Default)]
+pub struct Tally {
+    /// Streams, states or logs.
+    pub cases: u64,
+    /// Answers by number.
+    pub answers: [u64; 13],
+    pub seen: Seen,
+}
+
+/// How often accepted calls did what is easily missed.
+#[derive(Clone, Copy, Debug, Default)]
+pub struct Seen {
+    pub cuts: u64,
+    pub quick_adapts: u64,
+    pub fast_modes: u64,
+    pub psn_wraps: u64,
+    pub count_wraps: u64,
+    pub below_zero: u64,
+    /// inc_bytes or a tally has come to its stop.
+    pub stops: u64,
+}
+
+/// The words before a call other than setting up, if they are as many as a state has.
+pub type Before = Option<[u64; WORDS]>;
+
+impl Tally {
+    pub fn before(call: &Call, model: &Model) -> Before {
+        match call {
+            Call::SetUp { .. } => None,
+            _ => model.words.as_slice().try_into().ok(),
+        }
+    }
+
+    pub fn note(&mut self, answer: u64, before: &Before, after: &Model) {
+        self.count(answer);
+        if answer as u32 == 0 {
+            if let Some(before) = before {
+                self.seen.note(before, &after.words);
+            }
+        }
+    }
+
+    pub fn count(&mut self, answer: u64) {
+        self.answers[answer as u32 as usize] += 1;
+    }
+
+    pub fn calls(&self) -> u64 {
+        self.answers.iter().sum()
+    }
+}
+
+impl Seen {
+    fn note(&mut self, before: &[u64], after: &[u64]) {
+        let was = |word: Word| before[word as usize];
+        let is = |word: Word| after[word as usize];
+        let changed = |word: Word| was(word) != is(word);
+        let stopped = |word: Word, at: u64| is(word) == at && was(word) < at;
+        let tallies = [Word::Received, Word::Achieved, Word::Ignored, Word::FiCount];
+        let stop =
+            stopped(Word::IncBytes, 1 << 60) || tallies.iter().any(|&word| stopped(word, 1 << 40));
+        self.cuts += u64::from(changed(Word::LastDec));
+        self.quick_adapts += u64::from(changed(Word::BytesToIgnore));
+        self.fast_modes += u64::from(is(Word::Fast) > was(Word::Fast));
+        self.psn_wraps += u64::from(is(Word::Next) < was(Word::Next));
+        self.count_wraps += u64::from(is(Word::Held) < was(Word::Held));
+        self.below_zero += u64::from(is(Word::InFlight) < IN_FLIGHT_ADDED as u64);
+        self.stops += u64::from(stop);
+    }
+}
+
+impl fmt::Display for Tally {
+    fn fmt(&self, f: &mut fmt::Formatter) -> fmt::Result {
+        write!(f, "{} cases, {} answers:", self.cases, self.calls())?;
+        for (number, times) in self.answers.iter().enumerate() {
+            if *times > 0 {
+                write!(f, " {number}:{times}")?;
+            }
+        }
+        let seen = &self.seen;
+        if seen.cuts > 0 {
+            write!(
+                f,
+                "; cuts {}, quick adapts {}, fast modes {}, PSN wraps {}, count wraps {}, \
+                 below zero {}, stops {}",
+                seen.cuts,
+                seen.quick_adapts,
+                seen.fast_modes,
+                seen.psn_wraps,
+                seen.count_wraps,
+                seen.below_zero,
+                seen.stops
+            )?;
+        }
+        Ok(())
+    }
+}

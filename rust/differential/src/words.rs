@@ -1,0 +1,118 @@
+//! The one place where the model's state meets the header's words.
+
+use model::{Name, Settings, State};
+use nscc::{Word, IN_FLIGHT_ADDED, SETTINGS, WORDS};
+
+pub fn words_of(state: &State) -> [u64; WORDS] {
+    let mut words = [0; WORDS];
+    words[..SETTINGS].copy_from_slice(&state.settings.numbers());
+    let others = [
+        (Word::FirstPsn, state.settings.first_psn.into()),
+        (Word::QuickAdaptOff, state.settings.quick_adapt_off.into()),
+        (Word::Low, state.low.into()),
+        (Word::Next, state.next.into()),
+        (Word::Held, state.held.into()),
+        (Word::BacklogBytes, state.backlog),
+        (Word::Flying, state.flying),
+        (Word::Marked, state.marked),
+        (Word::MarkedBytes, state.marked_bytes),
+        (Word::InFlight, (state.in_flight + IN_FLIGHT_ADDED) as u64),
+        (Word::Cwnd, state.cwnd),
+        (Word::Base, state.base),
+        (Word::Avg, state.avg),
+        (Word::IncBytes, state.inc_bytes),
+        (Word::Received, state.received),
+        (Word::Achieved, state.achieved),
+        (Word::Ignored, state.ignored),
+        (Word::BytesToIgnore, state.bytes_to_ignore),
+        (Word::FiCount, state.fi_count),
+        (Word::Fast, state.fast_mode.into()),
+        (Word::Trigger, state.trigger.into()),
+        (Word::QaEnd, state.qa_end),
+        (Word::LastAdjust, state.last_adjust),
+        (Word::LastDec, state.last_dec),
+        (Word::Clock, state.clock),
+        (Word::Cursor, state.cursor),
+        (Word::Phase, phase_of(state.name)),
+    ];
+    for (word, number) in others {
+        words[word as usize] = number;
+    }
+    words
+}
+
+/// `None` for words that no state has: too few or too many, or a number wider than its kind.
+pub fn state_of(words: &[u64]) -> Option<State> {
+    let words = Words(words.try_into().ok()?);
+    let number = |word| words.number(word);
+    Some(State {
+        settings: words.settings()?,
+        clock: number(Word::Clock),
+        low: words.narrow(Word::Low)?,
+        next: words.narrow(Word::Next)?,
+        flying: number(Word::Flying),
+        marked: number(Word::Marked),
+        marked_bytes: number(Word::MarkedBytes),
+        backlog: number(Word::BacklogBytes),
+        in_flight: i64::try_from(number(Word::InFlight)).ok()? - IN_FLIGHT_ADDED,
+        held: words.narrow(Word::Held)?,
+        cwnd: number(Word::Cwnd),
+        base: number(Word::Base),
+        avg: number(Word::Avg),
+        inc_bytes: number(Word::IncBytes),
+        received: number(Word::Received),
+        achieved: number(Word::Achieved),
+        ignored: number(Word::Ignored),
+        bytes_to_ignore: number(Word::BytesToIgnore),
+        fi_count: number(Word::FiCount),
+        fast_mode: words.flag(Word::Fast)?,
+        trigger: words.flag(Word::Trigger)?,
+        qa_end: number(Word::QaEnd),
+        last_adjust: number(Word::LastAdjust),
+        last_dec: number(Word::LastDec),
+        cursor: number(Word::Cursor),
+        name: name_of(number(Word::Phase))?,
+    })
+}
+
+struct Words<'a>(&'a [u64; WORDS]);
+
+impl Words<'_> {
+    fn number(&self, word: Word) -> u64 {
+        self.0[word as usize]
+    }
+
+    fn narrow(&self, word: Word) -> Option<u32> {
+        self.number(word).try_into().ok()
+    }
+
+    fn flag(&self, word: Word) -> Option<bool> {
+        match self.number(word) {
+            0 => Some(false),
+            1 => Some(true),
+            _ => None,
+        }
+    }
+
+    fn settings(&self) -> Option<Settings> {
+        let (numbers, _) = self.0.split_first_chunk::<SETTINGS>()?;
+        let first_psn = self.narrow(Word::FirstPsn)?;
+        let quick_adapt_off = self.flag(Word::QuickAdaptOff)?;
+        Some(Settings::from_numbers(*numbers, first_psn, quick_adapt_off))
+    }
+}
+
+fn phase_of(name: Name) -> u64 {
+    match name {
+        Name::Idle => 0,
+        Name::Pending => 1,
+        Name::Ready => 2,
+        Name::Active => 3,
+    }
+}
+
+fn name_of(word: u64) -> Option<Name> {
+    [Name::Idle, Name::Pending, Name::Ready, Name::Active]
+        .into_iter()
+        .find(|&name| phase_of(name) == word)
+}

@@ -1,0 +1,87 @@
+//! Every kind with fixed seeds. `-- --nocapture` shows how much was compared.
+
+use differential::{Kind, Tally};
+use nscc::raw::EMULATED;
+use std::time::Instant;
+
+/// Under an emulator one seed in so many.
+const SHARE: u64 = if EMULATED { 20 } else { 1 };
+
+fn run(kind: Kind, seeds: u64) -> Tally {
+    let start = Instant::now();
+    let mut tally = Tally::default();
+    for seed in 0..seeds / SHARE {
+        if let Err(report) = kind.run(seed, &mut tally) {
+            panic!("kind {}, seed {seed}: {report}", kind.name());
+        }
+    }
+    let seconds = start.elapsed().as_secs_f64();
+    println!("{}: {tally}; {seconds:.1} s", kind.name());
+    tally
+}
+
+/// Each of these numbers was answered at least so often.
+fn all_met(tally: &Tally, numbers: &[usize], least: u64) {
+    for &number in numbers {
+        often(tally, &[tally.answers[number]], least);
+    }
+}
+
+fn often(tally: &Tally, times: &[u64], least: u64) {
+    let enough = times.iter().all(|&times| SHARE * times >= least);
+    assert!(enough, "{least} times {times:?}: {tally}");
+}
+
+#[test]
+fn set_up() {
+    let tally = run(Kind::SetUp, 800);
+    all_met(&tally, &[0, 1, 2], 100);
+}
+
+#[test]
+fn streams() {
+    let tally = run(Kind::Streams, 324);
+    all_met(&tally, &[0, 3, 4, 5, 6, 7, 8, 9, 10, 11], 50);
+    let seen = &tally.seen;
+    let rules = [seen.cuts, seen.quick_adapts, seen.fast_modes];
+    often(&tally, &rules, 100);
+    often(&tally, &[seen.psn_wraps, seen.below_zero], 10);
+}
+
+#[test]
+fn logs() {
+    let tally = run(Kind::Logs, 800);
+    all_met(&tally, &[0, 3, 4, 5, 6, 8, 9, 10, 11], 20);
+}
+
+#[test]
+fn states() {
+    let tally = run(Kind::States, 2_000);
+    all_met(&tally, &[0, 3, 4, 5, 6, 7, 8, 9, 10, 11], 20);
+    let seen = &tally.seen;
+    let rare = [seen.stops, seen.count_wraps, seen.psn_wraps];
+    often(&tally, &rare, 100);
+}
+
+#[test]
+fn spoilt() {
+    let tally = run(Kind::Spoilt, 2_000);
+    all_met(&tally, &[0, 2, 3, 4], 100);
+}
+
+#[test]
+fn replay() {
+    let tally = run(Kind::Replay, 2_400);
+    all_met(&tally, &[0, 1, 3, 4, 5, 6, 8, 9, 10, 11, 12], 5);
+}
+
+#[test]
+fn text() {
+    let tally = run(Kind::Text, 2_400);
+    all_met(&tally, &[0, 1, 3, 4, 5, 6, 8, 9, 10, 11, 12], 5);
+}
+
+#[test]
+fn a_log_that_is_too_long() {
+    differential::too_long().unwrap();
+}

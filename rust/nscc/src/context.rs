@@ -1,0 +1,127 @@
+use crate::event::{Ack, Nack, Settings};
+use crate::raw::Lent;
+use crate::refusal::{answer, Refusal};
+use crate::word::{Phase, PlaceWord, Word, EVS, IN_FLIGHT_ADDED, PLACE, WORDS};
+
+/// One congestion control context with its memory: the state's words, the ring and the EV times.
+///
+/// The memory stands open: the library answers for whatever is put in it, with `Unsound` where it
+/// does not hold together.
+#[derive(Clone, Debug, PartialEq, Eq)]
+pub struct Context {
+    pub words: Vec<u64>,
+    pub status: Vec<u8>,
+    pub size: Vec<u32>,
+    pub sent: Vec<u64>,
+    pub resent: Vec<u8>,
+    pub evs: Vec<u64>,
+}
+
+/// A place in a log, at its start at first.
+#[derive(Clone, Copy, Debug, Default, PartialEq, Eq)]
+pub struct Place {
+    pub words: [u64; PLACE],
+}
+
+impl Place {
+    pub fn word(&self, word: PlaceWord) -> u64 {
+        self.words[word as usize]
+    }
+
+    /// Record 1 was refused, or a record was malformed: nothing more is replayed.
+    pub fn stopped(&self) -> bool {
+        self.word(PlaceWord::Stopped) != 0
+    }
+}
+
+impl Context {
+    /// Memory of zeros, to be set up by a log's first record.
+    pub fn empty(capacity: usize) -> Context {
+        Context {
+            words: vec![0; WORDS],
+            status: vec![0; capacity],
+            size: vec![0; capacity],
+            sent: vec![0; capacity],
+            resent: vec![0; capacity],
+            evs: vec![0; EVS],
+        }
+    }
+
+    /// The capacity of the ring is a power of two, 64..4,096.
+    pub fn set_up(settings: &Settings, capacity: usize) -> Result<Context, Refusal> {
+        let mut context = Context::empty(capacity);
+        let number = context.lend().set_up(
+            &settings.numbers(),
+            settings.first_psn,
+            settings.quick_adapt_off,
+        );
+        accepted(number).map(|()| context)
+    }
+
+    /// Lends all the memory, for calls of [`crate::raw`].
+    pub fn lend(&mut self) -> Lent<'_> {
+        Lent {
+            words: &mut self.words,
+            status: &mut self.status,
+            size: &mut self.size,
+            sent: &mut self.sent,
+            resent: &mut self.resent,
+            evs: &mut self.evs,
+        }
+    }
+
+    pub fn new_data(&mut self, time: u64, bytes: u64) -> Result<(), Refusal> {
+        accepted(self.lend().new_data(time, bytes))
+    }
+
+    pub fn send(&mut self, time: u64, psn: u32, bytes: u32, resend: bool) -> Result<(), Refusal> {
+        accepted(self.lend().send(time, psn, bytes, resend))
+    }
+
+    pub fn ack(&mut self, ack: &Ack) -> Result<(), Refusal> {
+        accepted(self.lend().ack(ack))
+    }
+
+    pub fn nack(&mut self, nack: &Nack) -> Result<(), Refusal> {
+        accepted(self.lend().nack(nack))
+    }
+
+    pub fn loss(&mut self, time: u64, psn: u32, ev: u32) -> Result<(), Refusal> {
+        accepted(self.lend().loss(time, psn, ev))
+    }
+
+    /// The EV of the next path.
+    pub fn path(&mut self, time: u64) -> Result<u8, Refusal> {
+        answer(self.lend().path(time))
+    }
+
+    /// Replays the log from `place` on; how many answers were given. Go on until that is 0.
+    /// [`answer`] reads an answer.
+    pub fn replay(
+        &mut self,
+        place: &mut Place,
+        log: &[u8],
+        answers: &mut [u64],
+    ) -> Result<usize, Refusal> {
+        accepted(self.lend().replay(&mut place.words, log, answers))?;
+        Ok(place.word(PlaceWord::Answered) as usize)
+    }
+
+    /// A word of the state, which must have all its words.
+    pub fn word(&self, word: Word) -> u64 {
+        self.words[word as usize]
+    }
+
+    pub fn in_flight(&self) -> i64 {
+        self.word(Word::InFlight).cast_signed() - IN_FLIGHT_ADDED
+    }
+
+    /// The state's name; `None` for a word that no state has.
+    pub fn phase(&self) -> Option<Phase> {
+        Phase::of(self.word(Word::Phase))
+    }
+}
+
+fn accepted(number: u32) -> Result<(), Refusal> {
+    answer(number.into()).map(|_| ())
+}

@@ -1,0 +1,15 @@
+//! A safe wrapper of the proved C library: see `include/nscc.h`.
+//!
+//! A [`Context`] owns one context's memory and answers every event. [`raw`] has the C functions over
+//! slices, for those who keep the memory themselves: any lengths and any contents may be handed in.
+
+mod context;
+mod event;
+pub mod raw;
+mod refusal;
+mod word;
+
+pub use context::{Context, Place};
+pub use event::{Ack, Nack, Settings};
+pub use refusal::{answer, Refusal};
+pub use word::{Phase, PlaceWord, Word, EVS, IN_FLIGHT_ADDED, PLACE, SETTINGS, WORDS};

@@ -1,0 +1,223 @@
+//! The library over a bridge: `bridge.c`, a program for x86-64 under an emulator. What is lent goes
+//! there and back with every call.
+
+use super::Lent;
+use crate::event::{Ack, Nack};
+use std::cell::RefCell;
+use std::io::{self, BufWriter, Read, Write};
+use std::process::{Child, ChildStdin, ChildStdout, Command, Stdio};
+
+/// As `bridge.c` numbers them.
+#[derive(Clone, Copy)]
+enum Function {
+    SetUp,
+    NewData,
+    Send,
+    Ack,
+    Nack,
+    Loss,
+    Path,
+    Replay,
+}
+
+const ARGUMENTS: usize = 9;
+
+/// What is lent beside a context: settings or a place, a log, room for answers.
+#[derive(Default)]
+struct Beside<'a> {
+    first: &'a mut [u64],
+    log: &'a [u8],
+    answers: &'a mut [u64],
+}
+
+impl Lent<'_> {
+    pub fn set_up(&mut self, settings: &[u64], first_psn: u32, quick_adapt_off: bool) -> u32 {
+        let beside = Beside {
+            first: &mut settings.to_vec(),
+            ..Beside::default()
+        };
+        let arguments = [first_psn.into(), quick_adapt_off.into()];
+        self.ask(Function::SetUp, &arguments, beside) as u32
+    }
+
+    pub fn new_data(&mut self, time: u64, bytes: u64) -> u32 {
+        self.event(Function::NewData, &[time, bytes]) as u32
+    }
+
+    pub fn send(&mut self, time: u64, psn: u32, bytes: u32, resend: bool) -> u32 {
+        let arguments = [time, psn.into(), bytes.into(), resend.into()];
+        self.event(Function::Send, &arguments) as u32
+    }
+
+    pub fn ack(&mut self, ack: &Ack) -> u32 {
+        let arguments = [
+            ack.time,
+            ack.cum.into(),
+            ack.map,
+            ack.trigger.into(),
+            ack.count.into(),
+            ack.service.into(),
+            ack.ev.into(),
+            ack.marked.into(),
+            ack.retx.into(),
+        ];
+        self.event(Function::Ack, &arguments) as u32
+    }
+
+    pub fn nack(&mut self, nack: &Nack) -> u32 {
+        let arguments = [
+            nack.time,
+            nack.psn.into(),
+            nack.ev.into(),
+            nack.reason.into(),
+            nack.marked.into(),
+            nack.retx.into(),
+        ];
+        self.event(Function::Nack, &arguments) as u32
+    }
+
+    pub fn loss(&mut self, time: u64, psn: u32, ev: u32) -> u32 {
+        self.event(Function::Loss, &[time, psn.into(), ev.into()]) as u32
+    }
+
+    /// The number in the low 32 bits, and where it is 0 the EV above them.
+    pub fn path(&mut self, time: u64) -> u64 {
+        self.event(Function::Path, &[time])
+    }
+
+    pub fn replay(&mut self, place: &mut [u64], log: &[u8], answers: &mut [u64]) -> u32 {
+        let beside = Beside {
+            first: place,
+            log,
+            answers,
+        };
+        self.ask(Function::Replay, &[], beside) as u32
+    }
+
+    fn event(&mut self, function: Function, arguments: &[u64]) -> u64 {
+        self.ask(function, arguments, Beside::default())
+    }
+
+    fn ask(&mut self, function: Function, arguments: &[u64], mut beside: Beside) -> u64 {
+        thread_local! {
+            static BRIDGE: RefCell<Option<Bridge>> = const { RefCell::new(None) };
+        }
+        BRIDGE.with_borrow_mut(|bridge| {
+            let bridge = bridge.get_or_insert_with(|| Bridge::start().expect("a bridge"));
+            bridge
+                .put(function, arguments, self, &beside)
+                .and_then(|()| bridge.get(self, &mut beside))
+                .expect("an answer over the bridge")
+        })
+    }
+}
+
+/// The program with its two ends.
+struct Bridge {
+    child: Child,
+    to: BufWriter<ChildStdin>,
+    from: ChildStdout,
+}
+
+impl Drop for Bridge {
+    fn drop(&mut self) {
+        // It may have ended by itself.
+        let _ = self.child.kill();
+        let _ = self.child.wait();
+    }
+}
+
+impl Bridge {
+    fn start() -> io::Result<Bridge> {
+        let mut child = Command::new(env!("NSCC_RUN"))
+            .args(["run", env!("NSCC_BRIDGE")])
+            .stdin(Stdio::piped())
+            .stdout(Stdio::piped())
+            .spawn()?;
+        let gone = || io::Error::other("no pipe");
+        Ok(Bridge {
+            to: BufWriter::new(child.stdin.take().ok_or_else(gone)?),
+            from: child.stdout.take().ok_or_else(gone)?,
+            child,
+        })
+    }
+
+    fn put(
+        &mut self,
+        function: Function,
+        arguments: &[u64],
+        lent: &Lent,
+        beside: &Beside,
+    ) -> io::Result<()> {
+        let mut all = [0; ARGUMENTS];
+        all[..arguments.len()].copy_from_slice(arguments);
+        put_u64s(&mut self.to, &[function as u64])?;
+        put_u64s(&mut self.to, &all)?;
+        let lengths = [
+            beside.first.len(),
+            lent.words.len(),
+            lent.status.len(),
+            lent.size.len(),
+            lent.sent.len(),
+            lent.resent.len(),
+            lent.evs.len(),
+            beside.answers.len(),
+            beside.log.len(),
+        ];
+        put_u64s(&mut self.to, &lengths.map(|length| length as u64))?;
+        put_u64s(&mut self.to, beside.first)?;
+        put_u64s(&mut self.to, lent.words)?;
+        self.to.write_all(lent.status)?;
+        put_u32s(&mut self.to, lent.size)?;
+        put_u64s(&mut self.to, lent.sent)?;
+        self.to.write_all(lent.resent)?;
+        put_u64s(&mut self.to, lent.evs)?;
+        put_u64s(&mut self.to, beside.answers)?;
+        self.to.write_all(beside.log)?;
+        self.to.flush()
+    }
+
+    fn get(&mut self, lent: &mut Lent, beside: &mut Beside) -> io::Result<u64> {
+        let mut answer = [0; 2];
+        get_u64s(&mut self.from, &mut answer)?;
+        get_u64s(&mut self.from, beside.first)?;
+        get_u64s(&mut self.from, lent.words)?;
+        self.from.read_exact(lent.status)?;
+        get_u32s(&mut self.from, lent.size)?;
+        get_u64s(&mut self.from, lent.sent)?;
+        self.from.read_exact(lent.resent)?;
+        get_u64s(&mut self.from, lent.evs)?;
+        get_u64s(&mut self.from, beside.answers)?;
+        let [answer, whole] = answer;
+        assert_eq!(whole, 1, "memory beside what was lent was written");
+        Ok(answer)
+    }
+}
+
+fn put_u64s(to: &mut impl Write, numbers: &[u64]) -> io::Result<()> {
+    let bytes: Vec<u8> = numbers.iter().flat_map(|n| n.to_le_bytes()).collect();
+    to.write_all(&bytes)
+}
+
+fn put_u32s(to: &mut impl Write, numbers: &[u32]) -> io::Result<()> {
+    let bytes: Vec<u8> = numbers.iter().flat_map(|n| n.to_le_bytes()).collect();
+    to.write_all(&bytes)
+}
+
+fn get_u64s(from: &mut impl Read, numbers: &mut [u64]) -> io::Result<()> {
+    let mut bytes = vec![0; 8 * numbers.len()];
+    from.read_exact(&mut bytes)?;
+    for (number, bytes) in numbers.iter_mut().zip(bytes.as_chunks().0) {
+        *number = u64::from_le_bytes(*bytes);
+    }
+    Ok(())
+}
+
+fn get_u32s(from: &mut impl Read, numbers: &mut [u32]) -> io::Result<()> {
+    let mut bytes = vec![0; 4 * numbers.len()];
+    from.read_exact(&mut bytes)?;
+    for (number, bytes) in numbers.iter_mut().zip(bytes.as_chunks().0) {
+        *number = u32::from_le_bytes(*bytes);
+    }
+    Ok(())
+}

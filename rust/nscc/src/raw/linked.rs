@@ -1,0 +1,266 @@
+//! The library linked in: the only unsafe code.
+//!
+//! What the header asks of a caller is what slices are: true lengths, no null, aligned, and no two
+//! lent ones overlap. All else is the library's to answer, so every function here is safe.
+#![allow(unsafe_code)]
+
+use super::Lent;
+use crate::event::{Ack, Nack};
+
+mod c {
+    // As in include/nscc.h.
+    extern "C" {
+        pub fn nscc_set_up(
+            settings: *const u64,
+            settings_len: usize,
+            first_psn: u32,
+            quick_adapt_off: bool,
+            state: *mut u64,
+            state_len: usize,
+            status: *mut u8,
+            status_len: usize,
+            size: *mut u32,
+            size_len: usize,
+            sent: *mut u64,
+            sent_len: usize,
+            resent: *mut u8,
+            resent_len: usize,
+            evs: *mut u64,
+            evs_len: usize,
+        ) -> u32;
+
+        pub fn nscc_new_data(
+            state: *mut u64,
+            state_len: usize,
+            status: *const u8,
+            status_len: usize,
+            size: *const u32,
+            size_len: usize,
+            sent: *const u64,
+            sent_len: usize,
+            resent: *const u8,
+            resent_len: usize,
+            evs: *const u64,
+            evs_len: usize,
+            time: u64,
+            bytes: u64,
+        ) -> u32;
+
+        pub fn nscc_send(
+            state: *mut u64,
+            state_len: usize,
+            status: *mut u8,
+            status_len: usize,
+            size: *mut u32,
+            size_len: usize,
+            sent: *mut u64,
+            sent_len: usize,
+            resent: *mut u8,
+            resent_len: usize,
+            evs: *const u64,
+            evs_len: usize,
+            time: u64,
+            psn: u32,
+            bytes: u32,
+            resend: bool,
+        ) -> u32;
+
+        pub fn nscc_ack(
+            state: *mut u64,
+            state_len: usize,
+            status: *mut u8,
+            status_len: usize,
+            size: *mut u32,
+            size_len: usize,
+            sent: *mut u64,
+            sent_len: usize,
+            resent: *mut u8,
+            resent_len: usize,
+            evs: *mut u64,
+            evs_len: usize,
+            time: u64,
+            cum: u32,
+            map: u64,
+            trigger: u32,
+            count: u32,
+            service: u32,
+            ev: u32,
+            marked: bool,
+            retx: bool,
+        ) -> u32;
+
+        pub fn nscc_nack(
+            state: *mut u64,
+            state_len: usize,
+            status: *mut u8,
+            status_len: usize,
+            size: *const u32,
+            size_len: usize,
+            sent: *const u64,
+            sent_len: usize,
+            resent: *const u8,
+            resent_len: usize,
+            evs: *mut u64,
+            evs_len: usize,
+            time: u64,
+            psn: u32,
+            ev: u32,
+            reason: u32,
+            marked: bool,
+            retx: bool,
+        ) -> u32;
+
+        pub fn nscc_loss(
+            state: *mut u64,
+            state_len: usize,
+            status: *mut u8,
+            status_len: usize,
+            size: *const u32,
+            size_len: usize,
+            sent: *const u64,
+            sent_len: usize,
+            resent: *const u8,
+            resent_len: usize,
+            evs: *mut u64,
+            evs_len: usize,
+            time: u64,
+            psn: u32,
+            ev: u32,
+        ) -> u32;
+
+        pub fn nscc_path(
+            state: *mut u64,
+            state_len: usize,
+            status: *const u8,
+            status_len: usize,
+            size: *const u32,
+            size_len: usize,
+            sent: *const u64,
+            sent_len: usize,
+            resent: *const u8,
+            resent_len: usize,
+            evs: *const u64,
+            evs_len: usize,
+            time: u64,
+        ) -> u64;
+
+        pub fn nscc_replay(
+            place: *mut u64,
+            place_len: usize,
+            state: *mut u64,
+            state_len: usize,
+            status: *mut u8,
+            status_len: usize,
+            size: *mut u32,
+            size_len: usize,
+            sent: *mut u64,
+            sent_len: usize,
+            resent: *mut u8,
+            resent_len: usize,
+            evs: *mut u64,
+            evs_len: usize,
+            log: *const u8,
+            log_len: usize,
+            answers: *mut u64,
+            answers_len: usize,
+        ) -> u32;
+    }
+}
+
+/// Calls a C function: what stands before the context, the context's pointers and lengths, the rest.
+macro_rules! call {
+    ($function:ident, [$($before:expr),*], $lent:expr, [$($after:expr),*]) => {
+        // SAFETY: the pointers and lengths are those of slices, which borrows keep apart.
+        unsafe {
+            c::$function(
+                $($before,)*
+                $lent.words.as_mut_ptr(),
+                $lent.words.len(),
+                $lent.status.as_mut_ptr(),
+                $lent.status.len(),
+                $lent.size.as_mut_ptr(),
+                $lent.size.len(),
+                $lent.sent.as_mut_ptr(),
+                $lent.sent.len(),
+                $lent.resent.as_mut_ptr(),
+                $lent.resent.len(),
+                $lent.evs.as_mut_ptr(),
+                $lent.evs.len(),
+                $($after),*
+            )
+        }
+    };
+}
+
+impl Lent<'_> {
+    pub fn set_up(&mut self, settings: &[u64], first_psn: u32, quick_adapt_off: bool) -> u32 {
+        let (numbers, many) = (settings.as_ptr(), settings.len());
+        call!(
+            nscc_set_up,
+            [numbers, many, first_psn, quick_adapt_off],
+            self,
+            []
+        )
+    }
+
+    pub fn new_data(&mut self, time: u64, bytes: u64) -> u32 {
+        call!(nscc_new_data, [], self, [time, bytes])
+    }
+
+    pub fn send(&mut self, time: u64, psn: u32, bytes: u32, resend: bool) -> u32 {
+        call!(nscc_send, [], self, [time, psn, bytes, resend])
+    }
+
+    pub fn ack(&mut self, ack: &Ack) -> u32 {
+        call!(
+            nscc_ack,
+            [],
+            self,
+            [
+                ack.time,
+                ack.cum,
+                ack.map,
+                ack.trigger,
+                ack.count,
+                ack.service,
+                ack.ev,
+                ack.marked,
+                ack.retx
+            ]
+        )
+    }
+
+    pub fn nack(&mut self, nack: &Nack) -> u32 {
+        call!(
+            nscc_nack,
+            [],
+            self,
+            [
+                nack.time,
+                nack.psn,
+                nack.ev,
+                nack.reason,
+                nack.marked,
+                nack.retx
+            ]
+        )
+    }
+
+    pub fn loss(&mut self, time: u64, psn: u32, ev: u32) -> u32 {
+        call!(nscc_loss, [], self, [time, psn, ev])
+    }
+
+    /// The number in the low 32 bits, and where it is 0 the EV above them.
+    pub fn path(&mut self, time: u64) -> u64 {
+        call!(nscc_path, [], self, [time])
+    }
+
+    pub fn replay(&mut self, place: &mut [u64], log: &[u8], answers: &mut [u64]) -> u32 {
+        call!(
+            nscc_replay,
+            [place.as_mut_ptr(), place.len()],
+            self,
+            [log.as_ptr(), log.len(), answers.as_mut_ptr(), answers.len()]
+        )
+    }
+}

@@ -1,0 +1,75 @@
+use std::error::Error;
+use std::fmt;
+
+/// Why a call was refused; the value is the number of the refusal.
+#[derive(Clone, Copy, Debug, PartialEq, Eq)]
+pub enum Refusal {
+    Setting = 1,
+    Unsound = 2,
+    Time = 3,
+    Field = 4,
+    Backlog = 5,
+    WindowFull = 6,
+    RingFull = 7,
+    WrongPsn = 8,
+    UnsentOrOld = 9,
+    NotFlying = 10,
+    Sinks = 11,
+    Malformed = 12,
+}
+
+impl Refusal {
+    pub fn number(self) -> u32 {
+        self as u32
+    }
+
+    pub fn of(number: u32) -> Option<Refusal> {
+        const ALL: [Refusal; 12] = [
+            Refusal::Setting,
+            Refusal::Unsound,
+            Refusal::Time,
+            Refusal::Field,
+            Refusal::Backlog,
+            Refusal::WindowFull,
+            Refusal::RingFull,
+            Refusal::WrongPsn,
+            Refusal::UnsentOrOld,
+            Refusal::NotFlying,
+            Refusal::Sinks,
+            Refusal::Malformed,
+        ];
+        ALL.into_iter().find(|refusal| refusal.number() == number)
+    }
+}
+
+impl fmt::Display for Refusal {
+    fn fmt(&self, f: &mut fmt::Formatter) -> fmt::Result {
+        let why = match self {
+            Refusal::Setting => "a setting is outside its range",
+            Refusal::Unsound => "state or buffers don't hold together",
+            Refusal::Time => "time before the held clock, or 2^48 or more",
+            Refusal::Field => "a field is out of range",
+            Refusal::Backlog => "a new packet larger than the backlog",
+            Refusal::WindowFull => "in-flight + MTU is over the window",
+            Refusal::RingFull => "no slot for a new packet",
+            Refusal::WrongPsn => "a PSN that is not next or not marked, or another size",
+            Refusal::UnsentOrOld => "an ACK names an unsent packet, or is too old",
+            Refusal::NotFlying => "the packet does not fly",
+            Refusal::Sinks => "in-flight would fall below -2^24",
+            Refusal::Malformed => "a log record is malformed",
+        };
+        write!(f, "{}: {why}", self.number())
+    }
+}
+
+impl Error for Refusal {}
+
+/// What an answer says that has the number in its low 32 bits, and above them the EV of an accepted
+/// path choice (0 in all others).
+pub fn answer(word: u64) -> Result<u8, Refusal> {
+    match word as u32 {
+        0 => Ok((word >> 32) as u8),
+        // The library is proved to answer with no other number.
+        number => Err(Refusal::of(number).expect("a number of the header")),
+    }
+}

@@ -1,0 +1,133 @@
+//! The words of `include/nscc.h`, in its order.
+
+/// A word of the state. `word as usize` is its place.
+#[derive(Clone, Copy, Debug, PartialEq, Eq)]
+pub enum Word {
+    Mtu,
+    MaxWnd,
+    ConfigBaseRtt,
+    TargetQdelay,
+    Fi,
+    Eta,
+    Alpha,
+    Gamma,
+    MaxMdJump,
+    AdjustPeriod,
+    AdjustBytes,
+    QaThreshold,
+    FirstPsn,
+    QuickAdaptOff,
+    Low,
+    Next,
+    Held,
+    BacklogBytes,
+    Flying,
+    Marked,
+    MarkedBytes,
+    /// In-flight + [`IN_FLIGHT_ADDED`].
+    InFlight,
+    Cwnd,
+    Base,
+    Avg,
+    IncBytes,
+    Received,
+    Achieved,
+    Ignored,
+    BytesToIgnore,
+    FiCount,
+    Fast,
+    Trigger,
+    QaEnd,
+    LastAdjust,
+    LastDec,
+    Clock,
+    Cursor,
+    /// A [`Phase`].
+    Phase,
+}
+
+impl Word {
+    pub const ALL: [Word; WORDS] = [
+        Word::Mtu,
+        Word::MaxWnd,
+        Word::ConfigBaseRtt,
+        Word::TargetQdelay,
+        Word::Fi,
+        Word::Eta,
+        Word::Alpha,
+        Word::Gamma,
+        Word::MaxMdJump,
+        Word::AdjustPeriod,
+        Word::AdjustBytes,
+        Word::QaThreshold,
+        Word::FirstPsn,
+        Word::QuickAdaptOff,
+        Word::Low,
+        Word::Next,
+        Word::Held,
+        Word::BacklogBytes,
+        Word::Flying,
+        Word::Marked,
+        Word::MarkedBytes,
+        Word::InFlight,
+        Word::Cwnd,
+        Word::Base,
+        Word::Avg,
+        Word::IncBytes,
+        Word::Received,
+        Word::Achieved,
+        Word::Ignored,
+        Word::BytesToIgnore,
+        Word::FiCount,
+        Word::Fast,
+        Word::Trigger,
+        Word::QaEnd,
+        Word::LastAdjust,
+        Word::LastDec,
+        Word::Clock,
+        Word::Cursor,
+        Word::Phase,
+    ];
+}
+
+/// A word of a place in a log.
+#[derive(Clone, Copy, Debug, PartialEq, Eq)]
+pub enum PlaceWord {
+    At,
+    Done,
+    Stopped,
+    Answered,
+}
+
+/// The state's name.
+#[derive(Clone, Copy, Debug, PartialEq, Eq)]
+pub enum Phase {
+    Idle,
+    Pending,
+    Ready,
+    Active,
+}
+
+impl Phase {
+    /// Of the state's last word; `None` for a word that no state has.
+    pub fn of(word: u64) -> Option<Phase> {
+        match word {
+            0 => Some(Phase::Idle),
+            1 => Some(Phase::Pending),
+            2 => Some(Phase::Ready),
+            3 => Some(Phase::Active),
+            _ => None,
+        }
+    }
+}
+
+/// How many settings there are.
+pub const SETTINGS: usize = 12;
+/// How many words a state has.
+pub const WORDS: usize = 39;
+/// How many words a place has.
+pub const PLACE: usize = 4;
+/// How many EV times there are.
+pub const EVS: usize = 256;
+/// What is added to in-flight in its word, since in-flight may be below zero.
+pub const IN_FLIGHT_ADDED: i64 = 1 << 24;

@@ -1,0 +1,114 @@
+//! The wrapper itself: the worked example of 01 by its methods, and a log by its replay.
+
+use nscc::{answer, Ack, Context, Nack, Phase, Place, PlaceWord, Refusal, Settings, Word};
+
+/// The settings E of 01.
+fn e() -> Settings {
+    Settings {
+        mtu: 4096,
+        max_wnd: 614_400,
+        config_base_rtt: 96,
+        target_qdelay: 72,
+        fi: 4096,
+        eta: 1024,
+        alpha: 224,
+        gamma: 819,
+        max_md_jump: 512,
+        adjust_period: 96,
+        adjust_bytes: 32_768,
+        qa_threshold: 288,
+        first_psn: 0,
+        quick_adapt_off: false,
+    }
+}
+
+fn worked_ack() -> Ack {
+    Ack {
+        time: 110,
+        cum: 0,
+        map: 0,
+        trigger: 0,
+        count: 16,
+        service: 4,
+        ev: 0,
+        marked: false,
+        retx: false,
+    }
+}
+
+#[test]
+fn the_worked_example() {
+    let mut context = Context::set_up(&e(), 64).expect("good settings");
+    assert_eq!(context.phase(), Some(Phase::Idle));
+    assert_eq!(context.new_data(0, 8192), Ok(()));
+    assert_eq!(context.send(10, 0, 4096, false), Ok(()));
+    let before = context.clone();
+    assert_eq!(context.send(20, 2, 4096, false), Err(Refusal::WrongPsn));
+    assert_eq!(context, before);
+    assert_eq!(context.in_flight(), 4096);
+    assert_eq!(context.ack(&worked_ack()), Ok(()));
+    assert_eq!(context.in_flight(), 0);
+    assert_eq!(context.word(Word::Cwnd), 614_400);
+    assert_eq!(context.word(Word::BacklogBytes), 4096);
+    assert_eq!(context.phase(), Some(Phase::Ready));
+}
+
+#[test]
+fn paths_and_losses() {
+    let mut context = Context::set_up(&e(), 64).expect("good settings");
+    assert_eq!(context.path(5), Ok(0));
+    assert_eq!(context.path(5), Ok(1));
+    assert_eq!(context.path(4), Err(Refusal::Time));
+    assert_eq!(context.new_data(5, 300), Ok(()));
+    for psn in 0..3 {
+        assert_eq!(context.send(5, psn, 100, false), Ok(()));
+    }
+    // EV 2, which would be next, is avoided until 6 + 96.
+    assert_eq!(context.loss(6, 0, 2), Ok(()));
+    assert_eq!(context.path(6), Ok(3));
+    let nack = Nack {
+        time: 7,
+        psn: 0,
+        ev: 0,
+        reason: 2,
+        marked: false,
+        retx: false,
+    };
+    assert_eq!(context.nack(&nack), Err(Refusal::NotFlying));
+    assert_eq!(context.nack(&Nack { psn: 1, ..nack }), Ok(()));
+    assert_eq!(context.word(Word::Marked), 2);
+    assert_eq!(context.in_flight(), 100);
+}
+
+#[test]
+fn refused_settings_and_lengths() {
+    let small = Settings { mtu: 1023, ..e() };
+    assert_eq!(Context::set_up(&small, 64), Err(Refusal::Setting));
+    assert_eq!(Context::set_up(&e(), 96), Err(Refusal::Unsound));
+    let mut context = Context::set_up(&e(), 64).expect("good settings");
+    context.words[Word::Cwnd as usize] = 0;
+    assert_eq!(context.path(0), Err(Refusal::Unsound));
+}
+
+#[test]
+fn a_log_in_two_pieces() {
+    let path = [10, 0, 6, 0, 7, 0, 0, 0, 0, 0, 0, 0];
+    let mut log = vec![55, 0, 16, 0];
+    for number in e().numbers() {
+        log.extend(u32::try_from(number).expect("small").to_le_bytes());
+    }
+    log.extend([0; 5]);
+    log.extend(path);
+    log.extend([9, 9]); // a cut end
+    let mut context = Context::empty(1024);
+    let mut place = Place::default();
+    let mut answers = [0; 2];
+    assert_eq!(context.replay(&mut place, &log, &mut answers), Ok(2));
+    assert_eq!(answers.map(answer), [Ok(0), Ok(0)]);
+    assert_eq!(context.replay(&mut place, &log, &mut answers), Ok(1));
+    assert_eq!(answer(answers[0]), Err(Refusal::Malformed));
+    assert!(place.stopped());
+    assert_eq!(place.word(PlaceWord::Done), 2);
+    assert_eq!(context.replay(&mut place, &log, &mut answers), Ok(0));
+    assert_eq!(context.word(Word::Cursor), 1);
+}
