@@ -1,8 +1,13 @@
-# The README's two commands.
-.PHONY: run test
+# The README's two commands, and two more.
+.PHONY: run test fuzz bench
 
 # The log that `make run` replays.
 LOG = examples/worked.log
+
+# For how long `make fuzz` runs.
+SECONDS = 60
+
+RUN = cargo run --release --quiet --offline --locked --manifest-path rust/Cargo.toml
 
 # Proves and builds the program where that is not done yet, and replays the log. What the proof says goes to target/run.log.
 run:
@@ -10,8 +15,22 @@ run:
 	@rt check nscc >target/run.log 2>&1 || { cat target/run.log >&2; exit 1; }
 	@tools/x86-64 run target/bin/nscc "$(LOG)"
 
-# Runs the tests of the Rust model; then proves every crate of crates.txt, tries every must-fail edit and runs every program.
+# Proves every crate of crates.txt, tries every must-fail edit and runs every program; then the tests from Rust and C over what was proved.
 # The last line is 'N passed, 0 failed' where all is well; anything red is red.
 test:
-	@cargo test --quiet --offline --locked --manifest-path rust/Cargo.toml
-	@rt ci
+	@tools/test
+
+# Random cases against the model for so many seconds; a failure prints its seed and the shortest log that still fails.
+fuzz: target/staticlib/libexports.a target/bin/nscc
+	@$(RUN) -p differential --bin fuzz -- $(SECONDS)
+
+# What the library costs beside the model, as a table. On a processor other than x86-64 the same code is compiled for that processor first.
+bench: target/staticlib/libexports.a
+	@tools/native-archive target/native >target/native.log
+	@NSCC_ARCHIVE_DIR=$(CURDIR)/target/native $(RUN) -p bench
+
+target/staticlib/libexports.a:
+	@rt staticlib exports
+
+target/bin/nscc:
+	@rt check nscc
