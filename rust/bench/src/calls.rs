@@ -1,149 +1,133 @@
-//! Calls from outside, each of which tests number 2 in full.
+//! Calls from outside, which test number 2 in full.
 
+use crate::logs;
+use crate::sides::{assert_alike, packed, set_up, set_up_model, set_up_ours, Model};
 use crate::table::Table;
-use differential::{Call, Model, Source, GOOD};
-use model::gen::E;
-use model::{Event, Memory, Rng, Settings, State};
+use crate::timing::{race, Clock, Times};
+use differential::Call;
+use model::{number_two, Event, NewData, Send, Settings};
 use nscc::Context;
 use std::hint::black_box;
 
-/// A stream of all kinds of calls, through the C functions and through the model's methods.
+const ROUNDS: usize = 9;
+const TEST_ROUNDS: usize = 200;
+/// The refusal of a time before the clock.
+const TIME: u64 = 3;
+
+/// (b) A mix of all events.
 pub fn events(table: &mut Table) {
-    for capacity in [64, 1_024] {
-        let calls = stream(capacity);
-        let what = format!("calls of all kinds, {capacity} slots: a call");
-        compare(table, &what, capacity, &calls);
+    for (capacity, many) in [(64, 100_000), (1_024, 30_000)] {
+        let (settings, events) = logs::traffic_for(capacity, many);
+        let times = calls(&settings, &events, capacity);
+        table.add(format!("(b) a call, traffic, {capacity} slots"), times);
     }
 }
 
-/// The stream's ACKs again and again, on the ledger that it leaves.
+/// (e) The same ACKs in the smallest and in the largest ring.
 pub fn acks(table: &mut Table) {
-    for capacity in [64, 4_096] {
-        let mut calls = vec![Call::set_up(&settings())];
-        calls.extend(fill(32));
-        let ack = nscc::Ack {
-            time: 200,
-            cum: 15,
-            map: 0b1010,
-            trigger: 15,
-            count: 100,
-            service: 10,
-            ev: 3,
-            marked: false,
-            retx: false,
-        };
-        calls.extend((0..5_000).map(|_| Call::Ack(ack)));
-        let what = format!("ACK by call, {capacity} slots: a call");
-        compare(table, &what, capacity, &calls);
-    }
-}
-
-/// A path choice that is refused for its time: the full test is nearly all that it does.
-pub fn number_two(table: &mut Table) {
-    const MANY: usize = 2_000;
-    for capacity in [64, 1_024, 4_096] {
-        let mut calls = vec![Call::set_up(&settings())];
-        calls.extend(fill(capacity as u32));
-        let mut context = Context::empty(capacity);
-        let (mut state, mut memory) = (State::default(), Memory::new(capacity));
-        for call in &calls {
-            assert_eq!(call.ask(&mut context.lend()), 0);
-            take(&mut state, &mut memory, call);
-        }
-        let what = format!("number 2 in full, {capacity} slots, all used: a test");
-        table.row(
-            &what,
-            MANY,
-            || (0..MANY).for_each(|_| assert_eq!(context.path(0), Err(nscc::Refusal::Time))),
-            || {
-                let lent = memory.lend();
-                (0..MANY).for_each(|_| assert!(model::number_two(black_box(&state), &lent)));
-            },
+    for (capacity, many) in [(64, 100_000), (4_096, 5_000)] {
+        let (settings, events) = logs::apart(&logs::repeated_ack(many));
+        let times = calls(&settings, &events, capacity);
+        table.add(
+            format!("(e) a call of an ACK that delivers nothing new, {capacity} slots"),
+            times,
         );
     }
 }
 
-fn settings() -> Settings {
-    let mut numbers = E;
-    numbers[1] = 1 << 26;
-    Settings::from_numbers(numbers, 0, false)
-}
-
-/// New data and so many packets.
-fn fill(packets: u32) -> impl Iterator<Item = Call> {
-    let new_data = Call::NewData {
-        time: 10,
-        bytes: 1 << 30,
-    };
-    let sends = (0..packets).map(|psn| Call::Send {
-        time: 20,
-        psn,
-        bytes: 4096,
-        resend: false,
-    });
-    std::iter::once(new_data).chain(sends)
-}
-
-/// Calls that keep to the rules, beginning with setting up.
-fn stream(capacity: usize) -> Vec<Call> {
-    let mut rng = Rng::new(1);
-    let settings = GOOD.settings(&mut rng);
-    let mut calls = vec![Call::set_up(&settings)];
-    let mut model = Model::empty(capacity);
-    model.answer(&calls[0]);
-    let mut source = Source { rng, profile: GOOD };
-    for _ in 0..20_000 {
-        let call = source.next(&model);
-        model.answer(&call);
-        calls.push(call);
-    }
-    calls
-}
-
-fn compare(table: &mut Table, what: &str, capacity: usize, calls: &[Call]) {
-    let events: Vec<Option<Event>> = calls.iter().map(Call::event).collect();
-    let mut context = Context::empty(capacity);
-    let mut memory = Memory::new(capacity);
-    let (mut ours, mut model) = (0, 0);
-    table.row(
-        what,
+/// The time of a call.
+fn calls(settings: &Settings, events: &[Event], capacity: usize) -> Times {
+    let calls: Vec<Call> = events.iter().map(Call::of).collect();
+    let (mut context, mut model) = (Context::empty(capacity), Model::empty(capacity));
+    set_up(&mut context, &mut model, settings);
+    take(&mut context, &mut model, events);
+    assert_alike(&context, &model);
+    race(
+        ROUNDS,
         calls.len(),
-        || {
+        |clock| {
+            set_up_ours(&mut context, settings);
             let mut lent = context.lend();
-            let refused = calls.iter().filter(|call| call.ask(&mut lent) as u32 != 0);
-            ours = refused.count();
+            in_laps(clock, &calls, |call| call.ask(&mut lent));
         },
-        || {
-            let mut state = State::default();
-            let refused = calls
-                .iter()
-                .zip(&events)
-                .filter(|(call, event)| match event {
-                    Some(event) => state.take(&mut memory.lend(), event).number != 0,
-                    None => take(&mut state, &mut memory, call) != 0,
-                });
-            model = refused.count();
+        |clock| {
+            set_up_model(&mut model, settings);
+            let Model { state, memory } = &mut model;
+            let mut lent = memory.lend();
+            in_laps(clock, events, |event| packed(state.take(&mut lent, event)));
         },
-    );
-    assert_eq!(ours, model, "the answers differ");
+    )
 }
 
-/// The model's answer to a call, with the state by itself.
-fn take(state: &mut State, memory: &mut Memory, call: &Call) -> u8 {
-    if let Some(event) = call.event() {
-        return state.take(&mut memory.lend(), &event).number;
+/// Both sides take the events and must answer alike; the last answer.
+fn take(context: &mut Context, model: &mut Model, events: &[Event]) -> u64 {
+    let mut last = 0;
+    for event in events {
+        let outcome = model.state.take(&mut model.memory.lend(), event);
+        last = Call::of(event).ask(&mut context.lend());
+        assert_eq!(last, packed(outcome), "{event:?}");
     }
-    let Call::SetUp {
-        settings,
-        first_psn,
-        quick_adapt_off,
-    } = call
-    else {
-        return 0;
-    };
-    let numbers = settings.as_slice().try_into().expect("twelve settings");
-    let settings = Settings::from_numbers(numbers, *first_psn, *quick_adapt_off);
-    let (number, fresh) = State::set_up(&settings, &mut memory.lend());
-    *state = fresh;
-    number
+    last
+}
+
+fn in_laps<T>(clock: &mut Clock, calls: &[T], mut ask: impl FnMut(&T) -> u64) {
+    for lap in calls.chunks(500) {
+        clock.lap(|| {
+            for call in lap {
+                black_box(ask(call));
+            }
+        });
+    }
+}
+
+/// (c) The full test: ours is a path choice that time refuses, which does little else.
+pub fn full_test(table: &mut Table) {
+    for (name, quarters) in [("full", 4), ("half full", 2), ("empty", 0)] {
+        for capacity in [64, 1_024, 4_096] {
+            let times = test_of(capacity, capacity / 4 * quarters);
+            table.add(
+                format!("(c) number 2's test, {capacity} slots, ring {name}"),
+                times,
+            );
+        }
+    }
+}
+
+fn test_of(capacity: usize, packets: usize) -> Times {
+    let (mut context, mut model) = filled(capacity, packets);
+    let early = [Event::Path { time: 0 }];
+    assert_eq!(take(&mut context, &mut model, &early), TIME);
+    assert_alike(&context, &model);
+    let many = 160_000 / capacity;
+    let mut lent = context.lend();
+    let Model { state, memory } = &mut model;
+    let models = memory.lend();
+    race(
+        TEST_ROUNDS,
+        many,
+        |clock| clock.lap(|| (0..many).all(|_| lent.path(black_box(0)) == TIME)),
+        |clock| clock.lap(|| (0..many).all(|_| number_two(black_box(state), black_box(&models)))),
+    )
+}
+
+/// Both sides with so many packets flying, at a clock of 1.
+fn filled(capacity: usize, packets: usize) -> (Context, Model) {
+    let mut numbers = model::gen::E;
+    numbers[1] = 1 << 26;
+    let settings = Settings::from_numbers(numbers, 0, false);
+    let (mut context, mut model) = (Context::empty(capacity), Model::empty(capacity));
+    set_up(&mut context, &mut model, &settings);
+    let (time, size) = (1, 1024);
+    let bytes = 1 + u64::from(size) * packets as u64;
+    let mut events = vec![Event::from(NewData { time, bytes })];
+    events.extend((0..packets as u32).map(|psn| {
+        Event::from(Send {
+            time,
+            size,
+            psn,
+            resend: false,
+        })
+    }));
+    take(&mut context, &mut model, &events);
+    (context, model)
 }

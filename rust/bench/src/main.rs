@@ -1,32 +1,41 @@
-//! What the proved library costs, against the model: the same logs and calls, on one machine, in one
-//! run. Prints a table in Markdown.
+//! `bench`: times the proved library against the model and prints one table in Markdown.
+//!
+//! Both sides get the same logs and events in the same run. What they answer and leave is compared
+//! before anything is timed.
 
 mod calls;
+mod logs;
 mod replays;
+mod sides;
 mod table;
+mod timing;
 
-use nscc::raw::EMULATED;
-use std::process::ExitCode;
 use table::Table;
 
-fn main() -> ExitCode {
-    if EMULATED {
-        eprintln!(
-            "The library would run under an emulator, where a time says nothing. \
-             `tools/native-archive FOLDER` compiles it for this processor; \
-             then name FOLDER in NSCC_ARCHIVE_DIR."
-        );
-        return ExitCode::FAILURE;
+const EMULATED: &str = "\
+The library runs under an emulator here, where a time says nothing. To measure, name a folder with
+an archive for this processor in NSCC_ARCHIVE_DIR.";
+
+const HOW: &str = "\
+Both sides gave the same answers and left the same memory before anything was timed. Setting up
+clears the buffers first, on both. Times are the best of several rounds, ours and the model's in turn.
+";
+
+fn main() {
+    println!("Processor architecture: {}.", std::env::consts::ARCH);
+    if nscc::raw::EMULATED {
+        println!("{EMULATED}");
+        return;
     }
-    println!("Processor: {}.", std::env::consts::ARCH);
-    println!("Each number is the least of several rounds, ours and the model's in turn.");
-    println!("Buffers are cleared first, on both sides: setting up does it, and is timed.\n");
-    let mut table = Table::start();
+    println!("{HOW}");
+    let mut table = Table::default();
     replays::kinds(&mut table);
+    replays::paths(&mut table);
+    replays::rooms(&mut table);
     replays::lengths(&mut table);
     replays::acks(&mut table);
     calls::events(&mut table);
     calls::acks(&mut table);
-    calls::number_two(&mut table);
-    ExitCode::SUCCESS
+    calls::full_test(&mut table);
+    print!("{table}");
 }

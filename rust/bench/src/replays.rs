@@ -1,123 +1,146 @@
-//! Replay without text. Number 2 is tested once: by the model never, since setting up gives what it
-//! asks; by ours where a replay goes on.
+//! Replays without text. The model's never tests number 2: setting up gives what it asks.
 
+use crate::logs;
+use crate::sides::{assert_alike, packed, Model};
 use crate::table::Table;
-use model::gen::{self, E};
-use model::log::{append, Record};
+use crate::timing::{race, Clock, Times};
 use model::replay::{Replay, CAPACITY};
-use model::Memory;
 use nscc::{Context, Place};
 
-const MANY: usize = 1_000_000;
+const RECORDS: usize = 1_000_000;
+const ROUNDS: usize = 15;
+/// Records of a lap, and how many answers a call of the library has room for where nothing else is
+/// said. It tests number 2 once a call.
+const LAP: usize = 10_000;
 
-/// A log of a seed and a number of records.
-type Generator = fn(u64, usize) -> Vec<u8>;
-
+/// (a) Logs of several kinds.
 pub fn kinds(table: &mut Table) {
-    let kinds: [(&str, Generator); 4] = [
-        ("traffic", gen::traffic),
-        ("loss-heavy", gen::lossy),
-        ("marks-heavy", gen::marked),
-        ("bulk", gen::bulk),
-    ];
-    for (name, generator) in kinds {
-        let log = generator(1, MANY);
-        let what = format!("replay, {name}, 10^6 records: a record");
-        compare(table, &what, &log, MANY, CAPACITY);
+    for (kind, make) in logs::KINDS {
+        let times = replay(ROUNDS, &make(RECORDS), CAPACITY, LAP);
+        table.add(format!("(a) a record replayed, {kind}"), times);
     }
 }
 
+/// (a) Path choices that take the cursor, and such that have to count and search.
+pub fn paths(table: &mut Table) {
+    for (which, avoided) in [("no", false), ("every second", true)] {
+        let log = logs::path_choices(RECORDS / 4, avoided);
+        let times = replay(ROUNDS, &log, CAPACITY, LAP);
+        table.add(
+            format!("(a) a path choice replayed, {which} EV avoided"),
+            times,
+        );
+    }
+}
+
+/// (a) Room for fewer answers, so that number 2 is tested more often.
+pub fn rooms(table: &mut Table) {
+    let log = logs::traffic(RECORDS / 4);
+    for room in [1_000, 50] {
+        let times = replay(ROUNDS, &log, CAPACITY, room);
+        table.add(
+            format!("(a) a record replayed, traffic, {room} answers a call"),
+            times,
+        );
+    }
+}
+
+/// (d) The length of a log.
 pub fn lengths(table: &mut Table) {
-    for (power, records) in [(4, 10_000), (6, MANY)] {
-        let log = gen::traffic(2, records);
-        let what = format!("replay, traffic, 10^{power} records: a record");
-        compare(table, &what, &log, records, CAPACITY);
+    for (name, records, rounds) in [("10^4", 10_000, 200), ("10^6", RECORDS, ROUNDS)] {
+        let times = replay(rounds, &logs::traffic(records), CAPACITY, LAP);
+        table.add(
+            format!("(d) a record replayed, log of {name} records"),
+            times,
+        );
     }
 }
 
+/// (e) The same ACKs in the smallest and in the largest ring.
 pub fn acks(table: &mut Table) {
-    let (log, records) = ack_log();
+    const MANY: u32 = 100_000;
+    let repeated = logs::repeated_ack(2 * MANY);
+    let pairs = logs::ack_and_send(MANY);
     for capacity in [64, 4_096] {
-        let what = format!("replay, 16 of 17 records ACKs, {capacity} slots: a record");
-        compare(table, &what, &log, records, capacity);
+        let times = replay(ROUNDS, &repeated, capacity, LAP);
+        table.add(
+            format!("(e) an ACK replayed that delivers nothing new, {capacity} slots"),
+            times,
+        );
+        let times = replay(ROUNDS, &pairs, capacity, LAP);
+        table.add(
+            format!("(e) an ACK replayed that delivers a packet, or a send, {capacity} slots"),
+            times,
+        );
     }
 }
 
-fn compare(table: &mut Table, what: &str, log: &[u8], records: usize, capacity: usize) {
-    let mut ours = vec![u64::MAX; records];
-    let mut model = Vec::with_capacity(records);
+/// The time of a record. `room` is how many answers a call of the library has room for.
+fn replay(rounds: usize, log: &[u8], capacity: usize, room: usize) -> Times {
     let mut context = Context::empty(capacity);
-    let mut memory = Memory::new(capacity);
-    table.row(
-        what,
+    let mut model = Model::empty(capacity);
+    let mut ours = vec![0; logs::count(log)];
+    let mut models = ours.clone();
+    let records = ours.len();
+
+    // Once, to compare.
+    replay_ours(&mut Clock::default(), &mut context, log, &mut ours, room);
+    replay_model(&mut Clock::default(), &mut model, log, &mut models, room);
+    assert!(ours == models, "the answers differ");
+    assert_alike(&context, &model);
+
+    race(
+        rounds,
         records,
-        || {
-            let mut place = Place::default();
-            let given = context.replay(&mut place, log, &mut ours);
-            assert_eq!(given, Ok(records));
-        },
-        || {
-            model.clear();
-            let mut replay = Replay::new(log, memory.lend());
-            while let Ok(Some(outcome)) = replay.step() {
-                let ev = u64::from(outcome.ev.unwrap_or(0));
-                model.push(u64::from(outcome.number) | ev << 32);
-            }
-        },
-    );
-    assert!(ours == model, "the answers differ");
+        |clock| replay_ours(clock, &mut context, log, &mut ours, room),
+        |clock| replay_model(clock, &mut model, log, &mut models, room),
+    )
 }
 
-/// Bytes of a packet in the log of ACKs.
-const SIZE: u32 = 4096;
+fn replay_ours(
+    clock: &mut Clock,
+    context: &mut Context,
+    log: &[u8],
+    answers: &mut [u64],
+    room: usize,
+) {
+    let mut place = Place::default();
+    in_laps(clock, answers, room, |part| {
+        let given = context.replay(&mut place, log, part);
+        given.expect("sound memory")
+    });
+}
 
-/// Rounds of 32 packets, each acknowledged once and the ACK doubled 15 times; and how many records.
-fn ack_log() -> (Vec<u8>, usize) {
-    const PACKETS: u32 = 32;
-    let settings = Record::Settings {
-        numbers: E,
-        first_psn: 0,
-        flags: 0,
-    };
-    let mut records = vec![settings];
-    let mut time = 0;
-    for round in 0..1_500 {
-        let psns = round * PACKETS..(round + 1) * PACKETS;
-        let bytes = u64::from(PACKETS * SIZE);
-        records.push(Record::NewData { time, bytes });
-        records.extend(psns.clone().map(|psn| send(time, psn)));
-        for psn in psns {
-            time += 3;
-            records.extend([ack(time, psn); 16]);
+fn replay_model(
+    clock: &mut Clock,
+    model: &mut Model,
+    log: &[u8],
+    answers: &mut [u64],
+    room: usize,
+) {
+    let mut replay = Replay::new(log, model.memory.lend());
+    in_laps(clock, answers, room, |part| {
+        for answer in part.iter_mut() {
+            let outcome = replay.step().expect("a sound log");
+            *answer = packed(outcome.expect("a record"));
         }
-    }
-    let mut log = Vec::new();
-    for record in &records {
-        append(record, &mut log).expect("every field fits its bytes");
-    }
-    (log, records.len())
+        part.len()
+    });
+    model.state = replay.state;
 }
 
-fn send(time: u64, psn: u32) -> Record {
-    Record::Send {
-        time,
-        size: SIZE,
-        psn,
-        resend: 0,
-    }
-}
-
-/// All packets up to `psn` have arrived.
-fn ack(time: u64, psn: u32) -> Record {
-    let units = (psn + 1) * (SIZE / 256);
-    Record::Ack {
-        time,
-        cum: psn,
-        map: 0,
-        trigger: psn,
-        count: units % (1 << 24),
-        service: 0,
-        ev: psn as u16 % 256,
-        flags: 0,
+/// Has all answers given, so many at a time.
+fn in_laps(
+    clock: &mut Clock,
+    answers: &mut [u64],
+    room: usize,
+    mut give: impl FnMut(&mut [u64]) -> usize,
+) {
+    for lap in answers.chunks_mut(LAP) {
+        clock.lap(|| {
+            for part in lap.chunks_mut(room) {
+                assert_eq!(give(part), part.len());
+            }
+        });
     }
 }

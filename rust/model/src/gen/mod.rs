@@ -4,7 +4,7 @@ mod hostile;
 mod traffic;
 
 pub use hostile::hostile;
-pub use traffic::{lossy, marked, traffic};
+pub use traffic::{lossy, marked, narrow, traffic, winding};
 
 use crate::bounds::{COUNT_END, UNIT};
 use crate::log::{append, Record, QUICK_ADAPT_OFF};

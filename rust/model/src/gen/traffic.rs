@@ -27,6 +27,19 @@ pub fn marked(seed: u64, records: usize) -> Vec<u8> {
     run(seed, records, |sim| sim.road.marks = 3)
 }
 
+/// Marked traffic with four more path choices for every packet, so that many EVs are avoided.
+pub fn winding(seed: u64, records: usize) -> Vec<u8> {
+    run(seed, records, |sim| {
+        sim.road.marks = 3;
+        sim.more_paths = 4;
+    })
+}
+
+/// Traffic for a ring of `capacity` slots, which must be a ring's and at most the program's.
+pub fn narrow(seed: u64, records: usize, capacity: usize) -> Vec<u8> {
+    run(seed, records, |sim| sim.memory = Memory::new(capacity))
+}
+
 fn run(seed: u64, records: usize, shape: impl Fn(&mut Sim)) -> Vec<u8> {
     let mut rng = Rng::new(seed);
     let settings = settings(&mut rng);
@@ -155,6 +168,8 @@ pub(super) struct Sim {
     small: u64,
     /// New data comes in one step of so many.
     lull: u64,
+    /// Path choices before every packet, beside the usual ones.
+    more_paths: u64,
     ev: u16,
     road: Road,
     on_road: BinaryHeap<Reverse<Packet>>,
@@ -187,6 +202,7 @@ impl Sim {
             state,
             memory,
             now,
+            more_paths: 0,
             ev: 0,
             road,
             on_road: BinaryHeap::new(),
@@ -235,9 +251,12 @@ impl Sim {
         }
     }
 
+    fn ring_room(&self) -> bool {
+        (self.state.outstanding() as usize) < self.memory.status.len()
+    }
+
     fn may_send(&self) -> bool {
-        let ring_room = (self.state.outstanding() as usize) < CAPACITY;
-        let new_packet = ring_room && self.state.backlog >= u64::from(SIZE_MIN);
+        let new_packet = self.ring_room() && self.state.backlog >= u64::from(SIZE_MIN);
         self.state.name == Name::Ready && (self.state.marked > 0 || new_packet)
     }
 
@@ -265,7 +284,8 @@ impl Sim {
     }
 
     fn send(&mut self) {
-        if self.rng.one_in(2) {
+        let paths = self.more_paths + u64::from(self.rng.one_in(2));
+        for _ in 0..paths {
             let time = self.now;
             self.ev = self.emit(Record::Path { time }).ev.unwrap_or(0).into();
         }
@@ -291,10 +311,9 @@ impl Sim {
                 return Some((psn, size, true));
             }
         }
-        let room = (self.state.outstanding() as usize) < CAPACITY;
         let most = self.state.backlog.min(self.state.settings.mtu);
         let least = u64::from(SIZE_MIN);
-        if !room || most < least {
+        if !self.ring_room() || most < least {
             return None;
         }
         let size = if self.rng.one_in(self.small) {

@@ -224,6 +224,19 @@ fn realistic_logs() {
 }
 
 #[test]
+fn shaped_logs() {
+    let narrow = |seed, records| gen::narrow(seed, records, 64);
+    for make in [gen::lossy, gen::marked, gen::winding, narrow] {
+        let mut seen = Seen::default();
+        for seed in 0..8 {
+            follow(&make(seed, 2_500), &mut seen);
+        }
+        let refused: u32 = seen.answers[1..].iter().sum();
+        assert!(refused * 100 < seen.answers[0], "{:?}", seen.answers);
+    }
+}
+
+#[test]
 fn hostile_logs() {
     let mut seen = Seen::default();
     for seed in 0..150 {

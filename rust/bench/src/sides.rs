@@ -1,0 +1,57 @@
+//! What both sides do and leave.
+
+use differential::words_of;
+use model::{Memory, Outcome, Settings, State};
+use nscc::Context;
+
+/// The model's context with its memory.
+pub struct Model {
+    pub state: State,
+    pub memory: Memory,
+}
+
+impl Model {
+    pub fn empty(capacity: usize) -> Model {
+        Model {
+            state: State::default(),
+            memory: Memory::new(capacity),
+        }
+    }
+}
+
+/// Sets both sides up; the settings must be good ones.
+pub fn set_up(context: &mut Context, model: &mut Model, settings: &Settings) {
+    set_up_ours(context, settings);
+    set_up_model(model, settings);
+}
+
+pub fn set_up_ours(context: &mut Context, settings: &Settings) {
+    let number = context.lend().set_up(
+        &settings.numbers(),
+        settings.first_psn,
+        settings.quick_adapt_off,
+    );
+    assert_eq!(number, 0);
+}
+
+pub fn set_up_model(model: &mut Model, settings: &Settings) {
+    let (number, state) = State::set_up(settings, &mut model.memory.lend());
+    assert_eq!(number, 0);
+    model.state = state;
+}
+
+/// The model's outcome in one word, as the library packs it.
+pub fn packed(outcome: Outcome) -> u64 {
+    u64::from(outcome.number) | u64::from(outcome.ev.unwrap_or(0)) << 32
+}
+
+/// Fails unless both sides are left alike.
+pub fn assert_alike(context: &Context, model: &Model) {
+    let memory = &model.memory;
+    assert_eq!(context.words, words_of(&model.state));
+    assert_eq!(context.status, memory.status);
+    assert_eq!(context.size, memory.size);
+    assert_eq!(context.sent, memory.sent);
+    assert_eq!(context.resent, memory.resent);
+    assert_eq!(context.evs, memory.ev_times);
+}
