@@ -97,8 +97,8 @@ enum nscc_word {
 #define NSCC_EVS 256
 
 /*
- * Sets a context up: 1, or 2 on lengths. Clears the ring and the EV times and writes the state's words; a refusal changes nothing.
- * settings_len is NSCC_SETTINGS, state_len NSCC_WORDS, evs_len NSCC_EVS.
+ * Sets a context up: 1, then 2 on lengths; settings that are not NSCC_SETTINGS numbers can't be read, and are 2 before all else. Clears the ring and the EV
+ * times and writes the state's words; a refusal changes nothing. settings_len is NSCC_SETTINGS, state_len NSCC_WORDS, evs_len NSCC_EVS.
  */
 uint32_t nscc_set_up(const uint64_t *settings, size_t settings_len, uint32_t first_psn, bool quick_adapt_off,
                      uint64_t *state, size_t state_len, uint8_t *status, size_t status_len, uint32_t *size, size_t size_len,
@@ -130,7 +130,7 @@ uint32_t nscc_loss(uint64_t *state, size_t state_len, uint8_t *status, size_t st
                    const uint64_t *sent, size_t sent_len, const uint8_t *resent, size_t resent_len, uint64_t *evs, size_t evs_len,
                    uint64_t time, uint32_t psn, uint32_t ev);
 
-/* The next path: the number (2, 3) in the low 32 bits of the answer, and where it is 0 the EV above them. The ring and the EV times are only read. */
+/* The next path: the number (2, 3) in the low 32 bits of the answer; above them the EV, 0 where it is refused. The ring and the EV times are only read. */
 uint64_t nscc_path(uint64_t *state, size_t state_len, const uint8_t *status, size_t status_len, const uint32_t *size, size_t size_len,
                    const uint64_t *sent, size_t sent_len, const uint8_t *resent, size_t resent_len, const uint64_t *evs, size_t evs_len,
                    uint64_t time);
@@ -146,8 +146,9 @@ enum nscc_place {
 
 /*
  * Replays a log's bytes from a place on, until the answers' room is full, the log ends or replay stops; call again, with room for at least one answer, until
- * NSCC_ANSWERED is 0. Answers 0, or 2 with nothing changed. An answer is the record's number of refusal in its low 32 bits, and above them the EV of an
- * accepted path choice.
+ * NSCC_ANSWERED is 0. Answers 0, or 2 with nothing changed: a wrong length of place or state, NSCC_STOPPED over 1, more records done than NSCC_AT, or a state
+ * and buffers that don't hold together. An answer is the record's number of refusal in its low 32 bits, and above them the EV of an accepted path choice; the
+ * room behind the answers given is left as it was.
  * The first record sets the context up: the state's words are looked at only between an accepted settings record and a stop. A first record that is refused
  * with 1 leaves the words of a state of zeros.
  */

@@ -43,7 +43,7 @@ pub fn pieces(log: &[u8]) -> Vec<Vec<u8>> {
 /// Some bytes or records changed, left out, doubled or exchanged.
 pub fn damage(rng: &mut Rng, log: &[u8]) -> Vec<u8> {
     let mut pieces = pieces(log);
-    for _ in 0..rng.between(1, 8) {
+    for _ in 0..rng.below(8) {
         let many = pieces.len() as u64;
         if many == 0 {
             break;
@@ -64,26 +64,32 @@ pub fn damage(rng: &mut Rng, log: &[u8]) -> Vec<u8> {
         }
     }
     let mut log = pieces.concat();
-    if rng.one_in(8) {
-        log.truncate(rng.below(log.len() as u64 + 1) as usize);
+    match rng.below(8) {
+        0 => log.truncate(rng.below(log.len() as u64 + 1) as usize),
+        // A cut end.
+        1 => log.resize(log.len() + rng.between(1, 4) as usize, edge(rng) as u8),
+        _ => {}
     }
     log
 }
 
-/// Fields change more often than lengths and kinds, since replay stops at those.
+/// Fields change more often than lengths and kinds, since replay stops at those. The last byte often
+/// has flags.
 fn damage_piece(rng: &mut Rng, piece: &mut Vec<u8>) {
     let many = piece.len() as u64;
     let from = if rng.one_in(12) { 0 } else { 4 };
     if many <= from {
         return;
     }
-    let i = rng.between(from, many - 1) as usize;
+    let any = rng.between(from, many - 1);
+    let i = rng.pick(&[any, any, many - 1]) as usize;
     match rng.below(16) {
         0 => {
             piece.remove(i);
         }
         1 => piece.insert(i, edge(rng) as u8),
-        2..=8 => piece[i] ^= 1 << rng.below(8),
+        2..=5 => piece[i] = rng.below(6) as u8,
+        6..=10 => piece[i] ^= 1 << rng.below(8),
         _ => piece[i] = edge(rng) as u8,
     }
 }

@@ -159,17 +159,18 @@ impl Ours {
         self.compare_memory(&model.memory)
     }
 
-    pub fn compare_words(&self, words: &[u64]) -> Result<(), String> {
+    fn compare_words(&self, words: &[u64]) -> Result<(), String> {
         let Some((i, ours, model)) = difference(self.words.inner(), words) else {
             return Ok(());
         };
-        let name = Word::ALL.get(i);
+        let name = Word::ALL.get(i).map(|word| format!("{word:?}"));
         Err(format!(
-            "word {i} {name:?}: {ours:?}, the model's {model:?}"
+            "word {i}, {}: {ours}, the model's {model}",
+            name.unwrap_or_default()
         ))
     }
 
-    pub fn compare_memory(&self, memory: &Memory) -> Result<(), String> {
+    fn compare_memory(&self, memory: &Memory) -> Result<(), String> {
         same("status", self.status.inner(), &memory.status)?;
         same("size", self.size.inner(), &memory.size)?;
         same("sent", self.sent.inner(), &memory.sent)?;

@@ -8,7 +8,7 @@ use model::bounds::{
     TIME_END,
 };
 use model::lent::{DONE, FLYING, MARKED};
-use model::{number_two, Memory, Name, Rng, State};
+use model::{Memory, Name, Rng, State};
 
 /// A state with a ring of this capacity.
 pub fn sound(rng: &mut Rng, capacity: usize) -> Model {
@@ -27,7 +27,7 @@ pub fn sound(rng: &mut Rng, capacity: usize) -> Model {
     set_ring(rng, &mut state, &mut memory);
     set_in_flight(rng, &mut state);
     set_ev_times(rng, &state, &mut memory);
-    set_name(&mut state, &mut memory);
+    settle(&mut state, &memory);
     let mut model = Model::empty(capacity);
     model.set_state(&state);
     model.memory = memory;
@@ -93,7 +93,7 @@ fn set_times(rng: &mut Rng, state: &mut State) {
     };
 }
 
-/// Fills the ring and counts the totals.
+/// Fills the ring.
 fn set_ring(rng: &mut Rng, state: &mut State, memory: &mut Memory) {
     let capacity = memory.status.len() as u64;
     let many = match rng.below(4) {
@@ -123,11 +123,6 @@ fn set_ring(rng: &mut Rng, state: &mut State, memory: &mut Memory) {
         memory.size[slot] = size as u32;
         memory.sent[slot] = sent(rng, state);
         memory.resent[slot] = rng.pick(&[0, 0, 0, 1, 1, 2]);
-        state.flying += u64::from(status == FLYING);
-        if status == MARKED {
-            state.marked += 1;
-            state.marked_bytes += size;
-        }
     }
 }
 
@@ -188,12 +183,21 @@ fn set_ev_times(rng: &mut Rng, state: &State, memory: &mut Memory) {
     }
 }
 
-/// The name that number 2 asks for.
-fn set_name(state: &mut State, memory: &mut Memory) {
-    for name in [Name::Idle, Name::Pending, Name::Ready, Name::Active] {
-        state.name = name;
-        if number_two(state, &memory.lend()) {
-            return;
-        }
-    }
+/// Makes totals and name those that number 2 asks for.
+pub fn settle(state: &mut State, memory: &Memory) {
+    let with = |status: u8| {
+        let slots = memory.status.iter().zip(&memory.size);
+        slots.filter(move |(&held, _)| held == status)
+    };
+    state.flying = with(FLYING).count() as u64;
+    state.marked = with(MARKED).count() as u64;
+    state.marked_bytes = with(MARKED).map(|(_, &size)| u64::from(size)).sum();
+    let nothing_to_send = state.backlog == 0 && state.marked == 0;
+    let needed = i128::from(state.in_flight) + i128::from(state.settings.mtu);
+    state.name = match state.flying {
+        0 if nothing_to_send => Name::Idle,
+        _ if nothing_to_send => Name::Pending,
+        _ if needed <= i128::from(state.cwnd) => Name::Ready,
+        _ => Name::Active,
+    };
 }

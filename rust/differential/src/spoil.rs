@@ -1,46 +1,111 @@
-//! One number or length of a context spoilt.
+//! Something in a context spoilt.
 
 use crate::numbers::instead_of;
 use crate::sides::Model;
+use crate::sound::settle;
+use model::bounds::{
+    AVG_MAX, BACKLOG_MAX, COUNT_END, EVS, INC_BYTES_MAX, LATER_END, RESENT_MAX, SIZE_MIN,
+    TALLY_MAX, TIME_END,
+};
 use model::lent::{DONE, FLYING, MARKED};
-use model::Rng;
-use nscc::WORDS;
+use model::{Rng, Settings, State};
+use nscc::{Word, IN_FLIGHT_ADDED, WORDS};
 
+/// A word, an element or a length. Often totals and name are then made to agree with it, so that
+/// nothing but the fault itself is wrong.
 pub fn spoil(rng: &mut Rng, model: &mut Model) {
+    let Some(state) = model.state() else {
+        return;
+    };
     match rng.below(8) {
-        0..=3 => spoil_word(rng, model),
-        4..=6 => spoil_element(rng, model),
+        0..=3 => spoil_word(rng, model, &state),
+        4..=6 => spoil_element(rng, model, &state),
         _ => spoil_length(rng, model),
+    }
+    if let Some(mut state) = model.state().filter(|_| rng.one_in(2)) {
+        settle(&mut state, &model.memory);
+        model.set_state(&state);
     }
 }
 
-fn spoil_word(rng: &mut Rng, model: &mut Model) {
-    let i = rng.below(model.words.len() as u64) as usize;
-    if let Some(word) = model.words.get_mut(i) {
-        *word = instead_of(rng, *word);
+fn spoil_word(rng: &mut Rng, model: &mut Model, state: &State) {
+    let i = rng.below(WORDS as u64) as usize;
+    let (least, most) = limits(Word::ALL[i], state);
+    let any = instead_of(rng, model.words[i]);
+    model.words[i] = rng.pick(&[
+        least,
+        least.wrapping_sub(1),
+        most,
+        most.wrapping_add(1),
+        any,
+        any,
+        any,
+    ]);
+}
+
+/// The least and the greatest number that a word may have in this state.
+fn limits(word: Word, state: &State) -> (u64, u64) {
+    let settings = &state.settings;
+    let ranges = Settings::ranges(settings.mtu);
+    if let Some(range) = ranges.get(word as usize) {
+        return (*range.start(), *range.end());
+    }
+    match word {
+        Word::QuickAdaptOff | Word::Fast | Word::Trigger => (0, 1),
+        Word::Held => (0, u64::from(COUNT_END) - 1),
+        Word::BacklogBytes => (0, BACKLOG_MAX),
+        Word::InFlight => (0, settings.max_wnd.wrapping_add(IN_FLIGHT_ADDED as u64)),
+        Word::Cwnd => (settings.mtu, settings.max_wnd),
+        Word::Base => (1, settings.config_base_rtt),
+        Word::Avg => (0, AVG_MAX),
+        Word::IncBytes => (0, INC_BYTES_MAX),
+        Word::Received | Word::Achieved | Word::Ignored | Word::FiCount => (0, TALLY_MAX),
+        Word::BytesToIgnore => (0, settings.max_wnd),
+        Word::QaEnd => (0, LATER_END - 1),
+        Word::LastAdjust | Word::LastDec => (0, state.clock),
+        Word::Clock => (state.last_adjust.max(state.last_dec), TIME_END - 1),
+        Word::Cursor => (0, EVS as u64 - 1),
+        Word::Phase => (0, 3),
+        // PSNs, and totals that have no bound of their own.
+        _ => (0, u32::MAX.into()),
     }
 }
 
 /// An element of the ring or an EV time. Most are in the part of the ring that is used.
-fn spoil_element(rng: &mut Rng, model: &mut Model) {
-    let Some(state) = model.state() else {
-        return;
-    };
+fn spoil_element(rng: &mut Rng, model: &mut Model, state: &State) {
     let memory = &mut model.memory;
     let used = u64::from(state.next.wrapping_sub(state.low)) + 2;
     let near = u64::from(state.low.wrapping_sub(1)) + rng.below(used);
     let any = rng.next_u64();
-    let at = rng.pick(&[near, near, near, any]);
+    let at = rng.pick(&[near, near, state.low.into(), any]);
+    let strange = |rng: &mut Rng, number: u64, edges: [u64; 4]| {
+        let any = instead_of(rng, number);
+        let edge = rng.pick(&edges);
+        rng.pick(&[any, edge])
+    };
+    let (flying, marked, done) = (FLYING.into(), MARKED.into(), DONE.into());
+    let (most, clock) = (state.settings.mtu, state.clock);
+    // Something may be spoilt already.
+    let (over, later) = (most.wrapping_add(1), clock.wrapping_add(1));
+    let least = u64::from(SIZE_MIN);
+    let again = u64::from(RESENT_MAX);
+    let late = LATER_END;
     match rng.below(6) {
-        0 => change(&mut memory.status, at, |n| instead_of(rng, n.into()) as u8),
-        1 => {
-            let status = rng.pick(&[0, FLYING, MARKED, DONE, 4]);
-            change(&mut memory.status, at, |_| status);
-        }
-        2 => change(&mut memory.size, at, |n| instead_of(rng, n.into()) as u32),
-        3 => change(&mut memory.sent, at, |n| instead_of(rng, n)),
-        4 => change(&mut memory.resent, at, |n| instead_of(rng, n.into()) as u8),
-        _ => change(&mut memory.ev_times, at, |n| instead_of(rng, n)),
+        0 | 1 => change(&mut memory.status, at, |n| {
+            strange(rng, n.into(), [flying, marked, done, done + 1]) as u8
+        }),
+        2 => change(&mut memory.size, at, |n| {
+            strange(rng, n.into(), [least - 1, least, most, over]) as u32
+        }),
+        3 => change(&mut memory.sent, at, |n| {
+            strange(rng, n, [0, clock, later, TIME_END])
+        }),
+        4 => change(&mut memory.resent, at, |n| {
+            strange(rng, n.into(), [0, again, again + 1, 255]) as u8
+        }),
+        _ => change(&mut memory.ev_times, any, |n| {
+            strange(rng, n, [0, late - 1, late, u64::MAX])
+        }),
     }
 }
 
@@ -55,23 +120,28 @@ fn change<T: Copy>(numbers: &mut [T], at: u64, with: impl FnOnce(T) -> T) {
 pub fn spoil_length(rng: &mut Rng, model: &mut Model) {
     let memory = &mut model.memory;
     let capacity = memory.status.len();
-    let length = rng.pick(&[
+    let lengths = [
         0,
         1,
         capacity / 2,
         capacity.saturating_sub(1),
         capacity + 1,
         2 * capacity,
-    ]);
-    let evs = rng.pick(&[0, 1, 255, 257, 512]);
-    let words = rng.pick(&[0, 1, WORDS - 1, WORDS + 1, 2 * WORDS]);
+    ];
+    let length = rng.pick(&lengths);
     match rng.below(7) {
         0 => memory.status.resize(length, 0),
         1 => memory.size.resize(length, 0),
         2 => memory.sent.resize(length, 0),
         3 => memory.resent.resize(length, 0),
-        4 => memory.ev_times.resize(evs, 0),
-        5 => model.words.resize(words, 0),
+        4 => {
+            let length = rng.pick(&[0, 1, EVS - 1, EVS + 1, 2 * EVS]);
+            memory.ev_times.resize(length, 0);
+        }
+        5 => {
+            let length = rng.pick(&[0, 1, WORDS - 1, WORDS + 1, 2 * WORDS]);
+            model.words.resize(length, 0);
+        }
         _ => {
             let length = rng.pick(&[0, 1, 32, 63, 65, 96, 1000, 4095, 8192]);
             memory.status.resize(length, 0);

@@ -97,10 +97,9 @@ fn compare(log: &[u8], named: bool) -> Result<String, String> {
     if output.stdout == expected.as_bytes() {
         return Ok(expected);
     }
-    Err(difference(
-        &String::from_utf8_lossy(&output.stdout),
-        &expected,
-    ))
+    let difference = difference(&String::from_utf8_lossy(&output.stdout), &expected);
+    let said = String::from_utf8_lossy(&output.stderr);
+    Err(format!("{difference} {}", said.trim_end()))
 }
 
 fn from_file(mut program: Command, log: &[u8]) -> io::Result<Output> {

@@ -1,0 +1,78 @@
+//! The names and numbers of the wrapper are those of `include/nscc.h`.
+
+use nscc::{PlaceWord, Refusal, Word, EVS, IN_FLIGHT_ADDED, PLACE, SETTINGS, WORDS};
+use std::fmt::Debug;
+
+const HEADER: &str = include_str!("../../../include/nscc.h");
+
+/// The names of an enum in their order, without `NSCC_`, and their numbers where the header has any.
+fn names(of: &str) -> Vec<(String, Option<u32>)> {
+    let start = HEADER.find(&format!("enum {of} {{")).expect("the enum");
+    let body = &HEADER[start..][..HEADER[start..].find("};").expect("its end")];
+    let words = body.lines().map(str::trim);
+    let names = words.filter_map(|line| line.strip_prefix("NSCC_"));
+    let named = names.map(|line| {
+        let end = line.find([',', ' ', '/']).unwrap_or(line.len());
+        let number = line[end..].strip_prefix(" = ").map(|rest| {
+            let digits: String = rest.chars().take_while(char::is_ascii_digit).collect();
+            digits.parse().ok()
+        });
+        (line[..end].to_string(), number.flatten())
+    });
+    named.collect()
+}
+
+/// `QaEnd` is QA_END, but MaxWnd is MAXWND: so letters alone.
+fn letters(name: impl Debug) -> String {
+    let name = format!("{name:?}").to_uppercase();
+    name.chars().filter(char::is_ascii_alphabetic).collect()
+}
+
+fn same_order(header: &[(String, Option<u32>)], ours: &[impl Debug]) {
+    let header: Vec<String> = header.iter().map(|(name, _)| letters(name)).collect();
+    let ours: Vec<String> = ours.iter().map(letters).collect();
+    assert_eq!(header, ours);
+}
+
+#[test]
+fn words() {
+    let mut header = names("nscc_setting");
+    assert_eq!(header.pop().expect("the last").0, "SETTINGS");
+    assert_eq!(header.len(), SETTINGS);
+    header.extend(names("nscc_word"));
+    assert_eq!(header.pop().expect("the last").0, "WORDS");
+    assert_eq!(header.len(), WORDS);
+    same_order(&header, &Word::ALL);
+}
+
+#[test]
+fn place() {
+    let mut header = names("nscc_place");
+    assert_eq!(header.pop().expect("the last").0, "PLACE");
+    assert_eq!(header.len(), PLACE);
+    let ours = [
+        PlaceWord::At,
+        PlaceWord::Done,
+        PlaceWord::Stopped,
+        PlaceWord::Answered,
+    ];
+    same_order(&header, &ours);
+}
+
+#[test]
+fn refusals() {
+    let header = names("nscc_refusal");
+    assert_eq!(header.len(), 13);
+    assert_eq!(header[0], ("ACCEPTED".to_string(), Some(0)));
+    for (name, number) in &header[1..] {
+        let refusal = number.and_then(Refusal::of).expect("a refusal");
+        assert_eq!(letters(refusal), letters(name));
+    }
+}
+
+#[test]
+fn numbers() {
+    assert!(HEADER.contains(&format!("#define NSCC_EVS {EVS}\n")));
+    let added = format!("#define NSCC_IN_FLIGHT_ADDED {IN_FLIGHT_ADDED}\n");
+    assert!(HEADER.contains(&added));
+}
