@@ -26,7 +26,7 @@ fuzz: target/staticlib/libexports.a target/bin/nscc
 
 # What the library costs beside the model, as a table. On a processor other than x86-64 the same code is compiled for that processor first.
 bench: target/staticlib/libexports.a
-	@tools/native-archive target/native >target/native.log
+	@tools/native-archive target/native >target/native.log 2>&1 || { cat target/native.log >&2; exit 1; }
 	@NSCC_ARCHIVE_DIR=$(CURDIR)/target/native $(RUN) -p bench
 
 target/staticlib/libexports.a:
