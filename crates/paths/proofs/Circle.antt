@@ -3,14 +3,14 @@
 use mathlib.Core.Path.{_≡_, sym, ap, _∙_}
 use mathlib.Core.List.{List, _++_}
 use mathlib.Core.Logic.{by-cases}
-use Prim.Native.Nat.{ℕ, _+_, _-_, _*_, _%_, _≤_, _<_}
+use Prim.Native.Nat.{ℕ, suc, _+_, _-_, _*_, _%_, _≤_, _<_}
 use native.Mathlib.Nat.{sub-zero, le-of-eq, add-mod-right, mod-eq-of-lt}
 use native.Mathlib.Decide.{decLt}
 use native.Mathlib.Omega.{arith}
 use lib.ListN.{length, take, drop, getD, length-append, length-drop, take-append-drop, List·getD-append}
-use lib.Seq.{take-all, length-take-le, getD-take, getD-drop, getD-append-add}
+use lib.Seq.{drop-cons, take-all, length-take-le, getD-take, getD-drop, getD-append-add}
 use Rattle.paths.specs.Path.{avoided, firstFree, from, steps, landed, choice}
-use Rattle.paths.proofs.Walk.{avoided-append, stays, goes, steps-lt}
+use Rattle.paths.proofs.Walk.{stops, avoided-append, stays, goes, steps-lt}
 
 -- a number below twice n, modulo n, past the end
 pub once-round : (x n : ℕ) → n ≤ x → x < n + n → x - n ≡ x % n
@@ -51,14 +51,17 @@ module _ (cursor : ℕ) (evs : List ℕ) (inside : cursor < length evs) where
     pub half-or-less : 2 * avoided time evs ≤ length evs → firstFree time (from cursor evs) ≡ steps time (from cursor evs)
     half-or-less few = goes time (from cursor evs) (omega (arith, length-from, avoided-from time))
 
-    -- what the steps over the two parts that are lent make of the choice
-    module _ (s : ℕ) (e : s ≡ steps time (take (length evs - cursor) (drop cursor evs) ++ take (cursor - 0) evs)) where
-      steps-from : s ≡ steps time (from cursor evs)
-      steps-from = e ∙ rw (take-all (length evs - cursor) (drop cursor evs) (le-of-eq (length-drop cursor evs)), sub-zero)
+    -- where the EV at the cursor is free, no EV is passed
+    pub cursor-free : getD evs cursor 0 ≤ time → 0 ≡ steps time (from cursor evs)
+    cursor-free free =
+        let first : firstFree time (from cursor evs) ≡ 0 = rw (drop-cons evs cursor 0) (stops time (getD evs cursor 0) (drop (suc cursor) evs ++ take cursor evs) free) in
+        by-cases (decLt (length evs) (2 * avoided time evs)) over-half (λ few. omega (arith, half-or-less (omega arith)))
 
-      pub lands-inside : s < length evs
-      lands-inside = omega (arith, steps-from, steps-inside)
+    -- the steps over the two parts that are lent
+    pub steps-parts : (s : ℕ) → s ≡ steps time (take (length evs - cursor) (drop cursor evs) ++ take (cursor - 0) evs) → s ≡ steps time (from cursor evs)
+    steps-parts s e = e ∙ rw (take-all (length evs - cursor) (drop cursor evs) (le-of-eq (length-drop cursor evs)), sub-zero)
 
-      pub lands-on : landed cursor s (length evs) ≡ choice time cursor evs
-      unfolding choice
-      lands-on = ap (λ (x : ℕ). landed cursor x (length evs)) steps-from
+    -- what so many steps make of the choice
+    pub lands-on : (s : ℕ) → s ≡ steps time (from cursor evs) → landed cursor s (length evs) ≡ choice time cursor evs
+    unfolding choice
+    lands-on s e = ap (λ (x : ℕ). landed cursor x (length evs)) e

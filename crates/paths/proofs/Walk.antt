@@ -23,7 +23,7 @@ module _ (time : ℕ) where
   unfolding firstFree
   passes until evs h = sym (lt-yes time until (suc (firstFree time evs)) (suc (firstFree time evs)) 0 h refl)
 
-  stops : (until : ℕ) (evs : List ℕ) → until ≤ time → firstFree time (until ∷ evs) ≡ 0
+  pub stops : (until : ℕ) (evs : List ℕ) → until ≤ time → firstFree time (until ∷ evs) ≡ 0
   unfolding firstFree
   stops until evs h = sym (lt-no time until 0 (suc (firstFree time evs)) 0 h refl)
 

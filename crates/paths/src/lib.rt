@@ -100,6 +100,10 @@ pub fn choose(evs: &[u64], cursor: usize, time: u64) -> Choice
     requires { ⌜ cursor < length (now evs) ⌝ }
     ensures { λ r. ⌜ r ≡ choice time cursor (now (evs .entry)) ⌝ }
 {
+    // A cursor that is not avoided is taken whatever the count says: more than half avoided takes it too.
+    if evs[cursor] <= time {
+        return land(cursor, 0, evs.len());
+    }
     let s = steps(&evs[cursor..], &evs[0..cursor], time);
     land(cursor, s, evs.len())
 }
