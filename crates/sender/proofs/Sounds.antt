@@ -58,6 +58,10 @@ phase-one p q e = sym (name-back p) ∙ ap nameOf e ∙ name-back q
 
 -- ---- the EV times
 
+and-true : (b : Bool) → (b && true) ≡ b
+and-true true = refl
+and-true false = refl
+
 pub times-none : timesOk [] ≡ true
 unfolding timesOk
 times-none = refl
@@ -67,16 +71,16 @@ pub times-here : (ts : List ℕ) (k : ℕ) → k < length ts → timesOk (drop k
 unfolding timesOk
 times-here ts k h = rw (add-one k, drop-cons ts k 0 h)
 
--- a time too late is found ..
-pub times-late : (ts : List ℕ) (k : ℕ) → timesOk ts ≡ timesOk (drop k ts) → k < length ts → laterEnd ≤ getD ts k 0 → timesOk ts ≡ false
-times-late ts k e h late = e ∙ times-here ts k h ∙ ap (λ (b : Bool). b && timesOk (drop (k + 1) ts)) (le-ltb (getD ts k 0) laterEnd late)
+-- so far so good, and the times from k on: one more is looked at
+pub times-more : (ts : List ℕ) (k : ℕ) (ok : Bool) → timesOk ts ≡ (ok && timesOk (drop k ts)) → k < length ts
+    → timesOk ts ≡ ((ok && ltb (getD ts k 0) laterEnd) && timesOk (drop (k + 1) ts))
+times-more ts k true e h = e ∙ times-here ts k h
+times-more ts k false e h = e
 
--- .. and one that is not leaves those after it
-pub times-more : (ts : List ℕ) (k : ℕ) → timesOk ts ≡ timesOk (drop k ts) → k < length ts → getD ts k 0 < laterEnd → timesOk ts ≡ timesOk (drop (k + 1) ts)
-times-more ts k e h early = e ∙ times-here ts k h ∙ ap (λ (b : Bool). b && timesOk (drop (k + 1) ts)) (lt-ltb (getD ts k 0) laterEnd early)
-
-pub times-end : (ts : List ℕ) (k : ℕ) → timesOk ts ≡ timesOk (drop k ts) → length ts ≤ k → timesOk ts ≡ true
-times-end ts k e h = e ∙ ap timesOk (drop-of-length-le ts h) ∙ times-none
+pub times-end : (ts : List ℕ) (k : ℕ) (ok : Bool) → timesOk ts ≡ (ok && timesOk (drop k ts)) → length ts ≤ k → ok ≡ timesOk ts
+times-end ts k ok e h =
+    let all : timesOk (drop k ts) ≡ true = ap timesOk (drop-of-length-le ts h) ∙ times-none in
+    sym (e ∙ ap (λ (b : Bool). ok && b) all ∙ and-true ok)
 
 -- one time overwritten by one in its bound
 times-set : (ts : List ℕ) (k t : ℕ) → t < laterEnd → timesOk ts ≡ true → timesOk (set ts k t) ≡ true

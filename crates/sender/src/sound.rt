@@ -8,18 +8,17 @@ ghost use Rattle.ledger.specs.Ring.{ring};
 ghost use Rattle.sender.specs.World.{world};
 ghost use Rattle.sender.specs.Sound.{timesOk, sound};
 
-// Whether no EV time is 2^49 or more.
+// Whether no EV time is 2^49 or more. Every time is looked at: without a way out of the loop the compiler takes several at once.
 fn times_ok(evs: &[u64]) -> bool
     ensures { λ r. ⌜ r ≡ timesOk (now (evs .entry)) ⌝ }
 {
+    let mut ok = true;
     let mut k = 0;
     while k < evs.len() {
-        if window::LATER_END <= evs[k] {
-            return false;
-        }
+        ok = ok & (evs[k] < window::LATER_END);
         k += 1;
     }
-    true
+    ok
 }
 
 // Whether state and buffers hold together.

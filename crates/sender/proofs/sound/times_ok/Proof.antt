@@ -1,32 +1,28 @@
--- `times_ok` walks the EV times. The invariant: the times are in their bounds exactly if those from k on are.
-use mathlib.Core.Path.{_≡_, refl, sym}
+-- `times_ok` walks the EV times. The invariant: the times are in their bounds exactly if those before k were and those from k on are.
+use mathlib.Core.Bool.{_&&_}
+use mathlib.Core.Path.{_≡_, refl}
 use Prim.Native.Nat.{_≤_, _-_}
 use native.Mathlib.Omega.{arith}
 use lib.ListN.{length, drop}
 use Rattle.sender.specs.Sound.{timesOk}
-use Rattle.sender.proofs.Sounds.{times-late, times-more, times-end}
+use Rattle.sender.proofs.Sounds.{times-more, times-end}
 use Rattle.sender.proofs.sound.times_ok.Statement.{statement}
 use Rattle.sender.proofs.sound.times_ok.Tie as tie
 
 abbrev Inv-loop : tie.InvT-loop
-Inv-loop evs k₀ k = (k ≤ length evs) × (timesOk evs ≡ timesOk (drop k evs))
+Inv-loop evs ok₀ k₀ ok k = (k ≤ length evs) × (timesOk evs ≡ (ok && timesOk (drop k evs)))
 
 abbrev μ-loop : tie.MeasureT-loop
-μ-loop evs k₀ k = length evs - k
+μ-loop evs ok₀ k₀ ok k = length evs - k
 
 loop-holds : tie.Need-loop-holds Inv-loop μ-loop
 loop-holds c = (omega arith, refl)
 
-mul-if1 : tie.Need-mul-if1 Inv-loop μ-loop
-mul-if1 c = omega arith
+mul-ok : tie.Need-mul-ok Inv-loop μ-loop
+mul-ok c = omega arith
 
-shared-slice-read-if1 : tie.Need-shared-slice-read-if1 Inv-loop μ-loop
-shared-slice-read-if1 c = omega arith
-
-returns : tie.Need-returns Inv-loop μ-loop
-returns c =
-    let l = c .before .before .before in
-    sym (times-late (l .before .args .evs .now) (l .loop .k) (l .loop .inv .1) (omega arith) (omega arith))
+shared-slice-read-ok : tie.Need-shared-slice-read-ok Inv-loop μ-loop
+shared-slice-read-ok c = omega arith
 
 add-k : tie.Need-add-k Inv-loop μ-loop
 add-k c = omega arith
@@ -36,13 +32,13 @@ loop-less c = omega arith
 
 loop-again : tie.Need-loop-again Inv-loop μ-loop
 loop-again c =
-    let l = c .before .before .before in
-    (omega arith, times-more (l .before .args .evs .now) (l .loop .k) (l .loop .inv .1) (omega arith) (omega arith))
+    let l = c .before .before in
+    (omega arith, times-more (l .before .args .evs .now) (l .loop .k) (l .loop .ok) (l .loop .inv .1) (omega arith))
 
-returns-2 : tie.Need-returns-2 Inv-loop μ-loop
-returns-2 c =
+returns : tie.Need-returns Inv-loop μ-loop
+returns c =
     let l = c .before in
-    sym (times-end (l .before .args .evs .now) (l .loop .k) (l .loop .inv .1) (omega arith))
+    times-end (l .before .args .evs .now) (l .loop .k) (l .loop .ok) (l .loop .inv .1) (omega arith)
 
 pub times-ok-spec : {M : Type 1} → statement M
 times-ok-spec =
@@ -51,10 +47,9 @@ times-ok-spec =
     Inv-loop
     μ-loop
     loop-holds
-    mul-if1
-    shared-slice-read-if1
-    returns
+    mul-ok
+    shared-slice-read-ok
     add-k
     loop-less
     loop-again
-    returns-2)
+    returns)
