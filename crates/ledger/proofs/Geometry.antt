@@ -5,13 +5,14 @@ use mathlib.Core.Path.{_≡_, refl, sym, ap, _∙_, subst}
 use mathlib.Core.Bool.{Bool, true, false, _||_}
 use mathlib.Core.Logic.{_⊎_, inl, inr, ⊎-elim, by-cases}
 use mathlib.Core.List.{List, [], _∷_, _++_}
-use Prim.Native.Nat.{ℕ, suc, _+_, _-_, _%_, _≤_, _<_}
+use Prim.Native.Nat.{ℕ, suc, _+_, _-_, _^_, _%_, _≤_, _<_}
 use native.Mathlib.Nat.{mod-eq-of-lt, mod-eq-sub-mod, mod-lt, mod-add-mod, mod-mod-of-dvd, dvd-of-mod-eq-zero, add-mod-right, add-zero, add-assoc}
 use native.Mathlib.Decide.{decLe}
 use native.Mathlib.Omega.{arith}
 use lib.ListN.{length, getD, set, length-set, length-append, List·getD-append, List·getD-eq-default}
 use lib.Seq.{ext-getD, getD-set-same, getD-set-other, set-getD, getD-append-seam}
 use lib.Dec.{eqb}
+use lib.Bits.{bitAnd, and-mask}
 use borrow.Author.Tests.{eqb-true}
 use Rattle.serial.specs.Wrap.{minus}
 use Rattle.serial.specs.Psn.{psns, plus}
@@ -25,14 +26,15 @@ use Rattle.ledger.proofs.Walks.{length-tabulate, getD-tabulate, tabulat
 
 -- ---- capacities
 
--- what the laws use of a capacity: its bounds, and that it divides 2^32, so that PSNs that wrap keep their places
+-- what the laws use of a capacity: its bounds, that it divides 2^32, so that PSNs that wrap keep their places, and that a remainder is a mask
 pub record Cap (n : ℕ) : Type 0 where
   pub least : 64 ≤ n
   pub most : n ≤ 4096
   pub divides : psns % n ≡ 0
+  pub masks : (p : ℕ) → bitAnd p (n - 1) ≡ p % n
 
-cap-is : (m : ℕ) → 64 ≤ m → m ≤ 4096 → psns % m ≡ 0 → (n : ℕ) → eqb n m ≡ true → Cap n
-cap-is m a b d n e = rw (eqb-true n m e) (record { least = a; most = b; divides = d })
+cap-is : (j : ℕ) → 64 ≤ 2 ^ j → 2 ^ j ≤ 4096 → psns % 2 ^ j ≡ 0 → (n : ℕ) → eqb n (2 ^ j) ≡ true → Cap n
+cap-is j a b d n e = rw (eqb-true n (2 ^ j) e) (record { least = a; most = b; divides = d; masks = λ p. and-mask p j })
 
 -- either part of a test holds where the whole does
 either : {n : ℕ} (a b : Bool) → (a ≡ true → Cap n) → (b ≡ true → Cap n) → (a || b) ≡ true → Cap n
@@ -47,12 +49,12 @@ cap-facts n =
     (either _ _
     (either _ _
     (either _ _
-    (either _ _ (cap-is 64 (omega arith) (omega arith) refl n) (cap-is 128 (omega arith) (omega arith) refl n))
-    (cap-is 256 (omega arith) (omega arith) refl n))
-    (cap-is 512 (omega arith) (omega arith) refl n))
-    (cap-is 1024 (omega arith) (omega arith) refl n))
-    (cap-is 2048 (omega arith) (omega arith) refl n))
-    (cap-is 4096 (omega arith) (omega arith) refl n)
+    (either _ _ (cap-is 6 (omega arith) (omega arith) refl n) (cap-is 7 (omega arith) (omega arith) refl n))
+    (cap-is 8 (omega arith) (omega arith) refl n))
+    (cap-is 9 (omega arith) (omega arith) refl n))
+    (cap-is 10 (omega arith) (omega arith) refl n))
+    (cap-is 11 (omega arith) (omega arith) refl n))
+    (cap-is 12 (omega arith) (omega arith) refl n)
 
 -- ---- places
 

@@ -52,15 +52,14 @@ pub now-done : (x : Packet) → isDone (withStatus doneStatus x) ≡ true
 unfolding isDone
 now-done x = refl
 
--- covering changes the status alone
-pub cover-status : (hit : Bool) (x : Packet) (s : ℕ) → s ≡ ifSo (hit && (eqb (x .status) 1 || eqb (x .status) 2)) 3 (x .status)
-    → withStatus s x ≡ coverOne hit x
-unfolding coverOne isOut isFlying isMarked ifSo
-cover-status hit x s e = rw e (go (hit && (eqb (x .status) 1 || eqb (x .status) 2)))
-  where
-    go : (b : Bool) → withStatus (ifSo b 3 (x .status)) x ≡ ifSo b (withStatus 3 x) x
-    go true = refl
-    go false = refl
+-- a packet that an ACK does not deliver, be it not out or not covered, stays as it is
+spared-in : (o : Bool) → (o && true) ≡ false → o ≡ false
+spared-in true e = e
+spared-in false e = refl
+
+pub spared : (hit : Bool) (x : Packet) → (isOut x && hit) ≡ false → coverOne hit x ≡ x
+spared true x e = cover-stays true x (spared-in (isOut x) e)
+spared false x e = cover-no x
 
 -- covered by one ACK and then by another is covered by either
 pub cover-again : (a b : Bool) (x : Packet) → coverOne b (coverOne a x) ≡ coverOne (a || b) x
@@ -188,6 +187,12 @@ module _ (adds : Packet → ℕ) (z : OfOut adds) where
   pub done-adds : (x : Packet) → x .status ≡ doneStatus → adds x ≡ 0
   unfolding isDone
   done-adds x e = z x (done-in x (eq-eqb (x .status) doneStatus e))
+
+  -- nothing of a packet that is not delivered leaves
+  pub spared-adds : (hit : Bool) (x : Packet) → (isOut x && hit) ≡ false → 0 ≡ ifSo hit (adds x) 0
+  unfolding ifSo
+  spared-adds true x e = sym (z x (spared-in (isOut x) e))
+  spared-adds false x e = refl
 
   -- what a covered packet adds leaves
   cover-adds : (hit : Bool) (x : Packet) → adds (coverOne hit x) + ifSo hit (adds x) 0 ≡ adds x

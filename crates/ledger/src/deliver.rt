@@ -13,36 +13,24 @@ ghost use mathlib.Core.Path.{_≡_};
 ghost use mathlib.Core.Bool.{_&&_, _||_};
 ghost use Prim.Native.Nat.{_+_, _-_, _≤_};
 ghost use lib.Dec.{eqb};
-ghost use Rattle.decide.specs.Branch.{ifSo};
 ghost use Rattle.decide.specs.Rows.{firstOf};
-ghost use Rattle.ledger.specs.Packets.{flyingStatus, markedStatus, doneStatus};
+ghost use Rattle.serial.specs.Psn.{covered};
+ghost use Rattle.ledger.specs.Packets.{flyingStatus, markedStatus};
 ghost use Rattle.ledger.specs.Ring.{ring, ledger};
 ghost use Rattle.ledger.specs.Coherent.{Coheres};
 ghost use Rattle.ledger.specs.Steps.{heldOf, ackedOf};
 ghost use Rattle.ledger.specs.Rows.{ackRows};
 ghost use Rattle.ledger.specs.Delivery.{Laid, Cover, Covered, Retired};
 
-// The status of a packet, covered or not: flying or marked becomes done.
-fn cover_one(hit: bool, status: u8) -> u8
-    ensures { λ r. ⌜ r ≡ ifSo (hit && (eqb status flyingStatus || eqb status markedStatus)) doneStatus status ⌝ }
+// Whether an ACK delivers a packet: "Covered flying or marked packets become done". The status is asked first: most slots of a walk are done, and
+// coverage need not be worked out for them.
+fn delivers(status: u8, cum: u32, map: u64, psn: u32) -> bool
+    ensures { λ r. ⌜ r ≡ ((eqb status flyingStatus || eqb status markedStatus) && covered cum map psn) ⌝ }
 {
-    if hit & ((status == crate::FLYING) | (status == crate::MARKED)) {
-        return crate::DONE;
+    if (status == crate::FLYING) | (status == crate::MARKED) {
+        return serial::covers(cum, map, psn);
     }
-    status
-}
-
-// 1 or 0; some bytes or none.
-fn one_if(b: bool) -> u32
-    ensures { λ r. ⌜ r ≡ ifSo b 1 0 ⌝ }
-{
-    if b { 1 } else { 0 }
-}
-
-fn size_if(b: bool, size: u32) -> u64
-    ensures { λ r. ⌜ r ≡ ifSo b size 0 ⌝ }
-{
-    if b { size as u64 } else { 0 }
+    false
 }
 
 // The first `reach` packets from low on are looked at; the ACK covers none beyond. What is covered leaves the totals.
@@ -67,13 +55,17 @@ fn cover<'a, 'b>(
     let mut i = place(cap, flow.low);
     let mut k: u32 = 0;
     while k < reach {
-        let hit = serial::covers(cum, map, serial::psn_plus(flow.low, k));
         let s = status[i];
+        if delivers(s, cum, map, serial::psn_plus(flow.low, k)) {
+            if s == crate::MARKED {
+                marked -= 1;
+                marked_bytes -= size[i] as u64;
+            } else {
+                flying -= 1;
+            }
+            status[i] = crate::DONE;
+        }
         k += 1;
-        flying -= one_if(hit & (s == crate::FLYING));
-        marked -= one_if(hit & (s == crate::MARKED));
-        marked_bytes -= size_if(hit & (s == crate::MARKED), size[i]);
-        status[i] = cover_one(hit, s);
         i = after(cap, i);
     }
     Totals {

@@ -2,12 +2,21 @@
 use crate::Flow;
 use crate::Packet;
 ghost use mathlib.Core.Path.{_≡_};
+ghost use mathlib.Core.Bool.{true};
 ghost use Prim.Native.Nat.{_%_, _+_, _<_};
 ghost use Rattle.ledger.specs.Ring.{ring, capOf, packetAt, putAt, longOf, packetOf};
-ghost use Rattle.ledger.specs.Coherent.{Even};
+ghost use Rattle.ledger.specs.Coherent.{isCapacity, Even};
 
-// The slot of a PSN.
+// The slot of a PSN: "capacity a power of two", so that the remainder is a mask.
 pub(crate) fn place(cap: usize, psn: u32) -> usize
+    requires { ⌜ isCapacity cap ≡ true ⌝ }
+    ensures { λ r. ⌜ (r ≡ psn % cap) × (r < cap) ⌝ }
+{
+    psn as usize & (cap - 1)
+}
+
+// The same where the caller does not say that the length is a capacity.
+fn place_in_any(cap: usize, psn: u32) -> usize
     requires { ⌜ 0 < cap ⌝ }
     ensures { λ r. ⌜ (r ≡ psn % cap) × (r < cap) ⌝ }
 {
@@ -87,7 +96,7 @@ pub fn find<'a>(
     let low = flow.low;
     let offset = serial::psn_minus(psn, low);
     if offset < long(flow) {
-        let i = place(status.len(), psn);
+        let i = place_in_any(status.len(), psn);
         return read(status, size, sent, resent, i);
     }
     Packet {

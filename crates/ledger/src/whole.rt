@@ -157,6 +157,7 @@ fn head_ok<'a>(
     n: u32,
 ) -> bool
     requires { ⌜ Even (ring (now status) (now size) (now sent) (now resent)) ⌝ }
+    requires { ⌜ isCapacity (capOf (ring (now status) (now size) (now sent) (now resent))) ≡ true ⌝ }
     ensures { λ r. ⌜ r ≡ headOk (ring (now (status .entry)) (now (size .entry)) (now (sent .entry)) (now (resent .entry))) low n ⌝ }
 {
     let x = read(status, size, sent, resent, place(status.len(), low));

@@ -1,4 +1,6 @@
 -- `deliver::cover` meets its contract: the loop's invariant is `Inv` of proofs/Covering, whose laws give its start, a turn and what it leaves.
+use mathlib.Core.Path.{_∙_}
+use mathlib.Core.Logic.{⊎-elim}
 use Prim.Native.Nat.{_-_, _<_}
 use native.Mathlib.Omega.{arith}
 use borrow.Author.Needs.{needs}
@@ -21,84 +23,92 @@ low-fits : (s : tie.Start Inv-loop μ-loop) → s .args .flow .low < psns
 low-fits s = omega arith
 
 place-requires : tie.Need-place-requires Inv-loop μ-loop
-place-requires c κs = omega (arith, covering.caps (c .before .before .before .before .pre) .least)
+place-requires c κs = c .before .before .before .before .pre .laid-out .cap
 
 loop-holds : tie.Need-loop-holds Inv-loop μ-loop
 loop-holds c =
     let s = c .before .before .before .before .before in
     covering.starts (s .pre) (low-fits s) (c .place .ensures .0)
 
+slice-read-s : tie.Need-slice-read-s Inv-loop μ-loop
+slice-read-s c =
+    let l = c .before .before in
+    omega (arith, covering.status-long (l .loop .inv), covering.slot-lt (l .loop .inv))
+
 psn-plus-requires : tie.Need-psn-plus-requires Inv-loop μ-loop
 psn-plus-requires c κs = tt
 
-covers-requires : tie.Need-covers-requires Inv-loop μ-loop
-covers-requires c κs = tt
+delivers-requires : tie.Need-delivers-requires Inv-loop μ-loop
+delivers-requires c κs = tt
 
-slice-read-s : tie.Need-slice-read-s Inv-loop μ-loop
-slice-read-s c =
-    let l = c .before .before .before .before in
+-- from the place after `delivers` back to the loop's test
+abbrev turn : tie.After-delivers Inv-loop μ-loop → tie.In-loop Inv-loop μ-loop
+turn d = d .before .before .before
+
+sub-marked : tie.Need-sub-marked Inv-loop μ-loop
+sub-marked c =
+    let d = c .before .before in
+    covering.one-marked (turn d .before .loop .inv) (turn d .loop-test .taken) (d .before .psn-plus .ensures) (d .delivers .ensures)
+    (c .before .if1 .taken) (c .if2 .taken) .0
+
+mul-marked-bytes : tie.Need-mul-marked-bytes Inv-loop μ-loop
+mul-marked-bytes c =
+    let l = turn (c .before .before) .before in
+    omega (arith, covering.slot-lt (l .loop .inv), covering.caps (l .loop .inv .pre) .most)
+
+shared-slice-read-marked-bytes : tie.Need-shared-slice-read-marked-bytes Inv-loop μ-loop
+shared-slice-read-marked-bytes c =
+    let l = turn (c .before .before .before) .before in
+    omega (arith, covering.slot-lt (l .loop .inv), l .loop .inv .pre .laid-out .size)
+
+cast-marked-bytes : tie.Need-cast-marked-bytes Inv-loop μ-loop
+cast-marked-bytes c = omega (arith, c .shared-slice-known4 .given (turn (c .before .before .before) .before .loop .i))
+
+sub-marked-bytes : tie.Need-sub-marked-bytes Inv-loop μ-loop
+sub-marked-bytes c =
+    let d = c .before .before .before in
+    covering.its-bytes (turn d .before .loop .inv) (turn d .loop-test .taken) (d .before .psn-plus .ensures) (d .delivers .ensures)
+    (c .before .before .if1 .taken) (c .before .if2 .taken) .0
+
+sub-flying : tie.Need-sub-flying Inv-loop μ-loop
+sub-flying c =
+    let d = c .before .before in
+    covering.one-flying (turn d .before .loop .inv) (turn d .loop-test .taken) (d .before .psn-plus .ensures) (d .delivers .ensures)
+    (c .before .if1 .taken) (c .if2 .left) .0
+
+slice-write-status : tie.Need-slice-write-status Inv-loop μ-loop
+slice-write-status c =
+    let l = turn (c .before .before) .before in
     omega (arith, covering.status-long (l .loop .inv), covering.slot-lt (l .loop .inv))
 
 add-k : tie.Need-add-k Inv-loop μ-loop
 add-k c = omega arith
 
-one-if-requires : tie.Need-one-if-requires Inv-loop μ-loop
-one-if-requires c κs = tt
-
-sub-flying : tie.Need-sub-flying Inv-loop μ-loop
-sub-flying c =
-    let d = c .before .before in
-    covering.flying-left (d .before .before .before .loop .inv) (d .before .before .loop-test .taken) (d .before .psn-plus .ensures) (d .covers .ensures)
-    (c .one-if .ensures) .0
-
-one-if-requires-2 : tie.Need-one-if-requires-2 Inv-loop μ-loop
-one-if-requires-2 c κs = tt
-
-sub-marked : tie.Need-sub-marked Inv-loop μ-loop
-sub-marked c =
-    let d = c .before .before .before in
-    covering.marked-left (d .before .before .before .loop .inv) (d .before .before .loop-test .taken) (d .before .psn-plus .ensures) (d .covers .ensures)
-    (c .one-if2 .ensures) .0
-
-mul-size-if : tie.Need-mul-size-if Inv-loop μ-loop
-mul-size-if c =
-    let l = c .before .before .before .before .before .before in
-    omega (arith, covering.slot-lt (l .loop .inv), covering.caps (l .loop .inv .pre) .most)
-
-shared-slice-read-size-if : tie.Need-shared-slice-read-size-if Inv-loop μ-loop
-shared-slice-read-size-if c =
-    let l = c .before .before .before .before .before .before .before in
-    omega (arith, covering.slot-lt (l .loop .inv), l .loop .inv .pre .laid-out .size)
-
-size-if-requires : tie.Need-size-if-requires Inv-loop μ-loop
-size-if-requires c κs = tt
-
-sub-marked-bytes : tie.Need-sub-marked-bytes Inv-loop μ-loop
-sub-marked-bytes c =
-    let d = c .before .before .before .before .before in
-    covering.bytes-left (d .before .before .before .loop .inv) (d .before .before .loop-test .taken) (d .before .psn-plus .ensures) (d .covers .ensures)
-    (c .size-if .ensures) .0
-
-cover-one-requires : tie.Need-cover-one-requires Inv-loop μ-loop
-cover-one-requires c κs = tt
-
-slice-write-status : tie.Need-slice-write-status Inv-loop μ-loop
-slice-write-status c =
-    let l = c .before .before .before .before .before .before .before .before .before in
-    omega (arith, covering.status-long (l .loop .inv), covering.slot-lt (l .loop .inv))
-
 after-requires : tie.Need-after-requires Inv-loop μ-loop
-after-requires c κs = covering.slot-lt (c .before .before .before .before .before .before .before .before .before .loop .inv)
+after-requires c κs = covering.slot-lt (turn (c .before) .before .loop .inv)
 
 loop-less : tie.Need-loop-less Inv-loop μ-loop
 loop-less c = omega arith
 
 loop-again : tie.Need-loop-again Inv-loop μ-loop
 loop-again c =
-    let d = c .before .before .before .before .before .before .before in
-    covering.again (d .before .before .before .loop .inv) (d .before .before .loop-test .taken) (d .before .psn-plus .ensures) (d .covers .ensures)
-    (c .before .cover-one .ensures) (c .before .before .before .before .before .one-if .ensures) (c .before .before .before .before .one-if2 .ensures)
-    (c .before .before .size-if .ensures) (c .after .ensures .0)
+    let d = c .before .before in
+    let I = turn d .before .loop .inv in
+    let h = turn d .loop-test .taken in
+    let e = d .before .psn-plus .ensures in
+    let g = d .delivers .ensures in
+    ⊎-elim
+    (λ w.
+    covering.again I h e g (covering.ring-done I h e g (w .0 .taken) (w .2))
+    (⊎-elim
+    (λ v. covering.sums-marked I h e g (w .0 .taken) (v .0 .taken) (w .3 ∙ v .2) (w .4 ∙ v .3) (w .5 ∙ v .4))
+    (λ v. covering.sums-flying I h e g (w .0 .taken) (v .0 .left) (w .3 ∙ v .1) (w .4 ∙ v .2) (w .5 ∙ v .3))
+    (w .1 .came))
+    (c .after .ensures .0))
+    (λ w.
+    covering.again I h e g (covering.ring-passed I h e g (w .0 .left) (w .1)) (covering.sums-passed I h e g (w .0 .left) (w .2) (w .3) (w .4))
+    (c .after .ensures .0))
+    (c .before .if1 .came)
 
 same-length : tie.Need-same-length Inv-loop μ-loop
 same-length c = covering.status-long (c .before .before .loop .inv)
@@ -114,20 +124,17 @@ cover-spec =
     μ-loop
     place-requires
     loop-holds
-    psn-plus-requires
-    covers-requires
     slice-read-s
-    add-k
-    one-if-requires
-    sub-flying
-    one-if-requires-2
+    psn-plus-requires
+    delivers-requires
     sub-marked
-    mul-size-if
-    shared-slice-read-size-if
-    size-if-requires
+    mul-marked-bytes
+    shared-slice-read-marked-bytes
+    cast-marked-bytes
     sub-marked-bytes
-    cover-one-requires
+    sub-flying
     slice-write-status
+    add-k
     after-requires
     loop-less
     loop-again

@@ -14,7 +14,7 @@ abbrev μ-loop : tie.MeasureT-loop
 μ-loop status₀ size₀ sent₀ resent₀ low n cap i₀ k₀ status size sent resent i k = n - k
 
 place-requires : tie.Need-place-requires Inv-loop μ-loop
-place-requires c κs = omega (arith, retiring.caps (c .before .before .before .before .pre) .least)
+place-requires c κs = c .before .before .before .before .pre .cap
 
 loop-holds : tie.Need-loop-holds Inv-loop μ-loop
 loop-holds c =

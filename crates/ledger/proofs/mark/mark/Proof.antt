@@ -28,7 +28,7 @@ cast-bytes : tie.Need-cast-bytes
 cast-bytes c = search needs
 
 place-requires : tie.Need-place-requires
-place-requires c κs = coheres-facts (c .before .before .before .before .before .before .before .before .before .pre .0) .even .some
+place-requires c κs = coheres-facts (c .before .before .before .before .before .before .before .before .before .pre .0) .cap
 
 slice-write-status : tie.Need-slice-write-status
 slice-write-status c = search needs

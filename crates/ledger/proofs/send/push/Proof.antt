@@ -22,7 +22,7 @@ next-fits : (s : tie.Start) → s .args .books .flow .next < psns
 next-fits s = omega arith
 
 place-requires : tie.Need-place-requires
-place-requires c κs = search needs
+place-requires c κs = coheres-facts (c .before .before .before .before .before .before .pre .0) .cap
 
 write-requires : tie.Need-write-requires
 write-requires c κs = let p = c .before .before .before .before in (coheres-facts (p .before .before .before .before .before .before .before .pre .0) .even, p .place .ensures .1)

@@ -28,7 +28,7 @@ cast-bytes : tie.Need-cast-bytes
 cast-bytes c = search needs
 
 place-requires : tie.Need-place-requires
-place-requires c κs = coheres-facts (c .before .before .before .before .before .before .before .before .before .before .before .before .pre .0) .even .some
+place-requires c κs = coheres-facts (c .before .before .before .before .before .before .before .before .before .before .before .before .pre .0) .cap
 
 once-more-requires : tie.Need-once-more-requires
 once-more-requires c κs =

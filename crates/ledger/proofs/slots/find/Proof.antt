@@ -14,8 +14,8 @@ psn-minus-requires c κs = search needs
 long-requires : tie.Need-long-requires
 long-requires c κs = search needs
 
-place-requires : tie.Need-place-requires
-place-requires c κs = search needs
+place-in-any-requires : tie.Need-place-in-any-requires
+place-in-any-requires c κs = search needs
 
 read-requires : tie.Need-read-requires
 read-requires c κs = search needs
@@ -27,7 +27,7 @@ returns c =
     let r = ring (a .status .now) (a .size .now) (a .sent .now) (a .resent .now) in
     let l : offsetOf (a .flow) (a .psn) < longOf (a .flow) =
     omega (arith, c .before .before .if1 .taken, c .before .before .before .long .ensures, c .before .before .before .before .psn-minus .ensures) in
-    c .read .ensures ∙ ap (packetAt r) (c .before .place .ensures .0) ∙ sym (packet-here (a .flow) r (a .psn) (omega arith) l)
+    c .read .ensures ∙ ap (packetAt r) (c .before .place-in-any .ensures .0) ∙ sym (packet-here (a .flow) r (a .psn) (omega arith) l)
 
 returns-2 : tie.Need-returns-2
 unfolding offsetOf
@@ -41,4 +41,4 @@ returns-2 c =
 pub find-spec : {M : Type 1} → statement M
 find-spec =
     tie.close
-    (tie.spec psn-minus-requires long-requires place-requires read-requires returns returns-2)
+    (tie.spec psn-minus-requires long-requires place-in-any-requires read-requires returns returns-2)

@@ -56,7 +56,7 @@ rest-requires c κs = (
 )
 
 head-ok-requires : tie.Need-head-ok-requires
-head-ok-requires c κs = even (c .before .before .before .before)
+head-ok-requires c κs = let d = c .before .before .before .before in (even d, ring-cap _ (ringed d))
 
 in-bounds-requires : tie.Need-in-bounds-requires
 in-bounds-requires c κs = search needs
