@@ -13,6 +13,7 @@ use borrow.Author.Tests.{lt-ltb, le-ltb, eq-eqb, ne-eqb}
 use Rattle.decide.specs.Branch.{so-yes, so-no, eq-yes, eq-no}
 use Rattle.ledger.specs.Ring.{Ring}
 use Rattle.sender.specs.World.{world}
+use Rattle.replay.specs.Places.{logged}
 use Rattle.replay.specs.Batches.{Batching, batchOf}
 use Rattle.replay.specs.declared.Place.{Place}
 use Rattle.words.specs.Layout.{wordCount, bit, word, stateWords, unpacked}
@@ -55,7 +56,7 @@ module _ (log place ws : List ℕ) (r : Ring) (t answers : List ℕ) where
 
       module _
           (flag : word place 2 ≤ 1) (given : Unpacked) (given-is : given ≡ unpacked ws)
-          (b : Batching) (b-is : b ≡ batchOf log (placeFrom place) (world (given .state) r t) answers)
+          (b : Batching) (b-is : b ≡ batchOf (logged log) (placeFrom place) (world (given .state) r t) answers)
         where
           lent-right : lentOk place ws ≡ true
           unfolding lentOk
@@ -68,7 +69,7 @@ module _ (log place ws : List ℕ) (r : Ring) (t answers : List ℕ) where
               so-yes (lentOk place ws) _ _ _ lent-right
               (e
               ∙ ap (handed place ws)
-              (b-is ∙ ap (λ (u : Unpacked). batchOf log (placeFrom place) (world (u .state) r t) answers) given-is))
+              (b-is ∙ ap (λ (u : Unpacked). batchOf (logged log) (placeFrom place) (world (u .state) r t) answers) given-is))
 
           pub batch-refused :
               (b .number ≡ 0 → ⊥) →

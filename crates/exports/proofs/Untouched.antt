@@ -27,11 +27,12 @@ use Rattle.sender.specs.declared.Loss.{Loss}
 use Rattle.sender.proofs.Rowing.{numbered, first-most}
 use Rattle.sender.proofs.Refusals.{new-data-same, send-same, ack-same, nack-same, loss-same, path-same, set-up-same}
 use Rattle.replay.specs.Answers.{soundAfter}
-use Rattle.replay.specs.Places.{holds}
+use Rattle.replay.specs.Places.{logged, holds}
 use Rattle.replay.specs.Batches.{Batching, filled, batchOf}
 use Rattle.words.specs.Layout.{word, flag, settingsFrom, stateFrom, wordsOk, unpacked}
 use Rattle.words.specs.declared.Unpacked.{Unpacked}
 use Rattle.exports.specs.Calls.{Called, called, wordsAfter, pathWord, onWords, onPathWords, onSetUpWords}
+use Rattle.exports.proofs.Singles.{word-parts, path-most}
 use Rattle.exports.specs.Batch.{placeFrom, lentOk, Replayed, replayCalled, handed, onReplayWords}
 
 pub record Untouched (x : Called) (ws : List ℕ) (r : Ring) (t : List ℕ) : Type 0 where
@@ -40,16 +41,6 @@ pub record Untouched (x : Called) (ws : List ℕ) (r : Ring) (t : List ℕ) : Ty
   pub times-same : x .times ≡ t
 
 -- ---- a path choice's word
-
--- a number stands in the low 32 bits, an EV above them
-word-parts : (ev n : ℕ) → n ≤ 11 → ((2 ^ 32 * ev + n) % 2 ^ 32 ≡ n) × ((2 ^ 32 * ev + n) / 2 ^ 32 ≡ ev)
-word-parts ev n h = (omega arith, omega arith)
-
-path-most : (time : ℕ) (w : World) → onPath time w .number ≤ 11
-unfolding onPath numbered inside
-path-most time w =
-    let rows = withSound w (pathRows time (w .state)) in
-    eq-both (λ (a : Routing). a .number ≤ 11) (firstOf rows) 0 _ _ (λ _. omega arith) (λ _. first-most 11 rows refl)
 
 pub path-word :
     (time : ℕ) (w : World) →
@@ -160,7 +151,7 @@ module _ (log place ws : List ℕ) (r : Ring) (t answers : List ℕ) where
       let w = world (unpacked ws .state) r t in
       so-both SparedReplay (lentOk place ws) _ _
       (λ _.
-      batch-spared (batchOf log p w answers)
+      batch-spared (batchOf (logged log) p w answers)
       (so-both (λ (b : Batching). SparedReplay (replayCalled (b .number) place ws (b .after .slots) (b .after .times) (b .room))) (holds p w) _ _
       (λ _ h. absurd (h refl))
       (λ _ _. refl)))

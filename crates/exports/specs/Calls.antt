@@ -2,7 +2,7 @@
 -- Assumes nothing.
 use mathlib.Core.Bool.{Bool}
 use mathlib.Core.List.{List}
-use Prim.Native.Nat.{ℕ, _+_, _*_, _^_}
+use Prim.Native.Nat.{ℕ, _+_, _*_, _^_, _%_}
 use lib.Dec.{eqb}
 use lib.ListN.{length}
 use Rattle.decide.specs.Branch.{ifSo, ifEq}
@@ -15,6 +15,8 @@ use Rattle.sender.specs.declared.Send.{Send}
 use Rattle.sender.specs.declared.Ack.{Ack}
 use Rattle.sender.specs.declared.Nack.{Nack}
 use Rattle.sender.specs.declared.Loss.{Loss}
+use Rattle.replay.specs.Batches.{Saying, onceOf}
+use Rattle.replay.specs.declared.records.Event.{Event}
 use Rattle.words.specs.Layout.{wordCount, settingsCount, stateWords, settingsFrom, stateFrom, wordsOk}
 
 -- events from a call's arguments
@@ -52,6 +54,14 @@ packed ws a =
 -- an event on the state that the words are; 2 where they are none's
 unfoldable pub onWords : List ℕ → Ring → List ℕ → (World → Answered) → Called
 onWords ws r t event = ifSo (wordsOk ws) (packed ws (event (world (stateFrom ws) r t))) (called 2 ws r t)
+
+-- any event's answer as a word: the number, and the EV above its 32 bits
+abbrev pub packedWord : List ℕ → Saying → Called
+packedWord ws x =
+    called (x .word) (wordsAfter (x .word % 2 ^ 32) ws (x .after .state)) (x .after .slots) (x .after .times)
+
+unfoldable pub onEventWords : Event → List ℕ → Ring → List ℕ → Called
+onEventWords e ws r t = ifSo (wordsOk ws) (packedWord ws (onceOf e (world (stateFrom ws) r t))) (called 2 ws r t)
 
 -- a path choice's answer: the number, and the EV above its 32 bits
 abbrev pub pathWord : Routing → ℕ

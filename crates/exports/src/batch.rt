@@ -1,5 +1,6 @@
 // A log's bytes in, answers out. Number 2 is tested once a call.
 use replay::Place;
+use replay::Source;
 use words::WORDS;
 ghost use mathlib.Core.Path.{_≡_};
 ghost use lib.ListN.{length};
@@ -54,7 +55,18 @@ pub extern "C" fn nscc_replay(
     };
     let given = words::unpack(state);
     let before = given.state;
-    let batch = replay::replay(from, before, status, size, sent, resent, evs, log, answers);
+    let batch = replay::replay(
+        Source::Log,
+        from,
+        before,
+        status,
+        size,
+        sent,
+        resent,
+        evs,
+        log,
+        answers,
+    );
     if batch.number != 0 {
         return batch.number;
     }

@@ -1,25 +1,19 @@
--- `nscc_nack`: words that are no state's are refused with 2; else the answer is the event's on their state, kept.
+-- `nscc_nack` is the event, whose number fits 32 bits.
+use mathlib.Core.Path.{_∙_}
+use native.Mathlib.Omega.{arith}
 use borrow.Author.Needs.{needs}
-use Rattle.exports.proofs.Answers.{no-state, words-long, event-on}
+use Rattle.exports.proofs.Singles.{nack-single, words-on, word-most}
 use Rattle.exports.proofs.nscc_nack.Statement.{statement}
 use Rattle.exports.proofs.nscc_nack.Tie as tie
 
-unpack-requires : tie.Need-unpack-requires
-unpack-requires c κs = search needs
+take-requires : tie.Need-take-requires
+take-requires c κs = search needs
+
+cast-result : tie.Need-cast-result
+cast-result c = omega (arith, word-most _ _ _ _ _ (λ w. nack-single _ w _) _ (c .before .before .before .before .before .before .before .before .before .before .before .before .take .ensures))
 
 same-length : tie.Need-same-length
 same-length c = search needs
-
-returns : tie.Need-returns
-returns c = no-state _ _ (c .before .before .unpack .ensures) (c .if1 .taken) _ _ _
-
-nack-requires : tie.Need-nack-requires
-nack-requires c κs = search needs
-
-kept-requires : tie.Need-kept-requires
-kept-requires c κs =
-    let e = c .before .before .before .before .before .before .before .before .before in
-    words-long _ _ (e .before .before .unpack .ensures) (e .if1 .left)
 
 same-length-2 : tie.Need-same-length-2
 same-length-2 c = search needs
@@ -30,22 +24,16 @@ same-length-3 c = search needs
 same-length-4 : tie.Need-same-length-4
 same-length-4 c = search needs
 
-returns-2 : tie.Need-returns-2
-returns-2 c =
-    let a = c .before .before .before .before .before .before .before in
-    let e = a .before .before .before .before .before in
-    event-on _ _ (e .before .before .unpack .ensures) (e .if1 .left) _ _ _ _ _ _ (a .nack .ensures) _ _ (c .before .before .kept .ensures)
+same-length-5 : tie.Need-same-length-5
+same-length-5 c = search needs
+
+same-length-6 : tie.Need-same-length-6
+same-length-6 c = search needs
+
+returns : tie.Need-returns
+returns c = c .before .before .before .before .before .before .before .before .before .before .before .before .take .ensures ∙ words-on _ _ _ _ _ (λ w. nack-single _ w _)
 
 pub nscc-nack-spec : {M : Type 1} → statement M
 nscc-nack-spec =
     tie.close
-    (tie.spec
-    unpack-requires
-    same-length
-    returns
-    nack-requires
-    kept-requires
-    same-length-2
-    same-length-3
-    same-length-4
-    returns-2)
+    (tie.spec take-requires cast-result same-length same-length-2 same-length-3 same-length-4 same-length-5 same-length-6 returns)

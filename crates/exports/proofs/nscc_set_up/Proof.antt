@@ -24,8 +24,14 @@ returns-3 c =
 set-up-requires : tie.Need-set-up-requires
 set-up-requires c κs = search needs
 
-kept-requires : tie.Need-kept-requires
-kept-requires c κs = search needs
+number-of-requires : tie.Need-number-of-requires
+number-of-requires c κs = search needs
+
+cast-keep : tie.Need-cast-keep
+cast-keep c = search needs
+
+keep-requires : tie.Need-keep-requires
+keep-requires c κs = search needs
 
 same-length : tie.Need-same-length
 same-length c = search needs
@@ -47,10 +53,10 @@ same-length-6 c = search needs
 
 returns-4 : tie.Need-returns-4
 returns-4 c =
-    let a = c .before .before .before .before .before .before .before .before .before .before .before .before .before in
-    let e = a .before .before .before .before .before .before .before in
+    let a = c .before .before .before .before .before .before .before .before .before .before .before .before .before .before .before .before in
+    let e = a .before .before .before .before .before .before in
     set-up-on _ _ _ _ _ _ (e .before .before .before .before .if1 .left) _ (e .before .before .before .settings-of .ensures) _ (e .before .before .in-range .ensures) (e .before .if2 .left) (e .if3 .left)
-    _ _ _ (a .set-up .ensures) _ _ (c .before .before .kept .ensures)
+    _ _ _ (a .set-up .ensures) _ _ (c .before .before .before .before .number-of .ensures, c .before .before .keep .ensures)
 
 pub nscc-set-up-spec : {M : Type 1} → statement M
 nscc-set-up-spec =
@@ -62,7 +68,9 @@ nscc-set-up-spec =
     returns-2
     returns-3
     set-up-requires
-    kept-requires
+    number-of-requires
+    cast-keep
+    keep-requires
     same-length
     same-length-2
     same-length-3

@@ -1,0 +1,163 @@
+-- A call is a batch of one event: its word is the event's number, with a path choice's EV above 32 bits. Assumes nothing.
+use mathlib.Core.Path.{_≡_, refl, sym, ap, _∙_}
+use mathlib.Core.Bool.{Bool, true, false}
+use mathlib.Core.List.{List}
+use Prim.Native.Nat.{ℕ, _+_, _*_, _^_, _%_, _/_, _≤_}
+use native.Mathlib.Omega.{arith}
+use Rattle.decide.specs.Branch.{ifSo, ifEq, so-yes, so-no, so-both, eq-no, eq-both}
+use Rattle.decide.specs.Rows.{Row, firstOf}
+use Rattle.decide.specs.Test.{inside}
+use Rattle.ledger.specs.Ring.{Ring}
+use Rattle.sender.specs.World.{World, world, Answered, Routing}
+use Rattle.sender.specs.Sound.{sound}
+use Rattle.sender.specs.Rows.{withSound, newDataRows, sendAllRows, ackAllRows, nackAllRows, lossAllRows, pathRows}
+use Rattle.sender.specs.Steps.{pathStep}
+use Rattle.sender.specs.Events.{decided, onNewData, onSend, onAck, onNack, onLoss, onPath}
+use Rattle.sender.specs.declared.Send.{Send}
+use Rattle.sender.specs.declared.Ack.{Ack}
+use Rattle.sender.specs.declared.Nack.{Nack}
+use Rattle.sender.specs.declared.Loss.{Loss}
+use Rattle.sender.proofs.Rowing.{numbered, first-most, send-all-numbered, answer, taken, untaken, entry-unsound}
+use Rattle.replay.specs.Answers.{stated, routedBy, shownPath, onLater}
+use Rattle.replay.specs.Batches.{Saying, worded, onceOf}
+use Rattle.replay.specs.declared.Shown.{Shown}
+use Rattle.replay.specs.declared.Shown.the-variants.{State, Path}
+use Rattle.replay.specs.declared.records.Event.{Event}
+use Rattle.replay.specs.declared.records.Event.the-variants as event
+use Rattle.words.specs.Layout.{stateFrom, wordsOk}
+use Rattle.exports.specs.Calls.{Called, called, wordsAfter, packed, packedWord, pathWord, packedPath, onWords, onEventWords, onPathWords}
+
+-- a number stands in the low 32 bits, an EV above them
+pub word-parts : (ev n : ℕ) → n ≤ 11 → ((2 ^ 32 * ev + n) % 2 ^ 32 ≡ n) × ((2 ^ 32 * ev + n) / 2 ^ 32 ≡ ev)
+word-parts ev n h = (omega arith, omega arith)
+
+-- a word and a world
+abbrev said : ℕ → World → Saying
+said n w = record { word = n; after = w }
+
+-- ---- one event, by its rows
+
+two-more : (w : World) (xs : List Row) → numbered 11 xs ≡ true → numbered 11 (withSound w xs) ≡ true
+unfolding numbered inside
+two-more w xs e = e
+
+-- 2, and the rows of an event, whose numbers are those of 01's table
+with-most : (w : World) (xs : List Row) → numbered 11 xs ≡ true → firstOf (withSound w xs) ≤ 11
+with-most w xs e = first-most 11 (withSound w xs) (two-more w xs e)
+
+-- the event's answer is what one event is answered, and its number is one of the table's
+pub record Single (e : Event) (w : World) (x : Answered) : Type 0 where
+  pub is : onceOf e w ≡ said (x .number) (x .after)
+  pub most : x .number ≤ 11
+
+plain : (n : ℕ) → 2 ^ 32 * 0 + n ≡ n
+plain n = omega arith
+
+module _ (e : Event) (w : World) (xs : List Row) (after : World) where
+  abbrev judged : Answered
+  judged = decided (firstOf (withSound w xs)) w after
+
+  judged-most : numbered 11 xs ≡ true → judged .number ≤ 11
+  unfolding decided
+  judged-most k = eq-both (λ (a : Answered). a .number ≤ 11) (firstOf (withSound w xs)) 0 _ _ (λ _. omega arith) (λ _. with-most w xs k)
+
+  judged-unsound : sound w ≡ false → answer 2 w ≡ judged
+  unfolding decided
+  judged-unsound h = entry-unsound w xs (answer 0 after) (λ n. answer n w) (answer 2 w) h refl
+
+  judged-said : onLater e w ≡ stated judged → (s : Bool) → sound w ≡ s → onceOf e w ≡ said (judged .number) (judged .after)
+  unfolding onceOf
+  judged-said q true h =
+      sym (so-yes (sound w) (worded (onLater e w)) (worded (onLater e w)) (said 2 w) h refl)
+      ∙ (ap worded q ∙ ap (λ (n : ℕ). said n (judged .after)) (plain (judged .number)))
+  judged-said q false h =
+      sym (so-no (sound w) (said 2 w) (worded (onLater e w)) (said 2 w) h refl)
+      ∙ ap (λ (a : Answered). said (a .number) (a .after)) (judged-unsound h)
+
+  single-by : numbered 11 xs ≡ true → onLater e w ≡ stated judged → Single e w judged
+  single-by k q = record { is = judged-said q (sound w) refl; most = judged-most k }
+
+module _ (time : ℕ) (w : World) where
+  pub new-data-single : (bytes : ℕ) → Single (event.NewData time bytes) w (onNewData time bytes w)
+  unfolding onNewData onLater numbered inside
+  new-data-single bytes = single-by (event.NewData time bytes) w (newDataRows time bytes (w .state)) _ refl refl
+
+  pub send-single : (a : Send) → Single (event.Send time a) w (onSend time a w)
+  unfolding onSend onLater
+  send-single a = single-by (event.Send time a) w (sendAllRows time a (w .state) (w .slots)) _ (send-all-numbered time a (w .state) (w .slots)) refl
+
+  pub ack-single : (a : Ack) → Single (event.Ack time a) w (onAck time a w)
+  unfolding onAck onLater numbered inside
+  ack-single a = single-by (event.Ack time a) w (ackAllRows time a (w .state)) _ refl refl
+
+  pub nack-single : (a : Nack) → Single (event.Nack time a) w (onNack time a w)
+  unfolding onNack onLater numbered inside
+  nack-single a = single-by (event.Nack time a) w (nackAllRows time a (w .state) (w .slots)) _ refl refl
+
+  pub loss-single : (a : Loss) → Single (event.Loss time a) w (onLoss time a w)
+  unfolding onLoss onLater numbered inside
+  loss-single a = single-by (event.Loss time a) w (lossAllRows time a (w .state) (w .slots)) _ refl refl
+
+-- ---- a path choice
+
+pub path-most : (time : ℕ) (w : World) → onPath time w .number ≤ 11
+unfolding onPath numbered inside
+path-most time w =
+    let rows = withSound w (pathRows time (w .state)) in
+    eq-both (λ (a : Routing). a .number ≤ 11) (firstOf rows) 0 _ _ (λ _. omega arith) (λ _. first-most 11 rows refl)
+
+shown-yes : (ev : ℕ) → shownPath 0 ev ≡ Path ev
+unfolding shownPath ifEq
+shown-yes ev = refl
+
+shown-no : (n ev : ℕ) → (n ≡ 0 → ⊥) → shownPath n ev ≡ State
+unfolding shownPath
+shown-no n ev h = sym (eq-no n 0 State (Path ev) State h refl)
+
+-- its word has the EV where it was accepted; a refused one has the EV 0
+path-worded : (time : ℕ) (w : World) → worded (routedBy (onPath time w)) ≡ said (pathWord (onPath time w)) (onPath time w .after)
+unfolding onPath
+path-worded time w =
+    let n = firstOf (withSound w (pathRows time (w .state))) in
+    eq-both (λ (a : Routing). worded (routedBy a) ≡ said (pathWord a) (a .after)) n 0 (taken time w) (untaken n w)
+    (λ _. ap (λ (s : Shown). worded (record { number = 0; shown = s; after = pathStep time w })) (shown-yes (taken time w .ev)))
+    (λ no. ap (λ (s : Shown). worded (record { number = n; shown = s; after = w })) (shown-no n 0 no))
+
+path-unsound : (time : ℕ) (w : World) → sound w ≡ false → untaken 2 w ≡ onPath time w
+unfolding onPath
+path-unsound time w h = entry-unsound w (pathRows time (w .state)) (taken time w) (λ n. untaken n w) (untaken 2 w) h refl
+
+path-single : (time : ℕ) (w : World) (s : Bool) → sound w ≡ s → onceOf (event.Path time) w ≡ said (pathWord (onPath time w)) (onPath time w .after)
+unfolding onceOf onLater
+path-single time w true h =
+    sym (so-yes (sound w) (worded (routedBy (onPath time w))) (worded (routedBy (onPath time w))) (said 2 w) h refl) ∙ path-worded time w
+path-single time w false h =
+    sym (so-no (sound w) (said 2 w) (worded (routedBy (onPath time w))) (said 2 w) h refl)
+    ∙ ap (λ (a : Routing). said (pathWord a) (a .after)) (path-unsound time w h)
+
+-- ---- over lent words
+
+module _ (ws : List ℕ) (r : Ring) (t : List ℕ) where
+  pub words-on : (e : Event) (on : World → Answered) → ((w : World) → Single e w (on w)) → onEventWords e ws r t ≡ onWords ws r t on
+  unfolding onEventWords onWords
+  words-on e on single =
+      let w = world (stateFrom ws) r t in
+      let x = on w in
+      let low : x .number % 2 ^ 32 ≡ x .number = omega (arith, single w .most) in
+      ap (λ (c : Called). ifSo (wordsOk ws) c (called 2 ws r t))
+      (ap (packedWord ws) (single w .is) ∙ ap (λ (n : ℕ). called (x .number) (wordsAfter n ws (x .after .state)) (x .after .slots) (x .after .times)) low)
+
+  pub word-most : (e : Event) (on : World → Answered) → ((w : World) → Single e w (on w)) → (c : Called) → c ≡ onEventWords e ws r t → c .number ≤ 11
+  unfolding onWords
+  word-most e on single c q =
+      rw (q ∙ words-on e on single)
+      (so-both (λ (x : Called). x .number ≤ 11) (wordsOk ws) _ _ (λ _. single (world (stateFrom ws) r t) .most) (λ _. omega arith))
+
+  pub path-words-on : (time : ℕ) → onEventWords (event.Path time) ws r t ≡ onPathWords ws r t (onPath time)
+  unfolding onEventWords onPathWords
+  path-words-on time =
+      let w = world (stateFrom ws) r t in
+      let a = onPath time w in
+      ap (λ (c : Called). ifSo (wordsOk ws) c (called 2 ws r t))
+      (ap (packedWord ws) (path-single time w (sound w) refl)
+      ∙ ap (λ (n : ℕ). called (pathWord a) (wordsAfter n ws (a .after .state)) (a .after .slots) (a .after .times)) (word-parts (a .ev) (a .number) (path-most time w) .0))
