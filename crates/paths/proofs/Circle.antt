@@ -57,9 +57,9 @@ module _ (cursor : ℕ) (evs : List ℕ) (inside : cursor < length evs) where
         let first : firstFree time (from cursor evs) ≡ 0 = rw (drop-cons evs cursor 0) (stops time (getD evs cursor 0) (drop (suc cursor) evs ++ take cursor evs) free) in
         by-cases (decLt (length evs) (2 * avoided time evs)) over-half (λ few. omega (arith, half-or-less (omega arith)))
 
-    -- the steps over the two parts that are lent
-    pub steps-parts : (s : ℕ) → s ≡ steps time (take (length evs - cursor) (drop cursor evs) ++ take (cursor - 0) evs) → s ≡ steps time (from cursor evs)
-    steps-parts s e = e ∙ rw (take-all (length evs - cursor) (drop cursor evs) (le-of-eq (length-drop cursor evs)), sub-zero)
+    -- the search over the two parts that are lent
+    pub free-parts : (s : ℕ) → s ≡ firstFree time (take (length evs - cursor) (drop cursor evs) ++ take (cursor - 0) evs) → s ≡ firstFree time (from cursor evs)
+    free-parts s e = e ∙ rw (take-all (length evs - cursor) (drop cursor evs) (le-of-eq (length-drop cursor evs)), sub-zero)
 
     -- what so many steps make of the choice
     pub lands-on : (s : ℕ) → s ≡ steps time (from cursor evs) → landed cursor s (length evs) ≡ choice time cursor evs

@@ -122,17 +122,10 @@ module _ (time : ℕ) where
 
   -- the same over two parts, as the walks go over them
   module _ (tail head : List ℕ) where
-    pub many-stay : length tail + length head < 2 * (avoided time tail + avoided time head) → 0 ≡ steps time (tail ++ head)
-    many-stay many = stays (tail ++ head) (rw (length-append, avoided-append) many)
+    pub free-tail : firstFree time tail < length tail → firstFree time tail ≡ firstFree time (tail ++ head)
+    free-tail h = sym (free-before tail head h)
 
-    module _ (few : 2 * (avoided time tail + avoided time head) ≤ length tail + length head) where
-      few-go : firstFree time (tail ++ head) ≡ steps time (tail ++ head)
-      few-go = goes (tail ++ head) (rw (length-append, avoided-append) few)
-
-      pub few-tail : firstFree time tail < length tail → firstFree time tail ≡ steps time (tail ++ head)
-      few-tail h = omega (arith, free-before tail head h, few-go)
-
-      pub few-head : length tail ≤ firstFree time tail → firstFree time tail + firstFree time head ≡ steps time (tail ++ head)
-      few-head h =
-          let whole : firstFree time tail ≡ length tail = omega (arith, free-le-avoided tail, avoided-le tail) in
-          omega (arith, free-after tail head whole, few-go)
+    pub free-head : length tail ≤ firstFree time tail → firstFree time tail + firstFree time head ≡ firstFree time (tail ++ head)
+    free-head h =
+        let whole : firstFree time tail ≡ length tail = omega (arith, free-le-avoided tail, avoided-le tail) in
+        omega (arith, free-after tail head whole)

@@ -4,7 +4,7 @@ ghost use mathlib.Core.Path.{_≡_};
 ghost use mathlib.Core.List.{_++_};
 ghost use Prim.Native.Nat.{_+_, _%_, _^_, _≤_, _<_};
 ghost use lib.ListN.{length};
-ghost use Rattle.paths.specs.Path.{withTime, avoids, avoided, firstFree, steps, landed, choice};
+ghost use Rattle.paths.specs.Path.{withTime, avoids, avoided, firstFree, landed, choice};
 
 // The EV that is taken, and the cursor after it.
 pub struct Choice {
@@ -65,18 +65,11 @@ fn wrap(x: usize, n: usize) -> usize
     x - n
 }
 
-// How many EVs the choice passes: `tail` are the EVs from the cursor on, `head` those before it.
-// Two walks: one counts, one searches.
-fn steps(tail: &[u64], head: &[u64], time: u64) -> usize
+// The place of the first EV that is not avoided, over two parts: `tail` are the EVs from the cursor on, `head` those before it.
+fn first_free_of(tail: &[u64], head: &[u64], time: u64) -> usize
     requires { ⌜ length (now tail) + length (now head) < 2 ^ 60 ⌝ }
-    ensures { λ r. ⌜ r ≡ steps time (now (tail .entry) ++ now (head .entry)) ⌝ }
+    ensures { λ r. ⌜ r ≡ firstFree time (now (tail .entry) ++ now (head .entry)) ⌝ }
 {
-    let n = tail.len() + head.len();
-    let a = count_avoided(tail, time);
-    let b = count_avoided(head, time);
-    if n < 2 * (a + b) {
-        return 0;
-    }
     let k = first_free(tail, time);
     if k < tail.len() {
         return k;
@@ -101,9 +94,13 @@ pub fn choose(evs: &[u64], cursor: usize, time: u64) -> Choice
     ensures { λ r. ⌜ r ≡ choice time cursor (now (evs .entry)) ⌝ }
 {
     // A cursor that is not avoided is taken whatever the count says: more than half avoided takes it too.
+    let n = evs.len();
     if evs[cursor] <= time {
-        return land(cursor, 0, evs.len());
+        return land(cursor, 0, n);
     }
-    let s = steps(&evs[cursor..], &evs[0..cursor], time);
-    land(cursor, s, evs.len())
+    if n < 2 * count_avoided(evs, time) {
+        return land(cursor, 0, n);
+    }
+    let s = first_free_of(&evs[cursor..], &evs[0..cursor], time);
+    land(cursor, s, n)
 }
