@@ -5,7 +5,8 @@
  * between calls, no function blocks; each may be called from any thread as long as no two calls share memory.
  *
  * Every function answers for every number that is handed in. The answer is 0, or the number of a refusal (nscc_refusal), and a refusal leaves every lent
- * word and byte as it was. That is proved. What no proof can see is asked of the caller:
+ * word and byte as it was; what a const points to holds the same at the end as at the start, whatever is answered. That is proved. What no proof can see
+ * is asked of the caller:
  *   - each pointer is followed by the length, in elements, of the memory that it points to, and that memory may be read (const) or read and written;
  *   - no two arrays of one call overlap;
  *   - a pointer is not null, also where its length is 0, and is aligned for its type.

@@ -1,11 +1,11 @@
 -- What coherence says, fact by fact, and the way back: a queue of live packets, laid out, with a flow that counts it, holds together (`stands-laid`).
 -- By the laws of walks and the ring's geometry.
 -- Assumes nothing.
-use mathlib.Core.Path.{_≡_, refl, sym, ap, _∙_, subst}
+use mathlib.Core.Path.{_≡_, refl, sym, ap, _∙_, subst, fun-ext}
 use mathlib.Core.Bool.{Bool, true, false, _&&_}
 use mathlib.Core.Logic.{by-cases}
 use mathlib.Core.List.{List, [], _∷_}
-use Prim.Native.Nat.{ℕ, _+_, _-_, _*_, _^_, _≤_, _<_}
+use Prim.Native.Nat.{ℕ, _+_, _-_, _*_, _^_, _%_, _≤_, _<_}
 use native.Mathlib.Nat.{le-refl, mul-le-mul}
 use native.Mathlib.Decide.{decLt}
 use native.Mathlib.Omega.{arith}
@@ -13,7 +13,7 @@ use lib.IntN.{ℤ, pos, negsuc}
 use lib.ListN.{length, getD, List·getD-eq-default}
 use lib.Dec.{leb, ltb, eqb}
 use borrow.Author.Tests.{leb-true, ltb-true, eqb-true, le-leb, lt-leb, lt-ltb, eq-eqb, ne-eqb, not-true}
-use Rattle.decide.specs.Branch.{lt-yes, lt-no, eq-both}
+use Rattle.decide.specs.Branch.{ifLt, lt-yes, lt-no, eq-both}
 use Rattle.decide.specs.Test.{inside, both, whole, inside-tells, inside-yes}
 use Rattle.serial.specs.Count.{counts}
 use Rattle.ledger.specs.Packets.{flyingStatus, doneStatus, none, isDone, flyingOne, markedOne, markedSize, sumOf}
@@ -23,13 +23,16 @@ use Rattle.ledger.specs.Coherent.{allTo, isCapacity, isRing, isLive, isZ
 use Rattle.ledger.specs.declared.Flow.{Flow}
 use Rattle.ledger.specs.declared.Totals.{Totals}
 use Rattle.ledger.specs.declared.Packet.{Packet}
-use Rattle.ledger.proofs.Walks.{all-none, all-more, all-at, all-of, sum-append, sum-one, sum-bound}
+use Rattle.ledger.proofs.Walks.{all-none, all-more, all-at, all-of, all-join, sum-append, sum-one, sum-bound}
 use Rattle.ledger.proofs.Geometry.{
   Cap,
   cap-facts,
+  place-low,
+  place-in,
   queue-long,
   queue-at,
   queue-more,
+  queue-join,
   laid-cap,
   laid-even,
   laid-at,
@@ -377,10 +380,11 @@ pub record Tallying (mtu clock : ℕ) (r : Ring) (low n k : ℕ) (sound : Bool) 
   pub bytes-few : bytes ≤ k * 2 ^ 32
 
 module _ (mtu clock : ℕ) (r : Ring) (low n : ℕ) where
-  pub tally-none : Tallying mtu clock r low n 0 true 0 0 0
+  pub tally-none : (k : ℕ) → k ≡ 0 → Tallying mtu clock r low n k true 0 0 0
   unfolding sumOf queueOf tabulate
-  tally-none =
-      record {
+  tally-none k e =
+      rw e
+      (record {
         within = omega arith;
         sound-is = sym (all-none (slotOk mtu clock r low n));
         flying-is = refl;
@@ -389,7 +393,7 @@ module _ (mtu clock : ℕ) (r : Ring) (low n : ℕ) where
         flying-few = omega arith;
         marked-few = omega arith;
         bytes-few = omega arith;
-      }
+      })
 
   sum-more : (adds : Packet → ℕ) (k a b : ℕ) → a ≡ sumOf adds (queueOf r low k) → b ≡ adds (packetAt r (placeOf (capOf r) low k))
       → a + b ≡ sumOf adds (queueOf r low (k + 1))
@@ -397,30 +401,41 @@ module _ (mtu clock : ℕ) (r : Ring) (low n : ℕ) where
       let x = packetAt r (placeOf (capOf r) low k) in
       rw (queue-more r low k, e, f) (sym (sum-append adds (queueOf r low k) (x ∷ []) ∙ ap (λ (m : ℕ). sumOf adds (queueOf r low k) + m) (sum-one adds x)))
 
-  -- one packet more
-  module _ (k : ℕ) (x : Packet) (at : x ≡ packetAt r (placeOf (capOf r) low k)) where
-    pub tally-more : (s t : Bool) (a b d fl mk by : ℕ) → Tallying mtu clock r low n k s fl mk by → k < n → x .size < 2 ^ 32 → t ≡ isLive mtu clock x
+  -- one slot more
+  module _ (E : Even r) (i : ℕ) (h : low ≤ i) (l : i < capOf r) (x : Packet) (is : x ≡ packetAt r i) where
+    here : x ≡ packetAt r (placeOf (capOf r) low (i - low))
+    here = is ∙ ap (packetAt r) (sym (place-in (capOf r) low i h l (E .few)))
+
+    next : i + 1 - low ≡ i - low + 1
+    next = omega arith
+
+    pub tally-more : (s t : Bool) (a b d fl mk by : ℕ) → Tallying mtu clock r low n (i - low) s fl mk by → i - low < n → x .size < 2 ^ 32 → t ≡ isLive mtu clock x
         → (a ≡ flyingOne x) × (a ≤ 1) → (b ≡ markedOne x) × (b ≤ 1) → (d ≡ markedSize x) × (d ≤ x .size)
-        → Tallying mtu clock r low n (k + 1) (s && t) (fl + a) (mk + b) (by + d)
+        → Tallying mtu clock r low n (i + 1 - low) (s && t) (fl + a) (mk + b) (by + d)
     tally-more s t a b d fl mk by T h small live fa mb sd =
-        record {
+        let k = i - low in
+        rw next
+        (record {
           within = omega arith;
           sound-is =
-              rw (T .sound-is, live, at) (ap (λ (q : Bool). allTo (slotOk mtu clock r low n) k && q) (sym (slot-live mtu clock r low n k h)))
+              rw (T .sound-is, live, here) (ap (λ (q : Bool). allTo (slotOk mtu clock r low n) k && q) (sym (slot-live mtu clock r low n k h)))
               ∙ sym (all-more (slotOk mtu clock r low n) k);
-          flying-is = sum-more flyingOne k fl a (T .flying-is) (fa .0 ∙ ap flyingOne at);
-          marked-is = sum-more markedOne k mk b (T .marked-is) (mb .0 ∙ ap markedOne at);
-          bytes-is = sum-more markedSize k by d (T .bytes-is) (sd .0 ∙ ap markedSize at);
+          flying-is = sum-more flyingOne k fl a (T .flying-is) (fa .0 ∙ ap flyingOne here);
+          marked-is = sum-more markedOne k mk b (T .marked-is) (mb .0 ∙ ap markedOne here);
+          bytes-is = sum-more markedSize k by d (T .bytes-is) (sd .0 ∙ ap markedSize here);
           flying-few = omega (arith, T .flying-few);
           marked-few = omega (arith, T .marked-few);
           bytes-few = omega (arith, T .bytes-few);
-        }
+        })
 
-    -- one slot more behind them
-    pub rest-more : (s t : Bool) → s ≡ allTo (slotOk mtu clock r low n) k → n ≤ k → t ≡ isZero x → (s && t) ≡ allTo (slotOk mtu clock r low n) (k + 1)
+    -- behind the packets
+    pub rest-more : (s t : Bool) → s ≡ allTo (slotOk mtu clock r low n) (i - low) → n ≤ i - low → t ≡ isZero x
+        → (s && t) ≡ allTo (slotOk mtu clock r low n) (i + 1 - low)
     rest-more s t e h zero =
-        rw (e, zero, at) (ap (λ (q : Bool). allTo (slotOk mtu clock r low n) k && q) (sym (slot-zero mtu clock r low n k h)))
-        ∙ sym (all-more (slotOk mtu clock r low n) k)
+        let k = i - low in
+        rw next
+        (rw (e, zero, here) (ap (λ (q : Bool). allTo (slotOk mtu clock r low n) k && q) (sym (slot-zero mtu clock r low n k h)))
+        ∙ sym (all-more (slotOk mtu clock r low n) k))
 
   pub tally-all : (k : ℕ) (s : Bool) (fl mk by : ℕ) → Tallying mtu clock r low n k s fl mk by → n ≤ k → Tallied mtu clock r low n s fl mk by
   tally-all k s fl mk by T h =
@@ -431,6 +446,63 @@ module _ (mtu clock : ℕ) (r : Ring) (low n : ℕ) where
         marked-is = T .marked-is ∙ ap (λ (m : ℕ). sumOf markedOne (queueOf r low m)) e;
         bytes-is = T .bytes-is ∙ ap (λ (m : ℕ). sumOf markedSize (queueOf r low m)) e;
       }
+
+-- n packets from low's slot on, whose number is a PSN with the same slots
+module _ (mtu clock : ℕ) (r : Ring) (C : Cap (capOf r)) (low : ℕ) where
+  slots-low : (n : ℕ) → slotOk mtu clock r (low % capOf r) n ≡ slotOk mtu clock r low n
+  unfolding slotOk
+  slots-low n =
+      fun-ext
+      (λ k.
+      ap (λ (p : ℕ). let x = packetAt r p in ifLt k n (isLive mtu clock x) (isZero x)) (place-low (capOf r) C low k))
+
+  queue-low : (n : ℕ) → queueOf r (low % capOf r) n ≡ queueOf r low n
+  unfolding queueOf
+  queue-low n = ap (λ (f : ℕ → Packet). tabulate f n) (fun-ext (λ k. ap (packetAt r) (place-low (capOf r) C low k)))
+
+  pub tally-low : (a m n : ℕ) (s : Bool) (x y z : ℕ) → a ≡ low % capOf r → m ≡ n → Tallied mtu clock r a m s x y z → Tallied mtu clock r low n s x y z
+  tally-low a m n s x y z ea em T =
+      let U : Tallied mtu clock r (low % capOf r) n s x y z = rw (ea, em) at T in
+      record {
+        sound-is = U .sound-is ∙ ap (λ (f : ℕ → Bool). allTo f n) (slots-low n);
+        flying-is = U .flying-is ∙ ap (sumOf flyingOne) (queue-low n);
+        marked-is = U .marked-is ∙ ap (sumOf markedOne) (queue-low n);
+        bytes-is = U .bytes-is ∙ ap (sumOf markedSize) (queue-low n);
+      }
+
+-- two stretches of packets, the second of which begins where the first ends
+module _ (mtu clock : ℕ) (r : Ring) (low a j m : ℕ) (on : (k : ℕ) → placeOf (capOf r) a k ≡ placeOf (capOf r) low (j + k)) where
+  sum-join : (adds : Packet → ℕ) (x y : ℕ) → x ≡ sumOf adds (queueOf r low j) → y ≡ sumOf adds (queueOf r a m)
+      → x + y ≡ sumOf adds (queueOf r low (j + m))
+  sum-join adds x y e f = rw (queue-join r low a j m on, e, f) (sym (sum-append adds (queueOf r low j) (queueOf r a m)))
+
+  pub tally-join : (n : ℕ) (s t : Bool) (x y z u v w : ℕ) → n ≡ j + m → Tallied mtu clock r low j s x y z → Tallied mtu clock r a m t u v w
+      → Tallied mtu clock r low n (s && t) (x + u) (y + v) (z + w)
+  tally-join n s t x y z u v w e T U =
+      rw e (record {
+        sound-is =
+            rw (T .sound-is, U .sound-is)
+            (sym (all-join (slotOk mtu clock r low (j + m)) (slotOk mtu clock r low j) (slotOk mtu clock r a m) j m
+            (λ k l. slot-live mtu clock r low (j + m) k (omega arith) ∙ sym (slot-live mtu clock r low j k l))
+            (λ k l.
+            slot-live mtu clock r low (j + m) (j + k) (omega arith)
+            ∙ ap (λ (p : ℕ). isLive mtu clock (packetAt r p)) (sym (on k))
+            ∙ sym (slot-live mtu clock r a m k l))));
+        flying-is = sum-join flyingOne x u (T .flying-is) (U .flying-is);
+        marked-is = sum-join markedOne y v (T .marked-is) (U .marked-is);
+        bytes-is = sum-join markedSize z w (T .bytes-is) (U .bytes-is);
+      })
+
+  -- a stretch of slots behind the n packets
+  pub rest-join : (n : ℕ) (s t : Bool) → n ≤ j → s ≡ allTo (slotOk mtu clock r low n) j → t ≡ allTo (slotOk 0 0 r a 0) m
+      → (s && t) ≡ allTo (slotOk mtu clock r low n) (j + m)
+  rest-join n s t h e f =
+      rw (e, f)
+      (sym (all-join (slotOk mtu clock r low n) (slotOk mtu clock r low n) (slotOk 0 0 r a 0) j m (λ k l. refl)
+      (λ k l.
+      slot-zero mtu clock r low n (j + k) (omega arith)
+      ∙ ap (λ (p : ℕ). isZero (packetAt r p)) (sym (on k))
+      ∙ sym (slot-zero 0 0 r a 0 k (omega arith)))))
 
 -- ---- the test of the ledger, as it is made
 

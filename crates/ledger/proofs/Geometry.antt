@@ -6,7 +6,7 @@ use mathlib.Core.Bool.{Bool, true, false, _||_}
 use mathlib.Core.Logic.{_⊎_, inl, inr, ⊎-elim, by-cases}
 use mathlib.Core.List.{List, [], _∷_, _++_}
 use Prim.Native.Nat.{ℕ, suc, _+_, _-_, _^_, _%_, _≤_, _<_}
-use native.Mathlib.Nat.{mod-eq-of-lt, mod-eq-sub-mod, mod-lt, mod-add-mod, mod-mod-of-dvd, dvd-of-mod-eq-zero, add-mod-right, add-zero, add-assoc}
+use native.Mathlib.Nat.{mod-eq-of-lt, mod-eq-sub-mod, mod-lt, mod-mod, mod-add-mod, mod-mod-of-dvd, dvd-of-mod-eq-zero, add-mod-right, add-zero, add-assoc}
 use native.Mathlib.Decide.{decLe}
 use native.Mathlib.Omega.{arith}
 use lib.ListN.{length, getD, set, length-set, length-append, List·getD-append, List·getD-eq-default}
@@ -22,7 +22,7 @@ use Rattle.ledger.specs.Ring.{Ring, ring, packetAt, putAt, placeOf, ageO
 use Rattle.ledger.specs.Coherent.{isCapacity, Even}
 use Rattle.ledger.specs.declared.Packet.{Packet}
 use Rattle.ledger.specs.declared.Flow.{Flow}
-use Rattle.ledger.proofs.Walks.{length-tabulate, getD-tabulate, tabulate-more}
+use Rattle.ledger.proofs.Walks.{length-tabulate, getD-tabulate, tabulate-more, tabulate-join}
 
 -- ---- capacities
 
@@ -147,6 +147,33 @@ module _ (cap : ℕ) (C : Cap cap) (low : ℕ) where
       ext-getD 0 xs ys (ex ∙ sym ey)
       (λ i l. subst (λ (i : ℕ). getD xs i 0 ≡ getD ys i 0) (place-age i (omega arith)) (h (ageOf cap low i) (age-lt i)))
 
+-- A slot's number is a PSN that lives in it.
+module _ (cap : ℕ) (C : Cap cap) (low : ℕ) where
+  pub place-low : (k : ℕ) → placeOf cap (low % cap) k ≡ placeOf cap low k
+  place-low k = place-flat cap C (low % cap) k ∙ ap (λ (x : ℕ). (x + k) % cap) (mod-mod low cap) ∙ sym (place-flat cap C low k)
+
+  -- slot a lies j after that of low, or j less once round the ring: the packets from a on are those from j after low on
+  place-same : (a j : ℕ) → a % cap ≡ (low % cap + j) % cap → (k : ℕ) → placeOf cap a k ≡ placeOf cap low (j + k)
+  place-same a j e k =
+      place-flat cap C a k
+      ∙ ap (λ (x : ℕ). (x + k) % cap) e
+      ∙ mod-add-mod (low % cap + j) cap k
+      ∙ ap (λ (x : ℕ). x % cap) (add-assoc (low % cap) j k)
+      ∙ sym (place-flat cap C low (j + k))
+
+  pub place-on : (a j : ℕ) → a ≡ low % cap + j → (k : ℕ) → placeOf cap a k ≡ placeOf cap low (j + k)
+  place-on a j e = place-same a j (ap (λ (x : ℕ). x % cap) e)
+
+  pub place-over : (a j : ℕ) → a + cap ≡ low % cap + j → (k : ℕ) → placeOf cap a k ≡ placeOf cap low (j + k)
+  place-over a j e = place-same a j (sym (add-mod-right a cap) ∙ ap (λ (x : ℕ). x % cap) e)
+
+-- within the ring, slot i is that of the packet i - from after slot from
+pub place-in : (cap from i : ℕ) → from ≤ i → i < cap → cap ≤ 4096 → placeOf cap from (i - from) ≡ i
+unfolding placeOf plus
+place-in cap from i h l s =
+    let e : from + (i - from) ≡ i = omega arith in
+    rw e (ap (λ (x : ℕ). x % cap) (mod-eq-of-lt {m = psns} (omega arith)) ∙ mod-eq-of-lt l)
+
 -- ---- the queue that a ring holds
 
 pub queue-long : (r : Ring) (low n : ℕ) → length (queueOf r low n) ≡ n
@@ -161,6 +188,12 @@ queue-at r low n k h = getD-tabulate (λ k. packetAt r (placeOf (length (r .stat
 pub queue-more : (r : Ring) (low n : ℕ) → queueOf r low (n + 1) ≡ queueOf r low n ++ (packetAt r (placeOf (capOf r) low n) ∷ [])
 unfolding queueOf
 queue-more r low n = tabulate-more (λ k. packetAt r (placeOf (length (r .status)) low k)) n
+
+-- two stretches, the second of which begins where the first ends
+pub queue-join : (r : Ring) (low a j m : ℕ) → ((k : ℕ) → placeOf (capOf r) a k ≡ placeOf (capOf r) low (j + k))
+    → queueOf r low (j + m) ≡ queueOf r low j ++ queueOf r a m
+unfolding queueOf
+queue-join r low a j m on = tabulate-join _ _ j m (λ k. ap (packetAt r) (sym (on k)))
 
 -- behind the n packets there is none
 pub queue-past : (r : Ring) (low n k : ℕ) → n ≤ k → getD (queueOf r low n) k none ≡ none

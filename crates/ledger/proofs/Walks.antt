@@ -1,11 +1,11 @@
 -- Laws of walks: a test at each of the first n numbers, what the packets of a queue add up to, a table of a function's values.
 -- Assumes nothing.
 use mathlib.Core.Path.{_≡_, refl, sym, ap, subst}
-use mathlib.Core.Bool.{Bool, true, _&&_}
+use mathlib.Core.Bool.{Bool, true, _&&_, and-true, and-assoc}
 use mathlib.Core.Logic.{⊎-elim}
-use mathlib.Core.List.{List, [], _∷_, _++_}
+use mathlib.Core.List.{List, [], _∷_, _++_, append-nil, append-assoc}
 use Prim.Native.Nat.{ℕ, zero, suc, _+_, _*_, _≤_, _<_, zero-le}
-use native.Mathlib.Nat.{le-refl, le-of-suc-le-suc, not-suc-le-zero, eq-or-lt-of-le, suc-mul}
+use native.Mathlib.Nat.{add-zero, add-suc, le-refl, le-of-suc-le-suc, not-suc-le-zero, eq-or-lt-of-le, suc-mul}
 use native.Mathlib.Omega.{arith}
 use native.Mathlib.Numerals.{add-one}
 use lib.ListN.{length, getD, set}
@@ -38,6 +38,20 @@ module _ (f : ℕ → Bool) where
   unfolding allTo
   all-of zero h = refl
   all-of (suc n) h = whole (all-of n (λ k l. h k (omega arith))) (h n (le-refl (suc n)))
+
+-- a test that agrees at each of them
+all-same : (f g : ℕ → Bool) (n : ℕ) → ((k : ℕ) → k < n → f k ≡ g k) → allTo f n ≡ allTo g n
+unfolding allTo
+all-same f g zero h = refl
+all-same f g (suc n) h = rw (all-same f g n (λ k l. h k (omega arith)), h n (le-refl (suc n)))
+
+-- the test over j + m is one over the first j and one over the m behind them
+pub all-join : (f g h : ℕ → Bool) (j m : ℕ) → ((k : ℕ) → k < j → f k ≡ g k) → ((k : ℕ) → k < m → f (j + k) ≡ h k)
+    → allTo f (j + m) ≡ (allTo g j && allTo h m)
+unfolding allTo
+all-join f g h j zero a b = rw (add-zero, and-true) (all-same f g j a)
+all-join f g h j (suc m) a b =
+    rw (add-suc, all-join f g h j m a (λ k l. b k (omega arith)), b m (le-refl (suc m))) (and-assoc (allTo g j) (allTo h m) (h m))
 
 -- ---- what the packets of a queue add up to
 
@@ -95,3 +109,10 @@ module _ {A : Type 0} where
 
   pub tabulate-more : (f : ℕ → A) (n : ℕ) → tabulate f (n + 1) ≡ tabulate f n ++ (f n ∷ [])
   tabulate-more f n = rw (add-one n) (table-suc f n)
+
+  -- a table of j + m values is one of the first j and one of the m behind them
+  pub tabulate-join : (f g : ℕ → A) (j m : ℕ) → ((k : ℕ) → f (j + k) ≡ g k) → tabulate f (j + m) ≡ tabulate f j ++ tabulate g m
+  unfolding tabulate
+  tabulate-join f g j zero h = rw (add-zero, append-nil) refl
+  tabulate-join f g j (suc m) h =
+      rw (add-suc, table-suc f (j + m), table-suc g m, tabulate-join f g j m h, h m) (append-assoc (tabulate f j) (tabulate g m) (g m ∷ []))

@@ -1,13 +1,12 @@
 // Whether the ledger holds together: its part of refusal 2.
 use crate::Books;
 use crate::Packet;
-use crate::slots::after;
 use crate::slots::long;
 use crate::slots::place;
 use crate::slots::read;
 ghost use mathlib.Core.Path.{_≡_};
 ghost use mathlib.Core.Bool.{true};
-ghost use Prim.Native.Nat.{_<_, _≤_};
+ghost use Prim.Native.Nat.{_-_, _*_, _^_, _≤_};
 ghost use Rattle.ledger.specs.Packets.{flyingOne, markedOne, markedSize};
 ghost use Rattle.ledger.specs.Bounds.{inBounds};
 ghost use Rattle.ledger.specs.Ring.{ring, ledger, capOf};
@@ -76,7 +75,45 @@ fn marked_size(x: Packet) -> u64
     }
 }
 
-// The n packets from low on.
+// The slots from..to-1 as packets. They lie beside each other: no wrap in the loop, so that the compiler can take several at a time. "PSN p lives at
+// p mod capacity", so that slot i is that of PSN i, and these are the packets from PSN `from` on.
+fn run<'a>(
+    status: &'a [u8],
+    size: &'a [u32],
+    sent: &'a [u64],
+    resent: &'a [u8],
+    mtu: u64,
+    clock: u64,
+    from: usize,
+    to: usize,
+) -> Sums
+    requires { ⌜ Even (ring (now status) (now size) (now sent) (now resent)) ⌝ }
+    requires { ⌜ (from ≤ to) × (to ≤ capOf (ring (now status) (now size) (now sent) (now resent))) ⌝ }
+    ensures { λ r. ⌜ Tallied mtu clock (ring (now (status .entry)) (now (size .entry)) (now (sent .entry)) (now (resent .entry))) from (to - from) (r .sound) (r .flying) (r .marked) (r .«marked_bytes») ⌝ }
+    ensures { λ r. ⌜ (r .flying ≤ 4096) × (r .marked ≤ 4096) × (r .«marked_bytes» ≤ 4096 * 2 ^ 32) ⌝ }
+{
+    let mut sound = true;
+    let mut flying: u32 = 0;
+    let mut marked: u32 = 0;
+    let mut marked_bytes: u64 = 0;
+    let mut i = from;
+    while i < to {
+        let x = read(status, size, sent, resent, i);
+        i += 1;
+        sound = sound & is_live(mtu, clock, x);
+        flying += flying_one(x);
+        marked += marked_one(x);
+        marked_bytes += marked_size(x);
+    }
+    Sums {
+        sound,
+        flying,
+        marked,
+        marked_bytes,
+    }
+}
+
+// The n packets from low on: one run of slots, or one up to the ring's end and one from its start on.
 fn tally<'a>(
     status: &'a [u8],
     size: &'a [u32],
@@ -93,30 +130,45 @@ fn tally<'a>(
     ensures { λ r. ⌜ Tallied mtu clock (ring (now (status .entry)) (now (size .entry)) (now (sent .entry)) (now (resent .entry))) low n (r .sound) (r .flying) (r .marked) (r .«marked_bytes») ⌝ }
 {
     let cap = status.len();
-    let mut sound = true;
-    let mut flying: u32 = 0;
-    let mut marked: u32 = 0;
-    let mut marked_bytes: u64 = 0;
-    let mut i = place(cap, low);
-    let mut k: u32 = 0;
-    while k < n {
-        let x = read(status, size, sent, resent, i);
-        k += 1;
-        sound = sound & is_live(mtu, clock, x);
-        flying += flying_one(x);
-        marked += marked_one(x);
-        marked_bytes += marked_size(x);
-        i = after(cap, i);
+    let i = place(cap, low);
+    let end = i + n as usize;
+    if end <= cap {
+        return run(status, size, sent, resent, mtu, clock, i, end);
     }
+    let a = run(status, size, sent, resent, mtu, clock, i, cap);
+    let b = run(status, size, sent, resent, mtu, clock, 0, end - cap);
     Sums {
-        sound,
-        flying,
-        marked,
-        marked_bytes,
+        sound: a.sound & b.sound,
+        flying: a.flying + b.flying,
+        marked: a.marked + b.marked,
+        marked_bytes: a.marked_bytes + b.marked_bytes,
     }
 }
 
-// The slots behind the n packets from low on; `sound`: those before are in order.
+// Whether the slots from..to-1 are all zero, as those of no packets from PSN `from` on; walked to the end also where one is not, for the same reason.
+fn zero_run<'a>(
+    status: &'a [u8],
+    size: &'a [u32],
+    sent: &'a [u64],
+    resent: &'a [u8],
+    from: usize,
+    to: usize,
+) -> bool
+    requires { ⌜ Even (ring (now status) (now size) (now sent) (now resent)) ⌝ }
+    requires { ⌜ (from ≤ to) × (to ≤ capOf (ring (now status) (now size) (now sent) (now resent))) ⌝ }
+    ensures { λ r. ⌜ r ≡ allTo (slotOk 0 0 (ring (now (status .entry)) (now (size .entry)) (now (sent .entry)) (now (resent .entry))) from 0) (to - from) ⌝ }
+{
+    let mut sound = true;
+    let mut i = from;
+    while i < to {
+        let x = read(status, size, sent, resent, i);
+        i += 1;
+        sound = sound & is_zero(x);
+    }
+    sound
+}
+
+// The slots behind the n packets from low on, in one run or in two; `sound`: those before are in order.
 fn rest<'a>(
     status: &'a [u8],
     size: &'a [u32],
@@ -135,16 +187,14 @@ fn rest<'a>(
     ensures { λ r. ⌜ r ≡ allTo (slotOk mtu clock (ring (now (status .entry)) (now (size .entry)) (now (sent .entry)) (now (resent .entry))) low n) (capOf (ring (now (status .entry)) (now (size .entry)) (now (sent .entry)) (now (resent .entry)))) ⌝ }
 {
     let cap = status.len();
-    let mut sound = sound;
-    let mut i = place(cap, serial::psn_plus(low, n));
-    let mut k = n as usize;
-    while k < cap {
-        let x = read(status, size, sent, resent, i);
-        k += 1;
-        sound = sound & is_zero(x);
-        i = after(cap, i);
+    let i = place(cap, low);
+    let end = i + n as usize;
+    if end <= cap {
+        return sound
+            & zero_run(status, size, sent, resent, end, cap)
+            & zero_run(status, size, sent, resent, 0, i);
     }
-    sound
+    sound & zero_run(status, size, sent, resent, end - cap, i)
 }
 
 // Whether low is not done while low and next differ.

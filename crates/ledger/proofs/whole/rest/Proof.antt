@@ -1,88 +1,69 @@
--- `rest` walks the slots behind the n packets; the invariant is that the slots before k are in order as far as `sound` says, and a turn is `rest-more`.
-use mathlib.Core.Path.{_≡_, sym, ap, _∙_}
-use Prim.Native.Nat.{ℕ, _+_, _-_, _%_, _≤_, _<_}
+-- `rest` takes the slots behind the packets in one run, or in two: up to the ring's end and from slot 0 on. Each adds its own (`rest-join`).
+use mathlib.Core.Path.{ap, _∙_}
+use Prim.Native.Nat.{_+_, _-_}
 use native.Mathlib.Omega.{arith}
-use lib.ListN.{length}
 use borrow.Author.Needs.{needs}
-use Rattle.ledger.specs.Ring.{ring, capOf, packetAt, placeOf}
-use Rattle.ledger.specs.Coherent.{allTo, slotOk}
-use Rattle.ledger.proofs.Geometry.{cap-facts, place-next}
-use Rattle.ledger.proofs.Facts.{rest-more}
+use Rattle.ledger.specs.Ring.{ring, capOf}
+use Rattle.ledger.specs.Coherent.{allTo}
+use Rattle.ledger.proofs.Geometry.{cap-facts, place-on, place-over}
+use Rattle.ledger.proofs.Facts.{rest-join}
 use Rattle.ledger.proofs.whole.rest.Statement.{statement}
 use Rattle.ledger.proofs.whole.rest.Tie as tie
 
-abbrev Inv-loop : tie.InvT-loop
-Inv-loop status size sent resent mtu clock low n sound cap sound₀ i₀ k₀ sound' i k =
-    (n ≤ k) × (k ≤ cap) × (sound' ≡ allTo (slotOk mtu clock (ring status size sent resent) low n) k) × (i ≡ placeOf (length status) low k)
-    × (i < length status)
-
-abbrev μ-loop : tie.MeasureT-loop
-μ-loop status size sent resent mtu clock low n sound cap sound₀ i₀ k₀ sound' i k = cap - k
-
-psn-plus-requires : tie.Need-psn-plus-requires Inv-loop μ-loop
-psn-plus-requires c κs = search needs
-
-place-requires : tie.Need-place-requires Inv-loop μ-loop
+place-requires : tie.Need-place-requires
 place-requires c κs = search needs
 
-loop-holds : tie.Need-loop-holds Inv-loop μ-loop
-unfolding placeOf
-loop-holds c =
-    let s = c .before .before .before .before .before .before in (
-      search needs,
-      search needs,
-      s .pre .1 .1 .1,
-      c .place .ensures .0 ∙ ap (λ (p : ℕ). p % length (s .args .status .now)) (c .before .psn-plus .ensures),
-      c .place .ensures .1,
-    )
+add-end : tie.Need-add-end
+add-end c = search needs
 
-read-requires : tie.Need-read-requires Inv-loop μ-loop
-read-requires c κs = search needs
+zero-run-requires : tie.Need-zero-run-requires
+zero-run-requires c κs = search needs
 
-add-k : tie.Need-add-k Inv-loop μ-loop
-add-k c = omega arith
+zero-run-requires-2 : tie.Need-zero-run-requires-2
+zero-run-requires-2 c κs = search needs
 
-is-zero-requires : tie.Need-is-zero-requires Inv-loop μ-loop
-is-zero-requires c κs = search needs
-
-after-requires : tie.Need-after-requires Inv-loop μ-loop
-after-requires c κs = search needs
-
-loop-less : tie.Need-loop-less Inv-loop μ-loop
-loop-less c = omega arith
-
-loop-again : tie.Need-loop-again Inv-loop μ-loop
-loop-again c =
-    let b = c .before .before .before .before in
-    let s = b .before .before .before .before .before .before .before in
+returns : tie.Need-returns
+returns c =
+    let p = c .before .before .before in
+    let s = p .before .before .before .before .before in
     let a = s .args in
     let r = ring (a .status .now) (a .size .now) (a .sent .now) (a .resent .now) in
     let C = cap-facts (capOf r) (s .pre .1 .1 .0) in
-    let x = c .before .before .read .result in
-    let at : x ≡ packetAt r (placeOf (capOf r) (a .low) (b .loop .k)) = c .before .before .read .ensures ∙ ap (packetAt r) (b .loop .inv .3) in (
-      omega arith,
-      omega arith,
-      rest-more (a .mtu) (a .clock) r (a .low) (a .n) (b .loop .k) x at _ _ (b .loop .inv .2) (b .loop .inv .0) (c .before .is-zero .ensures),
-      c .after .ensures .0 ∙ ap (λ (p : ℕ). (p + 1) % capOf r) (b .loop .inv .3) ∙ sym (place-next (capOf r) C (a .low) (b .loop .k)),
-      c .after .ensures .1,
-    )
+    let end = p .place .result + a .n in
+    let j = a .n + (capOf r - end) in
+    rest-join (a .mtu) (a .clock) r (a .low) 0 j _ (place-over (capOf r) C (a .low) 0 j (omega arith)) (a .n) _ _ (omega arith)
+    (rest-join (a .mtu) (a .clock) r (a .low) end (a .n) _ (place-on (capOf r) C (a .low) end (a .n) (omega arith)) (a .n) _ _ (omega arith)
+    (s .pre .1 .1 .1) (c .before .zero-run .ensures))
+    (c .zero-run2 .ensures)
+    ∙ ap (allTo _) (omega arith)
 
-returns : tie.Need-returns Inv-loop μ-loop
-returns c = c .before .loop .inv .2 ∙ ap (allTo _) (omega arith)
+sub-zero-run : tie.Need-sub-zero-run
+sub-zero-run c = search needs
+
+zero-run-requires-3 : tie.Need-zero-run-requires-3
+zero-run-requires-3 c κs = search needs
+
+returns-2 : tie.Need-returns-2
+returns-2 c =
+    let p = c .before .before in
+    let s = p .before .before .before .before .before in
+    let a = s .args in
+    let r = ring (a .status .now) (a .size .now) (a .sent .now) (a .resent .now) in
+    let C = cap-facts (capOf r) (s .pre .1 .1 .0) in
+    let from = p .place .result + a .n - capOf r in
+    rest-join (a .mtu) (a .clock) r (a .low) from (a .n) _ (place-over (capOf r) C (a .low) from (a .n) (omega arith)) (a .n) _ _ (omega arith)
+    (s .pre .1 .1 .1) (c .zero-run3 .ensures)
+    ∙ ap (allTo _) (omega arith)
 
 pub rest-spec : {M : Type 1} → statement M
 rest-spec =
     tie.close
     (tie.spec
-    Inv-loop
-    μ-loop
-    psn-plus-requires
     place-requires
-    loop-holds
-    read-requires
-    add-k
-    is-zero-requires
-    after-requires
-    loop-less
-    loop-again
-    returns)
+    add-end
+    zero-run-requires
+    zero-run-requires-2
+    returns
+    sub-zero-run
+    zero-run-requires-3
+    returns-2)
