@@ -3,6 +3,7 @@ pub mod Walks
 pub mod Geometry
 pub mod Facts
 pub mod Queues
+pub mod Settling
 pub mod Covering
 pub mod Retiring
 pub mod Acked

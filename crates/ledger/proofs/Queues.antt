@@ -106,10 +106,6 @@ module _ (cov : ℕ → Bool) where
   coverTo p (suc k) [] = []
   coverTo p (suc k) (x ∷ xs) = coverOne (cov p) x ∷ coverTo (plus p 1) k xs
 
-  pub to-none : (p : ℕ) (xs : List Packet) → coverTo p 0 xs ≡ xs
-  unfolding coverTo
-  to-none p xs = refl
-
   pub to-long : (p k : ℕ) (xs : List Packet) → length (coverTo p k xs) ≡ length xs
   unfolding coverTo
   to-long p zero xs = refl
@@ -195,7 +191,7 @@ module _ (adds : Packet → ℕ) (z : OfOut adds) where
   spared-adds false x e = refl
 
   -- what a covered packet adds leaves
-  cover-adds : (hit : Bool) (x : Packet) → adds (coverOne hit x) + ifSo hit (adds x) 0 ≡ adds x
+  pub cover-adds : (hit : Bool) (x : Packet) → adds (coverOne hit x) + ifSo hit (adds x) 0 ≡ adds x
   unfolding ifSo
   cover-adds false x = ap (λ (y : Packet). adds y + 0) (cover-no x) ∙ add-zero (adds x)
   cover-adds true x = go (isOut x) refl
@@ -224,10 +220,6 @@ module _ (adds : Packet → ℕ) (z : OfOut adds) where
 -- ---- what the first k packets of a queue have of it that is covered
 
 module _ (adds : Packet → ℕ) (cov : ℕ → Bool) where
-  pub taken-none : (p : ℕ) (xs : List Packet) → coveredSum adds cov p (take 0 xs) ≡ 0
-  unfolding coveredSum
-  taken-none p xs = refl
-
   pub taken-more : (p k : ℕ) (xs : List Packet) → p < psns → k < length xs
       → coveredSum adds cov p (take (k + 1) xs) ≡ coveredSum adds cov p (take k xs) + ifSo (cov (plus p k)) (adds (getD xs k none)) 0
   unfolding coveredSum

@@ -20,7 +20,7 @@ ghost use Rattle.ledger.specs.Ring.{ring, ledger};
 ghost use Rattle.ledger.specs.Coherent.{Coheres};
 ghost use Rattle.ledger.specs.Steps.{heldOf, ackedOf};
 ghost use Rattle.ledger.specs.Rows.{ackRows};
-ghost use Rattle.ledger.specs.Delivery.{Laid, Cover, Covered, Retired};
+ghost use Rattle.ledger.specs.Delivery.{Laid, Cover, Covered, Run, Spent, Onward, Retired};
 
 // Whether an ACK delivers a packet: "Covered flying or marked packets become done". The status is asked first: most slots of a walk are done, and
 // coverage need not be worked out for them.
@@ -33,7 +33,61 @@ fn delivers(status: u8, cum: u32, map: u64, psn: u32) -> bool
     false
 }
 
-// The first `reach` packets from low on are looked at; the ACK covers none beyond. What is covered leaves the totals.
+// The packets in the slots from..to-1, which lie beside each other; the first comes k after low. What is covered leaves the totals. Of the packets
+// before the run none is to be delivered, and after it none of its own; what then covers the rest covers all.
+fn cover_run<'a, 'b>(
+    status: &'a mut [u8],
+    size: &'b [u32],
+    sent: &'b [u64],
+    resent: &'b [u8],
+    flow: Flow,
+    reach: u32,
+    k: u32,
+    from: usize,
+    to: usize,
+    cum: u32,
+    map: u64,
+    totals: Totals,
+) -> Totals
+    requires { ⌜ Cover (ledger flow totals (ring (now status) (now size) (now sent) (now resent))) reach cum map ⌝ }
+    requires { ⌜ Run (ledger flow totals (ring (now status) (now size) (now sent) (now resent))) reach k from to ⌝ }
+    requires { ⌜ Spent (ledger flow totals (ring (now status) (now size) (now sent) (now resent))) cum map k ⌝ }
+    ensures { λ r. ⌜ Cover (ledger flow r (ring (now (status .exit)) (now (size .entry)) (now (sent .entry)) (now (resent .entry)))) reach cum map ⌝ }
+    ensures { λ r. ⌜ Spent (ledger flow r (ring (now (status .exit)) (now (size .entry)) (now (sent .entry)) (now (resent .entry)))) cum map (k + (to - from)) ⌝ }
+    ensures { λ r. ⌜ Onward (ledger flow totals (ring (now (status .entry)) (now (size .entry)) (now (sent .entry)) (now (resent .entry)))) (ledger flow r (ring (now (status .exit)) (now (size .entry)) (now (sent .entry)) (now (resent .entry)))) cum map ⌝ }
+{
+    let mut flying = totals.flying;
+    let mut marked = totals.marked;
+    let mut marked_bytes = totals.marked_bytes;
+    let mut i = from;
+    while i < to {
+        let s = status[i];
+        if delivers(
+            s,
+            cum,
+            map,
+            serial::psn_plus(flow.low, k + (i - from) as u32),
+        ) {
+            if s == crate::MARKED {
+                marked -= 1;
+                marked_bytes -= size[i] as u64;
+            } else {
+                flying -= 1;
+            }
+            status[i] = crate::DONE;
+        }
+        i += 1;
+    }
+    Totals {
+        flying,
+        marked,
+        marked_bytes,
+        in_flight: totals.in_flight,
+    }
+}
+
+// The first `reach` packets from low on are looked at; the ACK covers none beyond. What is covered leaves the totals. The slots from that of low to
+// the ring's end are one run, those from slot 0 on the other: no index wraps in a loop.
 fn cover<'a, 'b>(
     status: &'a mut [u8],
     size: &'b [u32],
@@ -49,31 +103,52 @@ fn cover<'a, 'b>(
     ensures { λ r. ⌜ Covered (ledger flow totals (ring (now (status .entry)) (now (size .entry)) (now (sent .entry)) (now (resent .entry)))) cum map r (ring (now (status .exit)) (now (size .entry)) (now (sent .entry)) (now (resent .entry))) ⌝ }
 {
     let cap = status.len();
-    let mut flying = totals.flying;
-    let mut marked = totals.marked;
-    let mut marked_bytes = totals.marked_bytes;
-    let mut i = place(cap, flow.low);
-    let mut k: u32 = 0;
-    while k < reach {
-        let s = status[i];
-        if delivers(s, cum, map, serial::psn_plus(flow.low, k)) {
-            if s == crate::MARKED {
-                marked -= 1;
-                marked_bytes -= size[i] as u64;
-            } else {
-                flying -= 1;
-            }
-            status[i] = crate::DONE;
-        }
-        k += 1;
-        i = after(cap, i);
+    let i = place(cap, flow.low);
+    let end = i + reach as usize;
+    if end <= cap {
+        return cover_run(
+            status,
+            size,
+            sent,
+            resent,
+            flow,
+            reach,
+            0,
+            i,
+            end,
+            cum,
+            map,
+            totals,
+        );
     }
-    Totals {
-        flying,
-        marked,
-        marked_bytes,
-        in_flight: totals.in_flight,
-    }
+    let left = cover_run(
+        status,
+        size,
+        sent,
+        resent,
+        flow,
+        reach,
+        0,
+        i,
+        cap,
+        cum,
+        map,
+        totals,
+    );
+    cover_run(
+        status,
+        size,
+        sent,
+        resent,
+        flow,
+        reach,
+        (cap - i) as u32,
+        0,
+        end - cap,
+        cum,
+        map,
+        left,
+    )
 }
 
 // The done packets at the front leave the ring, at most n; how many.

@@ -1,142 +1,115 @@
--- `deliver::cover` meets its contract: the loop's invariant is `Inv` of proofs/Covering, whose laws give its start, a turn and what it leaves.
-use mathlib.Core.Path.{_∙_}
-use mathlib.Core.Logic.{⊎-elim}
-use Prim.Native.Nat.{_-_, _<_}
+-- `deliver::cover` meets its contract: by the laws of proofs/Covering, from what its runs leave.
+use mathlib.Core.Path.{_≡_}
+use Prim.Native.Nat.{_<_, _≤_, zero-le}
 use native.Mathlib.Omega.{arith}
+use native.Mathlib.Nat.{not-suc-le-zero}
 use borrow.Author.Needs.{needs}
-use mir.Facts.{toZ-ofZ}
+use lib.ListN.{length}
 use Rattle.serial.specs.Psn.{psns}
-use Rattle.ledger.specs.Ring.{ledger, ring}
 use Rattle.ledger.proofs.Covering as covering
 use Rattle.ledger.proofs.deliver.cover.Statement.{statement}
 use Rattle.ledger.proofs.deliver.cover.Tie as tie
 
-abbrev Inv-loop : tie.InvT-loop
-Inv-loop status₀ size sent resent flow reach cum map totals cap flying₀ marked₀ marked-bytes₀ i₀ k₀ status flying marked marked-bytes i k =
-    covering.Inv (ledger flow totals (ring status₀ size sent resent)) reach cum map status flying marked marked-bytes i k
+-- from the place after `place` back to the entry
+abbrev entry : tie.After-place → tie.Start
+entry v = v .before .before .before .before .before
 
-abbrev μ-loop : tie.MeasureT-loop
-μ-loop status₀ size sent resent flow reach cum map totals cap flying₀ marked₀ marked-bytes₀ i₀ k₀ status flying marked marked-bytes i k =
-    reach - k
-
-low-fits : (s : tie.Start Inv-loop μ-loop) → s .args .flow .low < psns
+low-fits : (s : tie.Start) → s .args .flow .low < psns
 low-fits s = omega arith
 
-place-requires : tie.Need-place-requires Inv-loop μ-loop
+-- no more packets are looked at than the ring has slots, and those are few
+fits : (s : tie.Start) → (s .args .reach ≤ length (s .args .status .now)) × (length (s .args .status .now) ≤ 4096)
+fits s =
+    let P = s .pre in
+    (omega (arith, P .within, P .laid-out .fits), covering.caps P .most)
+
+place-requires : tie.Need-place-requires
 place-requires c κs = c .before .before .before .before .pre .laid-out .cap
 
-loop-holds : tie.Need-loop-holds Inv-loop μ-loop
-loop-holds c =
-    let s = c .before .before .before .before .before in
-    covering.starts (s .pre) (low-fits s) (c .place .ensures .0)
+add-end : tie.Need-add-end
+add-end c = omega (arith, fits (entry c) .0, fits (entry c) .1, c .place .ensures .1)
 
-slice-read-s : tie.Need-slice-read-s Inv-loop μ-loop
-slice-read-s c =
-    let l = c .before .before in
-    omega (arith, covering.status-long (l .loop .inv), covering.slot-lt (l .loop .inv))
+cover-run-requires : tie.Need-cover-run-requires
+cover-run-requires c κs =
+    let v = c .before .before in
+    let s = entry v in
+    (s .pre, ((covering.run-first (s .pre) (v .place .ensures .0) (low-fits s), omega arith, omega arith, omega arith), λ j l. absurd (not-suc-le-zero l)))
 
-psn-plus-requires : tie.Need-psn-plus-requires Inv-loop μ-loop
-psn-plus-requires c κs = tt
+same-length : tie.Need-same-length
+same-length c = search needs
 
-delivers-requires : tie.Need-delivers-requires Inv-loop μ-loop
-delivers-requires c κs = tt
+returns : tie.Need-returns
+returns c =
+    let r = c .before .before in
+    let s = entry (r .before .before .before) in
+    r .cover-run .ensures .1 .1 _ _
+    (covering.ends (r .cover-run .ensures .0) (low-fits s) (λ j l. r .cover-run .ensures .1 .0 j (omega arith)))
 
--- from the place after `delivers` back to the loop's test
-abbrev turn : tie.After-delivers Inv-loop μ-loop → tie.In-loop Inv-loop μ-loop
-turn d = d .before .before .before
+cover-run-requires-2 : tie.Need-cover-run-requires-2
+cover-run-requires-2 c κs =
+    let v = c .before .before in
+    let s = entry v in (
+      s .pre,
+      (
+        (covering.run-first (s .pre) (v .place .ensures .0) (low-fits s), omega (arith, v .place .ensures .1), omega arith, omega arith),
+        λ j l. absurd (not-suc-le-zero l),
+      ),
+    )
 
-sub-marked : tie.Need-sub-marked Inv-loop μ-loop
-sub-marked c =
-    let d = c .before .before in
-    covering.one-marked (turn d .before .loop .inv) (turn d .loop-test .taken) (d .before .psn-plus .ensures) (d .delivers .ensures)
-    (c .before .if1 .taken) (c .if2 .taken) .0
+sub-cover-run : tie.Need-sub-cover-run
+sub-cover-run c = search needs
 
-mul-marked-bytes : tie.Need-mul-marked-bytes Inv-loop μ-loop
-mul-marked-bytes c =
-    let l = turn (c .before .before) .before in
-    omega (arith, covering.slot-lt (l .loop .inv), covering.caps (l .loop .inv .pre) .most)
+cast-cover-run : tie.Need-cast-cover-run
+cast-cover-run c =
+    let s = entry (c .before .before .before .before .before .before) in
+    omega (arith, fits s .1)
 
-shared-slice-read-marked-bytes : tie.Need-shared-slice-read-marked-bytes Inv-loop μ-loop
-shared-slice-read-marked-bytes c =
-    let l = turn (c .before .before .before) .before in
-    omega (arith, covering.slot-lt (l .loop .inv), l .loop .inv .pre .laid-out .size)
+sub-cover-run-2 : tie.Need-sub-cover-run-2
+sub-cover-run-2 c = search needs
 
-cast-marked-bytes : tie.Need-cast-marked-bytes Inv-loop μ-loop
-cast-marked-bytes c = omega (arith, c .shared-slice-known4 .given (turn (c .before .before .before) .before .loop .i))
+cover-run-requires-3 : tie.Need-cover-run-requires-3
+cover-run-requires-3 c κs =
+    let q = c .before .before .before in
+    let v = q .before .before .before in
+    let s = entry v in
+    let same : length (q .cover-run2 .last .0) ≡ length (s .args .status .now) = search needs in (
+      q .cover-run2 .ensures .0,
+      (
+        (
+          covering.run-second (s .pre) (v .place .ensures .0) (v .place .ensures .1) same,
+          zero-le,
+          omega (arith, fits s .0, v .place .ensures .1),
+          omega (arith, v .place .ensures .1),
+        ),
+        λ j l. q .cover-run2 .ensures .1 .0 j (omega arith),
+      ),
+    )
 
-sub-marked-bytes : tie.Need-sub-marked-bytes Inv-loop μ-loop
-sub-marked-bytes c =
-    let d = c .before .before .before in
-    covering.its-bytes (turn d .before .loop .inv) (turn d .loop-test .taken) (d .before .psn-plus .ensures) (d .delivers .ensures)
-    (c .before .before .if1 .taken) (c .before .if2 .taken) .0
+same-length-2 : tie.Need-same-length-2
+same-length-2 c = search needs
 
-sub-flying : tie.Need-sub-flying Inv-loop μ-loop
-sub-flying c =
-    let d = c .before .before in
-    covering.one-flying (turn d .before .loop .inv) (turn d .loop-test .taken) (d .before .psn-plus .ensures) (d .delivers .ensures)
-    (c .before .if1 .taken) (c .if2 .left) .0
-
-slice-write-status : tie.Need-slice-write-status Inv-loop μ-loop
-slice-write-status c =
-    let l = turn (c .before .before) .before in
-    omega (arith, covering.status-long (l .loop .inv), covering.slot-lt (l .loop .inv))
-
-add-k : tie.Need-add-k Inv-loop μ-loop
-add-k c = omega arith
-
-after-requires : tie.Need-after-requires Inv-loop μ-loop
-after-requires c κs = covering.slot-lt (turn (c .before) .before .loop .inv)
-
-loop-less : tie.Need-loop-less Inv-loop μ-loop
-loop-less c = omega arith
-
-loop-again : tie.Need-loop-again Inv-loop μ-loop
-loop-again c =
-    let d = c .before .before in
-    let I = turn d .before .loop .inv in
-    let h = turn d .loop-test .taken in
-    let e = d .before .psn-plus .ensures in
-    let g = d .delivers .ensures in
-    ⊎-elim
-    (λ w.
-    covering.again I h e g (covering.ring-done I h e g (w .0 .taken) (w .2))
-    (⊎-elim
-    (λ v. covering.sums-marked I h e g (w .0 .taken) (v .0 .taken) (w .3 ∙ v .2) (w .4 ∙ v .3) (w .5 ∙ v .4))
-    (λ v. covering.sums-flying I h e g (w .0 .taken) (v .0 .left) (w .3 ∙ v .1) (w .4 ∙ v .2) (w .5 ∙ v .3))
-    (w .1 .came))
-    (c .after .ensures .0))
-    (λ w.
-    covering.again I h e g (covering.ring-passed I h e g (w .0 .left) (w .1)) (covering.sums-passed I h e g (w .0 .left) (w .2) (w .3) (w .4))
-    (c .after .ensures .0))
-    (c .before .if1 .came)
-
-same-length : tie.Need-same-length Inv-loop μ-loop
-same-length c = covering.status-long (c .before .before .loop .inv)
-
-returns : tie.Need-returns Inv-loop μ-loop
-returns c = covering.leaves (c .before .before .loop .inv) (c .before .loop-test .left) (toZ-ofZ (search (needs, c .struct-told .given)))
+returns-2 : tie.Need-returns-2
+returns-2 c =
+    let r = c .before .before in
+    let q = r .before .before .before .before in
+    let s = entry (q .before .before .before) in
+    q .cover-run2 .ensures .1 .1 _ _
+    (r .cover-run3 .ensures .1 .1 _ _
+    (covering.ends (r .cover-run3 .ensures .0) (low-fits s) (λ j l. r .cover-run3 .ensures .1 .0 j (omega arith))))
 
 pub cover-spec : {M : Type 1} → statement M
 cover-spec =
     tie.close
     (tie.spec
-    Inv-loop
-    μ-loop
     place-requires
-    loop-holds
-    slice-read-s
-    psn-plus-requires
-    delivers-requires
-    sub-marked
-    mul-marked-bytes
-    shared-slice-read-marked-bytes
-    cast-marked-bytes
-    sub-marked-bytes
-    sub-flying
-    slice-write-status
-    add-k
-    after-requires
-    loop-less
-    loop-again
+    add-end
+    cover-run-requires
     same-length
-    returns)
+    returns
+    cover-run-requires-2
+    sub-cover-run
+    cast-cover-run
+    sub-cover-run-2
+    cover-run-requires-3
+    same-length-2
+    returns-2)
