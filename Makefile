@@ -7,6 +7,9 @@ LOG = examples/worked.log
 # For how long `make fuzz` runs.
 SECONDS = 60
 
+# What the archive and the program are made of.
+SOURCES := crates.txt $(shell find crates -name must-fail -prune -o -type f -print)
+
 RUN = cargo run --release --quiet --offline --locked --manifest-path rust/Cargo.toml
 
 # Proves and builds the program where that is not done yet, and replays the log. What the proof says goes to target/run.log.
@@ -29,8 +32,8 @@ bench: target/staticlib/libexports.a
 	@tools/native-archive target/native >target/native.log 2>&1 || { cat target/native.log >&2; exit 1; }
 	@NSCC_ARCHIVE_DIR=$(CURDIR)/target/native $(RUN) -p bench
 
-target/staticlib/libexports.a:
+target/staticlib/libexports.a: $(SOURCES)
 	@rt staticlib exports
 
-target/bin/nscc:
+target/bin/nscc: $(SOURCES)
 	@rt check nscc
