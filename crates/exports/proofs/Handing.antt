@@ -1,24 +1,25 @@
--- What a replay over lent words hands back, from what its parts gave: 2 by a test of what was lent (`wrong-place`, `wrong-words`, `wrong-flag`); else what the batch
--- gave, with nothing stored where it was refused (`batch-refused`), or the place, and the state or not (`state-stored`, `state-left`). And the place's words.
+-- What a replay over lent words hands back, from what its parts gave: 2 where what was lent is wrong (`lent-wrong`), else what the batch gave (`handed-back`).
+-- And the place's words, and the test of what was lent.
 -- Assumes nothing.
 use mathlib.Core.Path.{_≡_, refl, ap, _∙_}
-use mathlib.Core.Bool.{true, false, not, _&&_}
+use mathlib.Core.Bool.{true, false, _&&_}
 use mathlib.Core.List.{List, [], _∷_}
-use Prim.Native.Nat.{ℕ, _≤_, _<_}
+use Prim.Native.Nat.{ℕ}
 use native.Mathlib.Omega.{arith}
-use lib.Dec.{eqb}
+use lib.Dec.{ltb, eqb}
 use lib.ListN.{length, drop}
 use lib.Seq.{sets, sets-eq, drop-length}
-use borrow.Author.Tests.{lt-ltb, le-ltb, eq-eqb, ne-eqb}
-use Rattle.decide.specs.Branch.{so-yes, so-no, eq-yes, eq-no}
+use borrow.Author.Tests.{eqb-true, eq-eqb, ne-eqb}
+use Rattle.decide.specs.Branch.{so-yes, so-no}
+use Rattle.decide.specs.Test.{both}
 use Rattle.ledger.specs.Ring.{Ring}
 use Rattle.sender.specs.World.{world}
 use Rattle.replay.specs.Places.{logged}
 use Rattle.replay.specs.Batches.{Batching, batchOf}
 use Rattle.replay.specs.declared.Place.{Place}
-use Rattle.words.specs.Layout.{wordCount, bit, word, stateWords, unpacked}
+use Rattle.words.specs.Layout.{wordCount, bit, word, unpacked}
 use Rattle.words.specs.declared.Unpacked.{Unpacked}
-use Rattle.exports.specs.Batch.{placeCount, placeWords, placeFrom, lentOk, Replayed, replayCalled, wordsThen, handed, onReplayWords}
+use Rattle.exports.specs.Batch.{placeCount, placeWords, placeFrom, lentOk, placeThen, wordsThen, replayCalled, handed, onReplayWords}
 
 -- the place's words over the four that were lent, the third a flag's
 pub place-stored :
@@ -29,69 +30,39 @@ place-stored ws h p count stopped e =
     let none : drop placeCount ws ≡ [] = rw h at (drop-length ws) in
     sets-eq vs ws 0 (omega arith) ∙ rw (none, e)
 
-module _ (log place ws : List ℕ) (r : Ring) (t answers : List ℕ) where
-  -- this is what the call must hand back
-  abbrev pub Right : Replayed → Type 0
-  Right x = x ≡ onReplayWords log place ws r t answers
+module _ (place ws : List ℕ) where
+  pub not-four : (length place ≡ placeCount → ⊥) → false ≡ lentOk place ws
+  unfolding lentOk
+  not-four h = rw (ne-eqb (length place) placeCount h)
 
-  lent-wrong : lentOk place ws ≡ false → Right (replayCalled 2 place ws r t answers)
+  pub four : length place ≡ placeCount → (eqb (length ws) wordCount && ltb (word place 2) 2) ≡ lentOk place ws
+  unfolding lentOk
+  four h = rw (eq-eqb (length place) placeCount h)
+
+  pub lent-long : lentOk place ws ≡ true → (length place ≡ placeCount) × (length ws ≡ wordCount)
+  unfolding lentOk
+  lent-long e =
+      let p = both (eqb (length place) placeCount) (eqb (length ws) wordCount) (both _ _ e .0) in
+      (eqb-true (length place) placeCount (p .0), eqb-true (length ws) wordCount (p .1))
+
+module _ (log place ws : List ℕ) (r : Ring) (t answers : List ℕ) where
+  pub lent-wrong : lentOk place ws ≡ false → replayCalled 2 place ws r t answers ≡ onReplayWords log place ws r t answers
   unfolding onReplayWords
   lent-wrong e = so-no (lentOk place ws) _ _ _ e refl
 
-  pub wrong-place : (length place ≡ placeCount → ⊥) → Right (replayCalled 2 place ws r t answers)
-  unfolding lentOk
-  wrong-place h = lent-wrong (rw (ne-eqb (length place) placeCount h))
+  module _
+      (ok : lentOk place ws ≡ true) (from : Place) (from-is : from ≡ placeFrom place) (given : Unpacked) (given-is : given ≡ unpacked ws)
+      (b : Batching) (b-is : b ≡ batchOf (logged log) from (world (given .state) r t) answers)
+    where
+      as-defined : b ≡ batchOf (logged log) (placeFrom place) (world (unpacked ws .state) r t) answers
+      as-defined =
+          b-is
+          ∙ ap (λ (p : Place). batchOf (logged log) p (world (given .state) r t) answers) from-is
+          ∙ ap (λ (u : Unpacked). batchOf (logged log) (placeFrom place) (world (u .state) r t) answers) given-is
 
-  module _ (place-long : length place ≡ placeCount) where
-    pub wrong-words : (length ws ≡ wordCount → ⊥) → Right (replayCalled 2 place ws r t answers)
-    unfolding lentOk
-    wrong-words h = lent-wrong (rw (eq-eqb (length place) placeCount place-long, ne-eqb (length ws) wordCount h))
-
-    module _ (words-long : length ws ≡ wordCount) where
-      pub wrong-flag : 1 < word place 2 → Right (replayCalled 2 place ws r t answers)
-      unfolding lentOk
-      wrong-flag h =
-          lent-wrong
-          (rw (eq-eqb (length place) placeCount place-long, eq-eqb (length ws) wordCount words-long, le-ltb (word place 2) 2 (omega arith)))
-
-      module _
-          (flag : word place 2 ≤ 1) (given : Unpacked) (given-is : given ≡ unpacked ws)
-          (b : Batching) (b-is : b ≡ batchOf (logged log) (placeFrom place) (world (given .state) r t) answers)
-        where
-          lent-right : lentOk place ws ≡ true
-          unfolding lentOk
-          lent-right =
-              rw (eq-eqb (length place) placeCount place-long, eq-eqb (length ws) wordCount words-long, lt-ltb (word place 2) 2 (omega arith))
-
-          handed-back : (x : Replayed) → x ≡ handed place ws b → Right x
-          unfolding onReplayWords
-          handed-back x e =
-              so-yes (lentOk place ws) _ _ _ lent-right
-              (e
-              ∙ ap (handed place ws)
-              (b-is ∙ ap (λ (u : Unpacked). batchOf (logged log) (placeFrom place) (world (u .state) r t) answers) given-is))
-
-          pub batch-refused :
-              (b .number ≡ 0 → ⊥) →
-              Right (replayCalled (b .number) place ws (b .after .slots) (b .after .times) (b .room))
-          unfolding handed
-          batch-refused h = handed-back _ (eq-no (b .number) 0 _ _ _ h refl)
-
-          module _ (taken : b .number ≡ 0) (p : List ℕ) (p-is : p ≡ placeWords (b .place) (b .count)) where
-            batch-taken :
-                (xs : List ℕ) → xs ≡ wordsThen ws b →
-                Right (replayCalled 0 p xs (b .after .slots) (b .after .times) (b .room))
-            unfolding handed
-            batch-taken xs e = handed-back _ (eq-yes (b .number) 0 _ _ _ taken (rw (p-is, e)))
-
-            pub state-stored :
-                (not (eqb (b .count) 0) && not (eqb (b .place .done) 0)) ≡ true → (xs : List ℕ) → xs ≡ stateWords (b .after .state) →
-                Right (replayCalled 0 p xs (b .after .slots) (b .after .times) (b .room))
-            unfolding wordsThen
-            state-stored go xs e = batch-taken xs (so-yes _ _ _ _ go e)
-
-            pub state-left :
-                (not (eqb (b .count) 0) && not (eqb (b .place .done) 0)) ≡ false →
-                Right (replayCalled 0 p ws (b .after .slots) (b .after .times) (b .room))
-            unfolding wordsThen
-            state-left stay = batch-taken ws (so-no _ _ _ _ stay refl)
+      pub handed-back :
+          (n : ℕ) (p xs : List ℕ) → n ≡ b .number → p ≡ placeThen (b .number) (b .place) (b .count) place →
+          xs ≡ wordsThen (b .number) (b .place) (b .count) (b .after .state) ws →
+          replayCalled n p xs (b .after .slots) (b .after .times) (b .room) ≡ onReplayWords log place ws r t answers
+      unfolding onReplayWords handed
+      handed-back n p xs n-is p-is xs-are = so-yes (lentOk place ws) _ _ _ ok (rw (n-is, p-is, xs-are) (ap (handed place ws) as-defined))

@@ -9,7 +9,7 @@ use Prim.Native.Nat.{ℕ, _+_, _*_, _^_, _/_, _%_, _≤_}
 use native.Mathlib.Omega.{arith}
 use lib.Dec.{leb}
 use borrow.Author.Tests.{ne-eqb}
-use Rattle.decide.specs.Branch.{so-no, eq-no, eq-both, so-both}
+use Rattle.decide.specs.Branch.{ifEq, so-no, eq-no, eq-both, so-both}
 use Rattle.decide.specs.Rows.{firstOf}
 use Rattle.decide.specs.Test.{inside}
 use Rattle.window.specs.Range.{inRange}
@@ -33,7 +33,7 @@ use Rattle.words.specs.Layout.{word, flag, settingsFrom, stateFrom, wordsOk, un
 use Rattle.words.specs.declared.Unpacked.{Unpacked}
 use Rattle.exports.specs.Calls.{Called, called, wordsAfter, pathWord, onWords, onPathWords, onSetUpWords}
 use Rattle.exports.proofs.Singles.{word-parts, path-most}
-use Rattle.exports.specs.Batch.{placeFrom, lentOk, Replayed, replayCalled, handed, onReplayWords}
+use Rattle.exports.specs.Batch.{placeFrom, lentOk, Replayed, replayCalled, placeThen, wordsThen, handed, onReplayWords}
 
 pub record Untouched (x : Called) (ws : List ℕ) (r : Ring) (t : List ℕ) : Type 0 where
   pub words-same : x .words ≡ ws
@@ -141,8 +141,8 @@ module _ (log place ws : List ℕ) (r : Ring) (t answers : List ℕ) where
   -- beside a refused batch nothing is stored
   batch-spared :
       (b : Batching) → SparedReplay (replayCalled (b .number) place ws (b .after .slots) (b .after .times) (b .room)) → SparedReplay (handed place ws b)
-  unfolding handed
-  batch-spared b f = eq-both SparedReplay (b .number) 0 _ _ (λ _ h. absurd (h refl)) (λ _. f)
+  unfolding handed placeThen wordsThen ifEq
+  batch-spared b f h = rw (ne-eqb (b .number) 0 h) (f h)
 
   pub replay-untouched : SparedReplay (onReplayWords log place ws r t answers)
   unfolding onReplayWords batchOf filled
@@ -161,7 +161,7 @@ module _ (log place ws : List ℕ) (r : Ring) (t answers : List ℕ) where
   pub replay-no-state :
       wordsOk ws ≡ false → (word place 1 ≡ 0 → ⊥) → flag place 2 ≡ false →
       onReplayWords log place ws r t answers ≡ replayCalled 2 place ws r t answers
-  unfolding onReplayWords batchOf handed holds soundAfter unpacked
+  unfolding onReplayWords batchOf handed placeThen wordsThen holds soundAfter unpacked ifEq
   replay-no-state bad done going =
       let p = placeFrom place in
       let w = world (unpacked ws .state) r t in
@@ -169,5 +169,5 @@ module _ (log place ws : List ℕ) (r : Ring) (t answers : List ℕ) where
       let unsound : sound w ≡ false = ap (λ (c : Controller). sound (world c r t)) zeros ∙ zeros-unsound r t in
       let broken : holds p w ≡ false = rw (going, ne-eqb (word place 1) 0 done, unsound) (and-no (leb (word place 1) (word place 0))) in
       so-both (λ (x : Replayed). x ≡ replayCalled 2 place ws r t answers) (lentOk place ws) _ _
-      (λ _. sym (ap (handed place ws) (so-no (holds p w) _ _ _ broken refl)) ∙ sym (eq-no 2 0 _ _ _ (λ e. omega arith) refl))
+      (λ _. sym (ap (handed place ws) (so-no (holds p w) _ _ _ broken refl)))
       (λ _. refl)

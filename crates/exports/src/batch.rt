@@ -1,14 +1,42 @@
 // A log's bytes in, answers out. Number 2 is tested once a call.
+use replay::Batch;
 use replay::Place;
 use replay::Source;
 use words::WORDS;
 ghost use mathlib.Core.Path.{_≡_};
 ghost use lib.ListN.{length};
 ghost use Rattle.ledger.specs.Ring.{ring};
-ghost use Rattle.exports.specs.Batch.{placeCount, placeWords, replayCalled, onReplayWords};
+ghost use Rattle.words.specs.Layout.{wordCount};
+ghost use Rattle.exports.specs.Batch.{placeCount, placeWords, placeFrom, lentOk, placeThen, wordsThen, replayCalled, onReplayWords};
 
 // The place's words: the offset of the next record, the records done, whether replay has stopped, and how many answers the last call gave.
 pub const PLACE_WORDS: usize = 4;
+
+// The flag that a replay has stopped is 0 or 1.
+const FLAG_END: u64 = 2;
+
+// Whether place and state have their words, and the place's flag is one.
+fn is_lent<'a>(place: &'a [u64], state: &'a [u64]) -> bool
+    ensures { λ r. ⌜ r ≡ lentOk (now (place .entry)) (now (state .entry)) ⌝ }
+{
+    if place.len() != PLACE_WORDS {
+        return false;
+    }
+    (state.len() == WORDS) & (place[2] < FLAG_END)
+}
+
+// The place of its words. An inner step: the caller proves that there are four.
+fn place_of(ws: &[u64]) -> Place
+    requires { ⌜ length (now ws) ≡ placeCount ⌝ }
+    ensures { λ r. ⌜ r ≡ placeFrom (now (ws .entry)) ⌝ }
+{
+    let stopped = ws[2];
+    Place {
+        at: ws[0] as usize,
+        done: ws[1],
+        stopped: stopped == 1,
+    }
+}
 
 // Stores the place's words. An inner step: the caller proves that there are four.
 fn keep_place(ws: &mut [u64], place: Place, count: usize)
@@ -21,6 +49,25 @@ fn keep_place(ws: &mut [u64], place: Place, count: usize)
     ws[1] = place.done;
     ws[2] = if stopped { 1 } else { 0 };
     ws[3] = count as u64;
+}
+
+// Stores what a batch gave, unless it was refused, and answers its number. An inner step: the caller proves that there are the words.
+fn keep_batch<'a, 'b>(place: &'a mut [u64], state: &'b mut [u64], batch: Batch) -> u32
+    requires { ⌜ (length (now place) ≡ placeCount) × (length (now state) ≡ wordCount) ⌝ }
+    ensures { λ r. ⌜ (r ≡ batch .number) × (now (place .exit) ≡ placeThen (batch .number) (batch .place) (batch .count) (now (place .entry))) × (now (state .exit) ≡ wordsThen (batch .number) (batch .place) (batch .count) (batch .state) (now (state .entry))) ⌝ }
+{
+    if batch.number != 0 {
+        return batch.number;
+    }
+    let after = batch.place;
+    let count = batch.count;
+    let done = after.done;
+    keep_place(place, after, count);
+    if (count != 0) & (done != 0) {
+        let now = batch.state;
+        words::store(state, now);
+    }
+    0
 }
 
 // Replays a log from a place on, until the answers' room is full, the log ends or replay stops.
@@ -38,21 +85,10 @@ pub extern "C" fn nscc_replay(
 ) -> u32
     ensures { λ r. ⌜ replayCalled r (now (place .exit)) (now (state .exit)) (ring (now (status .exit)) (now (size .exit)) (now (sent .exit)) (now (resent .exit))) (now (evs .exit)) (now (answers .exit)) ≡ onReplayWords (now (log .entry)) (now (place .entry)) (now (state .entry)) (ring (now (status .entry)) (now (size .entry)) (now (sent .entry)) (now (resent .entry))) (now (evs .entry)) (now (answers .entry)) ⌝ }
 {
-    if place.len() != PLACE_WORDS {
+    if !is_lent(place, state) {
         return crate::UNSOUND;
     }
-    if state.len() != WORDS {
-        return crate::UNSOUND;
-    }
-    let stopped = place[2];
-    if 1 < stopped {
-        return crate::UNSOUND;
-    }
-    let from = Place {
-        at: place[0] as usize,
-        done: place[1],
-        stopped: stopped == 1,
-    };
+    let from = place_of(place);
     let given = words::unpack(state);
     let before = given.state;
     let batch = replay::replay(
@@ -67,16 +103,5 @@ pub extern "C" fn nscc_replay(
         log,
         answers,
     );
-    if batch.number != 0 {
-        return batch.number;
-    }
-    let after = batch.place;
-    let count = batch.count;
-    let done = after.done;
-    keep_place(place, after, count);
-    if (count != 0) & (done != 0) {
-        let now = batch.state;
-        words::store(state, now);
-    }
-    0
+    keep_batch(place, state, batch)
 }

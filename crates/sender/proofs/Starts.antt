@@ -172,33 +172,32 @@ module _ (s : Settings) (r : Ring) (times : List ℕ) where
   -- ---- the answer, by the tests in their order, as the code makes them
 
   module _ (range : Bool) (range-is : range ≡ inRange s) where
-    module _ (empty : Settings) (c : Controller) (empty-is : empty ≡ noSettings) (c-is : c ≡ freshState empty) where
-      refused-so : (n : ℕ) → n ≡ firstOf (setUpRows s r times) → 0 < n → answered n c r times ≡ onSetUp s r times
+    module _ (c : Controller) (c-is : c ≡ freshState noSettings) (n : ℕ) where
+      refused-so : n ≡ firstOf (setUpRows s r times) → 0 < n → answered n c r times ≡ onSetUp s r times
       unfolding onSetUp
-      refused-so n e h =
-          eq-no (firstOf (setUpRows s r times)) 0 _ _ _ (λ z. let k : ⊥ = omega (arith, e) in k) (rw (c-is, empty-is, e))
+      refused-so e h = eq-no (firstOf (setUpRows s r times)) 0 _ _ _ (λ z. let k : ⊥ = omega (arith, e) in k) (rw (c-is, e))
 
-      pub refused-range : not range ≡ true → answered 1 c r times ≡ onSetUp s r times
-      refused-range e = refused-so 1 (first-here 1 1 (not (inRange s)) _ (ap not (sym range-is) ∙ e) refl) (omega arith)
+      pub refused-range : n ≡ 1 → not range ≡ true → answered n c r times ≡ onSetUp s r times
+      refused-range k e = refused-so (k ∙ first-here 1 1 (not (inRange s)) _ (ap not (sym range-is) ∙ e) refl) (omega (arith, k))
 
       pub refused-lengths :
-          not range ≡ false → (even : Bool) → even ≡ isRing r → not (even && eqb (length times) evCount) ≡ true →
-          answered 2 c r times ≡ onSetUp s r times
-      refused-lengths e even even-is f =
-          refused-so 2
-          (first-later 2 1 (not (inRange s)) _ (ap not (sym range-is) ∙ e)
+          n ≡ 2 → not range ≡ false → (even : Bool) → even ≡ isRing r → not (even && eqb (length times) evCount) ≡ true →
+          answered n c r times ≡ onSetUp s r times
+      refused-lengths k e even even-is f =
+          refused-so
+          (k
+          ∙ first-later 2 1 (not (inRange s)) _ (ap not (sym range-is) ∙ e)
           (first-here 2 2 (not (isRing r && eqb (length times) evCount)) _ (rw (← even-is) f) refl))
-          (omega arith)
+          (omega (arith, k))
 
     pub accepted-so :
         not range ≡ false → (even : Bool) → even ≡ isRing r → not (even && eqb (length times) evCount) ≡ false →
-        (c : Controller) (status size sent resent evs : List ℕ) → c ≡ freshState s → status ≡ zeros (r .status) → size ≡ zeros (r .size) →
-        sent ≡ zeros (r .sent) → resent ≡ zeros (r .resent) → evs ≡ zeros times →
-        answered 0 c (ring status size sent resent) evs ≡ onSetUp s r times
+        (c : Controller) (slots : Ring) (evs : List ℕ) → c ≡ freshState s → slots ≡ clearRing r → evs ≡ zeros times →
+        answered 0 c slots evs ≡ onSetUp s r times
     unfolding onSetUp
-    accepted-so e even even-is f c status size sent resent evs a b d g h i =
+    accepted-so e even even-is f c slots evs a b d =
         eq-yes (firstOf (setUpRows s r times)) 0 _ _ _
         (sym
         (first-later 0 1 (not (inRange s)) _ (ap not (sym range-is) ∙ e)
         (first-later 0 2 (not (isRing r && eqb (length times) evCount)) _ (rw (← even-is) f) first-none)))
-        (rw (a, b, d, g, h, i))
+        (rw (a, b, d))

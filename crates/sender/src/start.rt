@@ -9,9 +9,9 @@ use ledger::Totals;
 use window::Settings;
 ghost use mathlib.Core.Path.{_≡_};
 ghost use Rattle.ledger.specs.Ring.{ring};
-ghost use Rattle.sender.specs.Numbers.{numberOf};
+ghost use Rattle.sender.specs.Numbers.{rowOf, numberOf};
 ghost use Rattle.sender.specs.World.{answered};
-ghost use Rattle.sender.specs.Start.{noSettings, freshState, zeros, onSetUp};
+ghost use Rattle.sender.specs.Start.{noSettings, freshState, zeros, clearRing, onSetUp};
 
 // Zeros over a lent slice, at each width.
 fn clear_8(xs: &mut [u8])
@@ -92,6 +92,33 @@ pub fn fresh(settings: Settings) -> Controller
     }
 }
 
+// An empty ring and EV times, all zeros.
+fn clear<'a, 'b, 'c, 'd, 'e>(
+    status: &'a mut [u8],
+    size: &'b mut [u32],
+    sent: &'c mut [u64],
+    resent: &'d mut [u8],
+    evs: &'e mut [u64],
+)
+    ensures { λ _. ⌜ (ring (now (status .exit)) (now (size .exit)) (now (sent .exit)) (now (resent .exit)) ≡ clearRing (ring (now (status .entry)) (now (size .entry)) (now (sent .entry)) (now (resent .entry)))) × (now (evs .exit) ≡ zeros (now (evs .entry))) ⌝ }
+{
+    clear_8(status);
+    clear_32(size);
+    clear_64(sent);
+    clear_8(resent);
+    clear_64(evs);
+}
+
+// A refused setting up: the state of zeros.
+fn not_set_up(refusal: Refusal) -> Answer
+    ensures { λ r. ⌜ (r .state ≡ freshState noSettings) × (numberOf (r .outcome) ≡ rowOf refusal) ⌝ }
+{
+    Answer {
+        state: fresh(no_settings()),
+        outcome: Outcome::Refused(refusal),
+    }
+}
+
 // Setting up: 1, then 2 on lengths only; else the fresh state, with the ring and the EV times cleared.
 pub fn set_up<'a, 'b, 'c, 'd, 'e>(
     settings: Settings,
@@ -104,22 +131,12 @@ pub fn set_up<'a, 'b, 'c, 'd, 'e>(
     ensures { λ r. ⌜ answered (numberOf (r .outcome)) (r .state) (ring (now (status .exit)) (now (size .exit)) (now (sent .exit)) (now (resent .exit))) (now (evs .exit)) ≡ onSetUp settings (ring (now (status .entry)) (now (size .entry)) (now (sent .entry)) (now (resent .entry))) (now (evs .entry)) ⌝ }
 {
     if !window::bounds::in_range(settings) {
-        return Answer {
-            state: fresh(no_settings()),
-            outcome: Outcome::Refused(Refusal::Setting),
-        };
+        return not_set_up(Refusal::Setting);
     }
     if !(ledger::whole::is_ring(status, size, sent, resent) & (evs.len() == crate::EVS as usize)) {
-        return Answer {
-            state: fresh(no_settings()),
-            outcome: Outcome::Refused(Refusal::Unsound),
-        };
+        return not_set_up(Refusal::Unsound);
     }
-    clear_8(status);
-    clear_32(size);
-    clear_64(sent);
-    clear_8(resent);
-    clear_64(evs);
+    clear(status, size, sent, resent, evs);
     Answer {
         state: fresh(settings),
         outcome: Outcome::Accepted,
