@@ -30,7 +30,7 @@ enum nscc_refusal {
     NSCC_SETTING = 1,      /* a setting is outside its range */
     NSCC_UNSOUND = 2,      /* state or buffers don't hold together, or a length is wrong */
     NSCC_TIME = 3,         /* time before the held clock, or 2^48 or more */
-    NSCC_FIELD = 4,        /* a size, byte count, received count, reason, EV or trigger out of range */
+    NSCC_BAD_SIZE = 4,     /* a packet's size is outside 41..MTU */
     NSCC_BACKLOG = 5,      /* a new packet larger than the backlog */
     NSCC_WINDOW_FULL = 6,  /* in-flight + MTU is over the window */
     NSCC_RING_FULL = 7,    /* no slot for a new packet */
@@ -38,7 +38,12 @@ enum nscc_refusal {
     NSCC_UNSENT_OR_OLD = 9, /* an ACK that names an unsent packet, or is too old */
     NSCC_NOT_FLYING = 10,  /* a NACK or a loss of a packet that does not fly */
     NSCC_SINKS = 11,       /* in-flight would fall below -2^24 */
-    NSCC_MALFORMED = 12    /* nscc_replay: a log record is malformed */
+    NSCC_MALFORMED = 12,   /* nscc_replay: a log record is malformed */
+    NSCC_BAD_BYTES = 20,   /* new data of 0 bytes, or a backlog over 2^40 */
+    NSCC_BAD_COUNT = 21,   /* a received count of 2^24 or more */
+    NSCC_BAD_REASON = 22,  /* a NACK's reason over 2 */
+    NSCC_BAD_EV = 23,      /* an EV over 255 */
+    NSCC_BAD_TRIGGER = 24  /* an ACK that does not cover its trigger */
 };
 
 /* The twelve settings, in this order, as nscc_set_up takes them. */
@@ -105,7 +110,7 @@ uint32_t nscc_set_up(const uint64_t *settings, size_t settings_len, uint32_t fir
                      uint64_t *state, size_t state_len, uint8_t *status, size_t status_len, uint32_t *size, size_t size_len,
                      uint64_t *sent, size_t sent_len, uint8_t *resent, size_t resent_len, uint64_t *evs, size_t evs_len);
 
-/* New data in the backlog: 2, 3, 4. The ring and the EV times are only read. */
+/* New data in the backlog: 2, 3, 20. The ring and the EV times are only read. */
 uint32_t nscc_new_data(uint64_t *state, size_t state_len, const uint8_t *status, size_t status_len, const uint32_t *size, size_t size_len,
                        const uint64_t *sent, size_t sent_len, const uint8_t *resent, size_t resent_len, const uint64_t *evs, size_t evs_len,
                        uint64_t time, uint64_t bytes);
@@ -115,18 +120,18 @@ uint32_t nscc_send(uint64_t *state, size_t state_len, uint8_t *status, size_t st
                    uint64_t *sent, size_t sent_len, uint8_t *resent, size_t resent_len, const uint64_t *evs, size_t evs_len,
                    uint64_t time, uint32_t psn, uint32_t bytes, bool resend);
 
-/* An ACK: 2, 3, 4, 9, 11. cum covers every PSN up to itself, bit i of map covers cum + 1 + i; marked is the M flag. */
+/* An ACK: 2, 3, 21, 23, 24, 9, 11. cum covers every PSN up to itself, bit i of map covers cum + 1 + i; marked is the M flag. */
 uint32_t nscc_ack(uint64_t *state, size_t state_len, uint8_t *status, size_t status_len, uint32_t *size, size_t size_len,
                   uint64_t *sent, size_t sent_len, uint8_t *resent, size_t resent_len, uint64_t *evs, size_t evs_len,
                   uint64_t time, uint32_t cum, uint64_t map, uint32_t trigger, uint32_t count, uint32_t service, uint32_t ev,
                   bool marked, bool retx);
 
-/* A NACK: 2, 3, 4, 10, 11. reason is 0 trimmed, 1 trimmed at the last hop, 2 other. Sizes, send times and resend counts are only read. */
+/* A NACK: 2, 3, 22, 23, 10, 11. reason is 0 trimmed, 1 trimmed at the last hop, 2 other. Sizes, send times and resend counts are only read. */
 uint32_t nscc_nack(uint64_t *state, size_t state_len, uint8_t *status, size_t status_len, const uint32_t *size, size_t size_len,
                    const uint64_t *sent, size_t sent_len, const uint8_t *resent, size_t resent_len, uint64_t *evs, size_t evs_len,
                    uint64_t time, uint32_t psn, uint32_t ev, uint32_t reason, bool marked, bool retx);
 
-/* A packet taken for lost: 2, 3, 4, 10, 11. Sizes, send times and resend counts are only read. */
+/* A packet taken for lost: 2, 3, 23, 10, 11. Sizes, send times and resend counts are only read. */
 uint32_t nscc_loss(uint64_t *state, size_t state_len, uint8_t *status, size_t status_len, const uint32_t *size, size_t size_len,
                    const uint64_t *sent, size_t sent_len, const uint8_t *resent, size_t resent_len, uint64_t *evs, size_t evs_len,
                    uint64_t time, uint32_t psn, uint32_t ev);

@@ -187,7 +187,7 @@ ack-cases P time a w f g =
     let rows = ackAllRows time a (w .state) in
     eq-both P (firstOf (withSound w rows)) 0 _ _ (λ e. f (none-here 2 _ rows (omega arith) e .1)) (g (firstOf (withSound w rows)))
 
--- row 4's test
+-- the tests of the rows for an ACK's fields, 21, 23 and 24
 abbrev pub badFields : Ack → Bool
 badFields a = leb counts (a .count) || leb evCount (a .ev) || not (covered (a .cum) (a .map) (a .trigger))
 
@@ -209,16 +209,26 @@ module _ (time : ℕ) (a : Ack) (w : World) where
       ack-cases (λ x. x .number ≡ 0 → Fine time a (w .state .clock) (ledgerOf w)) time a w
       (λ rows e.
       let t = time-facts time (w .state) _ rows in
-      let f = none-here 4 _ _ (omega arith) (t .1) in
-      let s = ack-facts (w .state .flow) (w .state .totals .«in_flight») (a .cum) (a .map) (a .count) (f .1) in
-      record { later = t .0 .later; early = t .0 .early; fields = f .0; sent = s .0; afloat = s .1 })
+      let k = none-here 21 _ _ (omega arith) (t .1) in
+      let v = none-here 23 _ _ (omega arith) (k .1) in
+      let g = none-here 24 _ _ (omega arith) (v .1) in
+      let s = ack-facts (w .state .flow) (w .state .totals .«in_flight») (a .cum) (a .map) (a .count) (g .1) in
+      record { later = t .0 .later; early = t .0 .early; fields = rw (k .0, v .0, g .0); sent = s .0; afloat = s .1 })
       (λ n h e. absurd (h e))
 
   module _ (f : Fine time a (w .state .clock) (ledgerOf w)) where
     pub fine-rows : firstOf (ackAllRows time a (w .state)) ≡ 0
     fine-rows =
         sym (first-later 0 3 _ _ (ap₂ _||_ (le-ltb time (w .state .clock) (f .later)) (lt-leb timeEnd time (f .early)))
-        (first-later 0 4 _ _ (f .fields) (ack-0 (w .state .flow) (w .state .totals .«in_flight») (a .cum) (a .map) (a .count) (f .sent) (f .afloat))))
+        (first-later 0 21 _ _ (both-ok .0)
+        (first-later 0 23 _ _ (both-ok .1)
+        (first-later 0 24 _ _ (ok .1) (ack-0 (w .state .flow) (w .state .totals .«in_flight») (a .cum) (a .map) (a .count) (f .sent) (f .afloat))))))
+      where
+        ok : ((leb counts (a .count) || leb evCount (a .ev)) ≡ false) × (not (covered (a .cum) (a .map) (a .trigger)) ≡ false)
+        ok = neither (leb counts (a .count) || leb evCount (a .ev)) _ (f .fields)
+
+        both-ok : (leb counts (a .count) ≡ false) × (leb evCount (a .ev) ≡ false)
+        both-ok = neither (leb counts (a .count)) (leb evCount (a .ev)) (ok .0)
 
     pub fine-accepted : Holds w → onAck time a w ≡ record { number = 0; after = ackStep time a w }
     unfolding onAck decided

@@ -1,4 +1,4 @@
-// Refusals 3 to 11, each at its edge: a call one step inside and one outside.
+// Refusals 3 to 11 and 20 to 24, each at its edge: a call one step inside and one outside.
 use crate::calls;
 use crate::make;
 use crate::say;
@@ -33,14 +33,14 @@ fn times() {
     time_line(b"3 time 2^64-1", u64::MAX);
 }
 
-// 4 on new data and on a send's size.
+// 20 on new data, and 4 on a send's size.
 fn data_and_sizes() {
     let w = make::mixed();
-    line(b"4 new data 0", w, calls::data(w, 0));
-    line(b"4 new data 1", w, calls::data(w, 1));
-    line(b"4 new data sum 2^40", w, calls::data(w, 1099511619584));
-    line(b"4 new data sum 2^40+1", w, calls::data(w, 1099511619585));
-    line(b"4 new data 2^64-1", w, calls::data(w, u64::MAX));
+    line(b"20 new data 0", w, calls::data(w, 0));
+    line(b"20 new data 1", w, calls::data(w, 1));
+    line(b"20 new data sum 2^40", w, calls::data(w, 1099511619584));
+    line(b"20 new data sum 2^40+1", w, calls::data(w, 1099511619585));
+    line(b"20 new data 2^64-1", w, calls::data(w, u64::MAX));
     line(b"4 new packet 0", w, calls::fresh_send(w, 10, 0));
     line(b"4 new packet 40", w, calls::fresh_send(w, 10, 40));
     line(b"4 new packet 41", w, calls::fresh_send(w, 10, 41));
@@ -55,53 +55,53 @@ fn data_and_sizes() {
     line(b"4 resend MTU+1", w, calls::resend(w, 6, 4097));
 }
 
-// 4 on counts, reasons and EVs.
+// 21 on counts, 22 on reasons and 23 on EVs.
 fn fields() {
     let w = make::mixed();
-    line(b"4 count 2^24-1", w, calls::ack(w, 4, 0, 4, COUNTS - 1));
-    line(b"4 count 2^24", w, calls::ack(w, 4, 0, 4, COUNTS));
-    line(b"4 count 2^32-1", w, calls::ack(w, 4, 0, 4, u32::MAX));
-    line(b"4 reason 0", w, calls::nack(w, 5, 0, 0));
-    line(b"4 reason 1", w, calls::nack(w, 5, 0, 1));
-    line(b"4 reason 2", w, calls::nack(w, 5, 0, 2));
-    line(b"4 reason 3", w, calls::nack(w, 5, 0, 3));
-    line(b"4 reason 2^32-1", w, calls::nack(w, 5, 0, u32::MAX));
-    line(b"4 ACK EV 255", w, calls::ack_ev(w, 255));
-    line(b"4 ACK EV 256", w, calls::ack_ev(w, 256));
-    line(b"4 ACK EV 2^32-1", w, calls::ack_ev(w, u32::MAX));
-    line(b"4 NACK EV 255", w, calls::nack(w, 5, 255, 0));
-    line(b"4 NACK EV 256", w, calls::nack(w, 5, 256, 0));
-    line(b"4 NACK EV 2^32-1", w, calls::nack(w, 5, u32::MAX, 0));
-    line(b"4 loss EV 255", w, calls::loss(w, 5, 255));
-    line(b"4 loss EV 256", w, calls::loss(w, 5, 256));
-    line(b"4 loss EV 2^32-1", w, calls::loss(w, 5, u32::MAX));
+    line(b"21 count 2^24-1", w, calls::ack(w, 4, 0, 4, COUNTS - 1));
+    line(b"21 count 2^24", w, calls::ack(w, 4, 0, 4, COUNTS));
+    line(b"21 count 2^32-1", w, calls::ack(w, 4, 0, 4, u32::MAX));
+    line(b"22 reason 0", w, calls::nack(w, 5, 0, 0));
+    line(b"22 reason 1", w, calls::nack(w, 5, 0, 1));
+    line(b"22 reason 2", w, calls::nack(w, 5, 0, 2));
+    line(b"22 reason 3", w, calls::nack(w, 5, 0, 3));
+    line(b"22 reason 2^32-1", w, calls::nack(w, 5, 0, u32::MAX));
+    line(b"23 ACK EV 255", w, calls::ack_ev(w, 255));
+    line(b"23 ACK EV 256", w, calls::ack_ev(w, 256));
+    line(b"23 ACK EV 2^32-1", w, calls::ack_ev(w, u32::MAX));
+    line(b"23 NACK EV 255", w, calls::nack(w, 5, 255, 0));
+    line(b"23 NACK EV 256", w, calls::nack(w, 5, 256, 0));
+    line(b"23 NACK EV 2^32-1", w, calls::nack(w, 5, u32::MAX, 0));
+    line(b"23 loss EV 255", w, calls::loss(w, 5, 255));
+    line(b"23 loss EV 256", w, calls::loss(w, 5, 256));
+    line(b"23 loss EV 2^32-1", w, calls::loss(w, 5, u32::MAX));
 }
 
-// 4 on the trigger: covered by cum up to 2^30 back, or by its bit.
+// 24 on the trigger: covered by cum up to 2^30 back, or by its bit.
 fn triggers() {
     let w = make::mixed();
     let far = std::num::wrapping_sub_u32(5, REACH);
     let farther = std::num::wrapping_sub_u32(4, REACH);
     let f = make::full();
-    line(b"4 trigger cum", w, calls::ack(w, 5, 0, 5, 7));
-    line(b"4 trigger cum-2^30", w, calls::ack(w, 5, 0, far, 7));
-    line(b"4 trigger cum-2^30-1", w, calls::ack(w, 5, 0, farther, 7));
-    line(b"4 trigger cum+1, no bit", w, calls::ack(w, 5, 0, 6, 7));
-    line(b"4 trigger cum+1, bit 0", w, calls::ack(w, 5, 1, 6, 7));
-    line(b"4 trigger cum+2, bit 0", w, calls::ack(w, 5, 1, 7, 7));
-    line(b"4 trigger cum+4, bit 3", w, calls::ack(w, 5, 8, 9, 7));
+    line(b"24 trigger cum", w, calls::ack(w, 5, 0, 5, 7));
+    line(b"24 trigger cum-2^30", w, calls::ack(w, 5, 0, far, 7));
+    line(b"24 trigger cum-2^30-1", w, calls::ack(w, 5, 0, farther, 7));
+    line(b"24 trigger cum+1, no bit", w, calls::ack(w, 5, 0, 6, 7));
+    line(b"24 trigger cum+1, bit 0", w, calls::ack(w, 5, 1, 6, 7));
+    line(b"24 trigger cum+2, bit 0", w, calls::ack(w, 5, 1, 7, 7));
+    line(b"24 trigger cum+4, bit 3", w, calls::ack(w, 5, 8, 9, 7));
     line(
-        b"4 trigger cum+64, bit 63",
+        b"24 trigger cum+64, bit 63",
         f,
         calls::ack(f, 4, 1 << 63, 68, 7),
     );
     line(
-        b"4 trigger cum+64, all but bit 63",
+        b"24 trigger cum+64, all but bit 63",
         f,
         calls::ack(f, 4, (1 << 63) - 1, 68, 7),
     );
     line(
-        b"4 trigger cum+65, all bits",
+        b"24 trigger cum+65, all bits",
         f,
         calls::ack(f, 4, u64::MAX, 69, 7),
     );

@@ -26,7 +26,7 @@ fn row_of(refusal: Refusal) -> u64 {
         Refusal::Setting => 1,
         Refusal::Unsound => 2,
         Refusal::Time => 3,
-        Refusal::Field => 4,
+        Refusal::Size => 4,
         Refusal::Backlog => 5,
         Refusal::WindowFull => 6,
         Refusal::RingFull => 7,
@@ -34,6 +34,11 @@ fn row_of(refusal: Refusal) -> u64 {
         Refusal::UnsentOrOld => 9,
         Refusal::NotFlying => 10,
         Refusal::Sinks => 11,
+        Refusal::Bytes => 20,
+        Refusal::Count => 21,
+        Refusal::Reason => 22,
+        Refusal::Ev => 23,
+        Refusal::Trigger => 24,
     }
 }
 

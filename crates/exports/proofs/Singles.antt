@@ -8,6 +8,7 @@ use Rattle.decide.specs.Branch.{ifSo, ifEq, so-yes, so-no, so-both, eq-no, eq-b
 use Rattle.decide.specs.Rows.{Row, firstOf}
 use Rattle.decide.specs.Test.{inside}
 use Rattle.ledger.specs.Ring.{Ring}
+use Rattle.sender.specs.Numbers.{inTable}
 use Rattle.sender.specs.World.{World, world, Answered, Routing}
 use Rattle.sender.specs.Sound.{sound}
 use Rattle.sender.specs.Rows.{withSound, newDataRows, sendAllRows, ackAllRows, nackAllRows, lossAllRows, pathRows}
@@ -28,7 +29,7 @@ use Rattle.words.specs.Layout.{stateFrom, wordsOk}
 use Rattle.exports.specs.Calls.{Called, called, wordsAfter, packed, packedWord, pathWord, packedPath, onWords, onEventWords, onPathWords}
 
 -- a number stands in the low 32 bits, an EV above them
-pub word-parts : (ev n : ℕ) → n ≤ 11 → ((2 ^ 32 * ev + n) % 2 ^ 32 ≡ n) × ((2 ^ 32 * ev + n) / 2 ^ 32 ≡ ev)
+pub word-parts : (ev n : ℕ) → n ≤ 24 → ((2 ^ 32 * ev + n) % 2 ^ 32 ≡ n) × ((2 ^ 32 * ev + n) / 2 ^ 32 ≡ ev)
 word-parts ev n h = (omega arith, omega arith)
 
 -- a word and a world
@@ -37,18 +38,18 @@ said n w = record { word = n; after = w }
 
 -- ---- one event, by its rows
 
-two-more : (w : World) (xs : List Row) → numbered 11 xs ≡ true → numbered 11 (withSound w xs) ≡ true
-unfolding numbered inside
+two-more : (w : World) (xs : List Row) → numbered xs ≡ true → numbered (withSound w xs) ≡ true
+unfolding numbered inTable inside
 two-more w xs e = e
 
 -- 2, and the rows of an event, whose numbers are those of 01's table
-with-most : (w : World) (xs : List Row) → numbered 11 xs ≡ true → firstOf (withSound w xs) ≤ 11
-with-most w xs e = first-most 11 (withSound w xs) (two-more w xs e)
+with-most : (w : World) (xs : List Row) → numbered xs ≡ true → firstOf (withSound w xs) ≤ 24
+with-most w xs e = first-most (withSound w xs) (two-more w xs e)
 
 -- the event's answer is what one event is answered, and its number is one of the table's
 pub record Single (e : Event) (w : World) (x : Answered) : Type 0 where
   pub is : onceOf e w ≡ said (x .number) (x .after)
-  pub most : x .number ≤ 11
+  pub most : x .number ≤ 24
 
 plain : (n : ℕ) → 2 ^ 32 * 0 + n ≡ n
 plain n = omega arith
@@ -57,9 +58,9 @@ module _ (e : Event) (w : World) (xs : List Row) (after : World) where
   abbrev judged : Answered
   judged = decided (firstOf (withSound w xs)) w after
 
-  judged-most : numbered 11 xs ≡ true → judged .number ≤ 11
+  judged-most : numbered xs ≡ true → judged .number ≤ 24
   unfolding decided
-  judged-most k = eq-both (λ (a : Answered). a .number ≤ 11) (firstOf (withSound w xs)) 0 _ _ (λ _. omega arith) (λ _. with-most w xs k)
+  judged-most k = eq-both (λ (a : Answered). a .number ≤ 24) (firstOf (withSound w xs)) 0 _ _ (λ _. omega arith) (λ _. with-most w xs k)
 
   judged-unsound : sound w ≡ false → answer 2 w ≡ judged
   unfolding decided
@@ -74,12 +75,12 @@ module _ (e : Event) (w : World) (xs : List Row) (after : World) where
       sym (so-no (sound w) (said 2 w) (worded (onLater e w)) (said 2 w) h refl)
       ∙ ap (λ (a : Answered). said (a .number) (a .after)) (judged-unsound h)
 
-  single-by : numbered 11 xs ≡ true → onLater e w ≡ stated judged → Single e w judged
+  single-by : numbered xs ≡ true → onLater e w ≡ stated judged → Single e w judged
   single-by k q = record { is = judged-said q (sound w) refl; most = judged-most k }
 
 module _ (time : ℕ) (w : World) where
   pub new-data-single : (bytes : ℕ) → Single (event.NewData time bytes) w (onNewData time bytes w)
-  unfolding onNewData onLater numbered inside
+  unfolding onNewData onLater numbered inTable inside
   new-data-single bytes = single-by (event.NewData time bytes) w (newDataRows time bytes (w .state)) _ refl refl
 
   pub send-single : (a : Send) → Single (event.Send time a) w (onSend time a w)
@@ -87,24 +88,24 @@ module _ (time : ℕ) (w : World) where
   send-single a = single-by (event.Send time a) w (sendAllRows time a (w .state) (w .slots)) _ (send-all-numbered time a (w .state) (w .slots)) refl
 
   pub ack-single : (a : Ack) → Single (event.Ack time a) w (onAck time a w)
-  unfolding onAck onLater numbered inside
+  unfolding onAck onLater numbered inTable inside
   ack-single a = single-by (event.Ack time a) w (ackAllRows time a (w .state)) _ refl refl
 
   pub nack-single : (a : Nack) → Single (event.Nack time a) w (onNack time a w)
-  unfolding onNack onLater numbered inside
+  unfolding onNack onLater numbered inTable inside
   nack-single a = single-by (event.Nack time a) w (nackAllRows time a (w .state) (w .slots)) _ refl refl
 
   pub loss-single : (a : Loss) → Single (event.Loss time a) w (onLoss time a w)
-  unfolding onLoss onLater numbered inside
+  unfolding onLoss onLater numbered inTable inside
   loss-single a = single-by (event.Loss time a) w (lossAllRows time a (w .state) (w .slots)) _ refl refl
 
 -- ---- a path choice
 
-pub path-most : (time : ℕ) (w : World) → onPath time w .number ≤ 11
-unfolding onPath numbered inside
+pub path-most : (time : ℕ) (w : World) → onPath time w .number ≤ 24
+unfolding onPath numbered inTable inside
 path-most time w =
     let rows = withSound w (pathRows time (w .state)) in
-    eq-both (λ (a : Routing). a .number ≤ 11) (firstOf rows) 0 _ _ (λ _. omega arith) (λ _. first-most 11 rows refl)
+    eq-both (λ (a : Routing). a .number ≤ 24) (firstOf rows) 0 _ _ (λ _. omega arith) (λ _. first-most rows refl)
 
 shown-yes : (ev : ℕ) → shownPath 0 ev ≡ Path ev
 unfolding shownPath ifEq
@@ -147,11 +148,11 @@ module _ (ws : List ℕ) (r : Ring) (t : List ℕ) where
       ap (λ (c : Called). ifSo (wordsOk ws) c (called 2 ws r t))
       (ap (packedWord ws) (single w .is) ∙ ap (λ (n : ℕ). called (x .number) (wordsAfter n ws (x .after .state)) (x .after .slots) (x .after .times)) low)
 
-  pub word-most : (e : Event) (on : World → Answered) → ((w : World) → Single e w (on w)) → (c : Called) → c ≡ onEventWords e ws r t → c .number ≤ 11
+  pub word-most : (e : Event) (on : World → Answered) → ((w : World) → Single e w (on w)) → (c : Called) → c ≡ onEventWords e ws r t → c .number ≤ 24
   unfolding onWords
   word-most e on single c q =
       rw (q ∙ words-on e on single)
-      (so-both (λ (x : Called). x .number ≤ 11) (wordsOk ws) _ _ (λ _. single (world (stateFrom ws) r t) .most) (λ _. omega arith))
+      (so-both (λ (x : Called). x .number ≤ 24) (wordsOk ws) _ _ (λ _. single (world (stateFrom ws) r t) .most) (λ _. omega arith))
 
   pub path-words-on : (time : ℕ) → onEventWords (event.Path time) ws r t ≡ onPathWords ws r t (onPath time)
   unfolding onEventWords onPathWords

@@ -1,6 +1,6 @@
 -- What the refusals of document 01's table promise, over the definitions that the entry points' contracts cite: a refused event leaves everything
 -- as it was (`refused-same`), the number is that of the first row whose test holds (`rows-exact`), a send for which 01 names no refusal is accepted
--- (`permitted-new`, `permitted-resend`), and a number fixes the outcome (`one-outcome`).
+-- (`permitted-new`, `permitted-resend`), request M-100 refuses what was refused (`ack-apart` and its like), and a number fixes the outcome (`one-outcome`).
 -- Assumes nothing.
 use mathlib.Core.Path.{_≡_, refl, sym, ap, ap₂, _∙_}
 use mathlib.Core.Bool.{Bool, true, false, not, cond, _||_}
@@ -10,18 +10,18 @@ use lib.Dec.{eqb}
 use borrow.Author.Tests.{le-ltb, lt-leb, eq-eqb}
 use Rattle.decide.specs.Branch.{ifSo, eq-yes, so-yes}
 use Rattle.decide.specs.Test.{inside, whole, inside-yes}
-use Rattle.decide.specs.Rows.{Row, firstOf, first-later}
+use Rattle.decide.specs.Rows.{Row, row, firstOf, first-later}
 use Rattle.window.specs.declared.Settings.{Settings}
 use Rattle.ledger.specs.Packets.{isMarked}
 use Rattle.ledger.specs.Bounds.{sizeLeast}
 use Rattle.ledger.specs.Ring.{Ring, capOf, packetOf}
 use Rattle.ledger.specs.Rows.{sendRows}
 use Rattle.ledger.proofs.Judging.{new-0, resend-0}
-use Rattle.sender.specs.Statements.{silent, First, Exact, Permitted, PermittedNew, PermittedResend}
+use Rattle.sender.specs.Statements.{silent, First, Exact, Apart, plainNewData, plainAck, plainNack, plainLoss, Permitted, PermittedNew, PermittedResend}
 use Rattle.sender.specs.Limits.{timeEnd}
 use Rattle.sender.specs.World.{World, world, Answered, answered, Routing, routed}
 use Rattle.sender.specs.Bounds.{roomAfter}
-use Rattle.sender.specs.Numbers.{rowOf, numberOf, pathNumber, pathEv}
+use Rattle.sender.specs.Numbers.{rowOf, inTable, numberOf, pathNumber, pathEv}
 use Rattle.sender.specs.Rows.{withSound, newDataRows, sendAllRows, ackAllRows, nackAllRows, lossAllRows, pathRows, setUpRows}
 use Rattle.sender.specs.Steps.{sendStep}
 use Rattle.sender.specs.Start.{noSettings, freshState, zeros, clearRing, onSetUp}
@@ -32,7 +32,7 @@ use Rattle.sender.specs.declared.Ack.{Ack}
 use Rattle.sender.specs.declared.Nack.{Nack}
 use Rattle.sender.specs.declared.Loss.{Loss}
 use Rattle.sender.specs.declared.Refusal.{Refusal}
-use Rattle.sender.specs.declared.Refusal.the-variants.{Setting, Unsound, Time, Field, Backlog, WindowFull, RingFull, WrongPsn, UnsentOrOld, NotFlying, Sinks}
+use Rattle.sender.specs.declared.Refusal.the-variants.{Setting, Unsound, Time, Size, Backlog, WindowFull, RingFull, WrongPsn, UnsentOrOld, NotFlying, Sinks, Bytes, Count, Reason, Ev, Trigger}
 use Rattle.sender.specs.declared.Outcome.{Outcome}
 use Rattle.sender.specs.declared.Outcome.the-variants as outcome
 use Rattle.sender.specs.declared.Route.{Route}
@@ -121,52 +121,90 @@ unfolding firstOf
 silent-none rows e = ap firstOf (sym (append-nil rows)) ∙ first-past rows [] e
 
 -- of any rows whose numbers are not 0
-pub rows-exact : (most : ℕ) (rows : List Row) → numbered most rows ≡ true → Exact rows (firstOf rows)
-rows-exact most rows e =
-    record { refused = found rows; first = first-given rows; accepted = none-silent most rows e; none = silent-none rows }
+pub rows-exact : (rows : List Row) → numbered rows ≡ true → Exact rows (firstOf rows)
+rows-exact rows e =
+    record { refused = found rows; first = first-given rows; accepted = none-silent rows e; none = silent-none rows }
 
 decided-number : (n : ℕ) (w after : World) → n ≡ decided n w after .number
 unfolding decided
 decided-number n w after = answer-number (λ (x : Answered). x .number) n (answer 0 after) (answer n w) refl refl
 
-decided-exact : (most : ℕ) (rows : List Row) (w after : World) → numbered most rows ≡ true → Exact rows (decided (firstOf rows) w after .number)
-decided-exact most rows w after e = rw (← decided-number (firstOf rows) w after) (rows-exact most rows e)
+decided-exact : (rows : List Row) (w after : World) → numbered rows ≡ true → Exact rows (decided (firstOf rows) w after .number)
+decided-exact rows w after e = rw (← decided-number (firstOf rows) w after) (rows-exact rows e)
 
 -- of each event: the rows that its contract cites
 module _ (time : ℕ) (w : World) where
   pub new-data-exact : (bytes : ℕ) → Exact (withSound w (newDataRows time bytes (w .state))) (onNewData time bytes w .number)
-  unfolding onNewData numbered inside
-  new-data-exact bytes = decided-exact 11 _ w _ refl
+  unfolding onNewData numbered inTable inside
+  new-data-exact bytes = decided-exact _ w _ refl
 
   pub send-exact : (a : Send) → Exact (withSound w (sendAllRows time a (w .state) (w .slots))) (onSend time a w .number)
-  unfolding onSend numbered inside
-  send-exact a = decided-exact 11 _ w _ (send-all-numbered time a (w .state) (w .slots))
+  unfolding onSend numbered inTable inside
+  send-exact a = decided-exact _ w _ (send-all-numbered time a (w .state) (w .slots))
 
   pub ack-exact : (a : Ack) → Exact (withSound w (ackAllRows time a (w .state))) (onAck time a w .number)
-  unfolding onAck numbered inside
-  ack-exact a = decided-exact 11 _ w _ refl
+  unfolding onAck numbered inTable inside
+  ack-exact a = decided-exact _ w _ refl
 
   pub nack-exact : (a : Nack) → Exact (withSound w (nackAllRows time a (w .state) (w .slots))) (onNack time a w .number)
-  unfolding onNack numbered inside
-  nack-exact a = decided-exact 11 _ w _ refl
+  unfolding onNack numbered inTable inside
+  nack-exact a = decided-exact _ w _ refl
 
   pub loss-exact : (a : Loss) → Exact (withSound w (lossAllRows time a (w .state) (w .slots))) (onLoss time a w .number)
-  unfolding onLoss numbered inside
-  loss-exact a = decided-exact 11 _ w _ refl
+  unfolding onLoss numbered inTable inside
+  loss-exact a = decided-exact _ w _ refl
 
   pub path-exact : Exact (withSound w (pathRows time (w .state))) (onPath time w .number)
-  unfolding onPath numbered inside
+  unfolding onPath numbered inTable inside
   path-exact =
       let n = firstOf (withSound w (pathRows time (w .state))) in
-      rw (← answer-number (λ (x : Routing). x .number) n (taken time w) (untaken n w) refl refl) (rows-exact 11 (withSound w (pathRows time (w .state))) refl)
+      rw (← answer-number (λ (x : Routing). x .number) n (taken time w) (untaken n w) refl refl) (rows-exact (withSound w (pathRows time (w .state))) refl)
 
 -- and of setting up
 pub set-up-exact : (g : Settings) (r : Ring) (times : List ℕ) → Exact (setUpRows g r times) (onSetUp g r times .number)
-unfolding onSetUp numbered inside
+unfolding onSetUp numbered inTable inside
 set-up-exact g r times =
     let n = firstOf (setUpRows g r times) in
     rw (← answer-number (λ (x : Answered). x .number) n (cleared g r times) (blank n r times) refl refl)
-    (rows-exact 11 (setUpRows g r times) refl)
+    (rows-exact (setUpRows g r times) refl)
+
+-- ---- request M-100: what is refused at all stays
+
+-- one field: its number alone is another
+one-apart : (late bad : Bool) (k : ℕ) (xs : List Row) → Apart (row late 3 ∷ row bad 4 ∷ xs) (row late 3 ∷ row bad k ∷ xs)
+unfolding silent firstOf ifSo
+one-apart true bad k xs = record { same-refused = refl; same-number = λ _. refl }
+one-apart false true k xs = record { same-refused = refl; same-number = λ h. absurd (h refl) }
+one-apart false false k xs = record { same-refused = refl; same-number = λ _. refl }
+
+-- two fields, and three: a row each
+two-apart :
+    (late a b : Bool) (j k : ℕ) (xs : List Row) → Apart (row late 3 ∷ row (a || b) 4 ∷ xs) (row late 3 ∷ row a j ∷ row b k ∷ xs)
+unfolding silent firstOf ifSo
+two-apart true a b j k xs = record { same-refused = refl; same-number = λ _. refl }
+two-apart false true b j k xs = record { same-refused = refl; same-number = λ h. absurd (h refl) }
+two-apart false false b j k xs = let p = one-apart false b k xs in record { same-refused = p .same-refused; same-number = p .same-number }
+
+three-apart :
+    (late a b g : Bool) (xs : List Row) →
+    Apart (row late 3 ∷ row (a || b || g) 4 ∷ xs) (row late 3 ∷ row a 21 ∷ row b 23 ∷ row g 24 ∷ xs)
+unfolding silent firstOf ifSo
+three-apart true a b g xs = record { same-refused = refl; same-number = λ _. refl }
+three-apart false true b g xs = record { same-refused = refl; same-number = λ h. absurd (h refl) }
+three-apart false false b g xs = let p = two-apart false b g 23 24 xs in record { same-refused = p .same-refused; same-number = p .same-number }
+
+module _ (time : ℕ) (c : Controller) where
+  pub new-data-apart : (bytes : ℕ) → Apart (plainNewData time bytes c) (newDataRows time bytes c)
+  new-data-apart bytes = one-apart _ _ 20 []
+
+  pub ack-apart : (a : Ack) → Apart (plainAck time a c) (ackAllRows time a c)
+  ack-apart a = three-apart _ _ _ _ _
+
+  pub nack-apart : (a : Nack) (r : Ring) → Apart (plainNack time a c r) (nackAllRows time a c r)
+  nack-apart a r = two-apart _ _ _ 22 23 _
+
+  pub loss-apart : (a : Loss) (r : Ring) → Apart (plainLoss time a c r) (lossAllRows time a c r)
+  loss-apart a r = one-apart _ _ 23 _
 
 -- ---- a permitted send is accepted
 
@@ -213,13 +251,18 @@ refusalOf n =
     cond (eqb n 1) Setting
     (cond (eqb n 2) Unsound
     (cond (eqb n 3) Time
-    (cond (eqb n 4) Field
+    (cond (eqb n 4) Size
     (cond (eqb n 5) Backlog
     (cond (eqb n 6) WindowFull
     (cond (eqb n 7) RingFull
     (cond (eqb n 8) WrongPsn
     (cond (eqb n 9) UnsentOrOld
-    (cond (eqb n 10) NotFlying Sinks)))))))))
+    (cond (eqb n 10) NotFlying
+    (cond (eqb n 11) Sinks
+    (cond (eqb n 20) Bytes
+    (cond (eqb n 21) Count
+    (cond (eqb n 22) Reason
+    (cond (eqb n 23) Ev Trigger))))))))))))))
 
 -- a refusal's number is not 0, and tells the refusal
 row-back : (r : Refusal) → (eqb (rowOf r) 0 ≡ false) × (refusalOf (rowOf r) ≡ r)
@@ -227,7 +270,7 @@ unfolding rowOf refusalOf
 row-back Setting = (refl, refl)
 row-back Unsound = (refl, refl)
 row-back Time = (refl, refl)
-row-back Field = (refl, refl)
+row-back Size = (refl, refl)
 row-back Backlog = (refl, refl)
 row-back WindowFull = (refl, refl)
 row-back RingFull = (refl, refl)
@@ -235,6 +278,11 @@ row-back WrongPsn = (refl, refl)
 row-back UnsentOrOld = (refl, refl)
 row-back NotFlying = (refl, refl)
 row-back Sinks = (refl, refl)
+row-back Bytes = (refl, refl)
+row-back Count = (refl, refl)
+row-back Reason = (refl, refl)
+row-back Ev = (refl, refl)
+row-back Trigger = (refl, refl)
 
 outcomeOf : ℕ → Outcome
 outcomeOf n = cond (eqb n 0) outcome.Accepted (outcome.Refused (refusalOf n))

@@ -4,7 +4,10 @@
 use mathlib.Core.Path.{_≡_, refl, sym, ap, ap₂, _∙_}
 use mathlib.Core.Bool.{Bool, true, false, not, _&&_, _||_}
 use mathlib.Core.List.{List, [], _∷_, _++_}
+use mathlib.Core.Logic.{by-cases}
 use Prim.Native.Nat.{ℕ, _+_, _-_, _≤_, _<_}
+use native.Mathlib.Nat.{le-antisymm}
+use native.Mathlib.Decide.{decLt}
 use native.Mathlib.Omega.{arith}
 use lib.Dec.{ltb, leb}
 use borrow.Author.Tests.{ltb-true, ltb-false, lt-ltb, le-ltb, not-true}
@@ -16,6 +19,7 @@ use Rattle.ledger.specs.Rows.{sendRows, newRows, resendRows}
 use Rattle.ledger.specs.declared.Flow.{Flow}
 use Rattle.sender.specs.Statements.{silent}
 use Rattle.sender.specs.Limits.{timeEnd}
+use Rattle.sender.specs.Numbers.{inTable}
 use Rattle.sender.specs.World.{World, world, Answered, answered, Routing}
 use Rattle.sender.specs.Named.{hasRoom}
 use Rattle.sender.specs.Bounds.{roomAfter}
@@ -28,26 +32,55 @@ use Rattle.sender.specs.declared.Send.{Send}
 
 -- ---- any rows
 
--- every row's number is one of 1 .. most
-unfoldable pub numbered : ℕ → List Row → Bool
-numbered most [] = true
-numbered most (x ∷ xs) = inside 1 (x .number) most && numbered most xs
+-- every row's number is one of the table's
+unfoldable pub numbered : List Row → Bool
+numbered [] = true
+numbered (x ∷ xs) = inTable (x .number) && numbered xs
 
--- a list's number is at most the greatest that a row has
-pub first-most : (most : ℕ) (xs : List Row) → numbered most xs ≡ true → firstOf xs ≤ most
-unfolding firstOf numbered ifSo
-first-most most [] e = omega arith
-first-most most (x ∷ xs) e =
-    let p = both (inside 1 (x .number) most) (numbered most xs) e in
-    go (x .test) (inside-tells 1 (x .number) most (p .0) .1) (first-most most xs (p .1))
+-- the table's numbers lie in 1..24
+pub table-bounds : (n : ℕ) → inTable n ≡ true → (1 ≤ n) × (n ≤ 24)
+unfolding inTable
+table-bounds n = go (inside 1 n 11) refl
   where
-    go : (t : Bool) → x .number ≤ most → firstOf xs ≤ most → ifSo t (x .number) (firstOf xs) ≤ most
-    go true here later = here
-    go false here later = later
+    go : (low : Bool) → inside 1 n 11 ≡ low → (low || inside 20 n 24) ≡ true → (1 ≤ n) × (n ≤ 24)
+    go true e f = let p = inside-tells 1 n 11 e in (p .0, omega (arith, p .1))
+    go false e f = let p = inside-tells 20 n 24 f in (omega (arith, p .0), p .1)
+
+-- 2, which every event tests first
+pub two-table : inTable 2 ≡ true
+unfolding inTable inside
+two-table = refl
+
+-- a number of the table that is past 11 wherever it is past 0, and past 23 wherever it is past 19, is the last
+pub table-last : (n : ℕ) → inTable n ≡ true → (1 ≤ n → 12 ≤ n) → (20 ≤ n → 24 ≤ n) → n ≡ 24
+unfolding inTable
+table-last n = go (inside 1 n 11) refl
+  where
+    go : (low : Bool) → inside 1 n 11 ≡ low → (low || inside 20 n 24) ≡ true → (1 ≤ n → 12 ≤ n) → (20 ≤ n → 24 ≤ n) → n ≡ 24
+    go true e f g h = let p = inside-tells 1 n 11 e in absurd (let k : ⊥ = omega (arith, p .1, g (p .0)) in k)
+    go false e f g h = let p = inside-tells 20 n 24 f in le-antisymm (p .1) (h (p .0))
+
+-- a list's number is none, or one of the table's
+first-table : (xs : List Row) → numbered xs ≡ true → (firstOf xs ≡ 0 → ⊥) → inTable (firstOf xs) ≡ true
+unfolding firstOf numbered ifSo
+first-table [] e h = absurd (h refl)
+first-table (x ∷ xs) e h =
+    let p = both (inTable (x .number)) (numbered xs) e in
+    go (x .test) (p .0) (first-table xs (p .1)) h
+  where
+    go : (t : Bool) → inTable (x .number) ≡ true → ((firstOf xs ≡ 0 → ⊥) → inTable (firstOf xs) ≡ true)
+        → (ifSo t (x .number) (firstOf xs) ≡ 0 → ⊥) → inTable (ifSo t (x .number) (firstOf xs)) ≡ true
+    go true here later h = here
+    go false here later h = later h
+
+-- at most the table's last
+pub first-most : (xs : List Row) → numbered xs ≡ true → firstOf xs ≤ 24
+first-most xs e =
+    by-cases (decLt 0 (firstOf xs)) (λ h. table-bounds (firstOf xs) (first-table xs e (λ z. omega (arith, h, z))) .1) (λ h. omega (arith, h))
 
 -- a number that rows give and that is not 0 is one of the table's
-pub in-table : (xs : List Row) → numbered 11 xs ≡ true → (n : ℕ) → n ≡ firstOf xs → (n ≡ 0 → ⊥) → (0 < n) × (n ≤ 11)
-in-table xs e n f h = let m = first-most 11 xs e in (omega arith, omega arith)
+pub in-table : (xs : List Row) → numbered xs ≡ true → (n : ℕ) → n ≡ firstOf xs → (n ≡ 0 → ⊥) → inTable n ≡ true
+in-table xs e n f h = ap inTable f ∙ first-table xs e (λ z. h (f ∙ z))
 
 -- rows of which no test holds are passed
 pub first-past : (xs ys : List Row) → silent xs ≡ true → firstOf (xs ++ ys) ≡ firstOf ys
@@ -58,53 +91,53 @@ first-past (x ∷ xs) ys e =
     rw (not-true (x .test) (p .0)) (first-past xs ys (p .1))
 
 -- where none applies, no test holds
-pub none-silent : (most : ℕ) (xs : List Row) → numbered most xs ≡ true → firstOf xs ≡ 0 → silent xs ≡ true
+pub none-silent : (xs : List Row) → numbered xs ≡ true → firstOf xs ≡ 0 → silent xs ≡ true
 unfolding firstOf numbered silent ifSo
-none-silent most [] e f = refl
-none-silent most (x ∷ xs) e f =
-    let p = both (inside 1 (x .number) most) (numbered most xs) e in
-    go (x .test) (inside-tells 1 (x .number) most (p .0) .0) f (none-silent most xs (p .1))
+none-silent [] e f = refl
+none-silent (x ∷ xs) e f =
+    let p = both (inTable (x .number)) (numbered xs) e in
+    go (x .test) (table-bounds (x .number) (p .0) .0) f (none-silent xs (p .1))
   where
     go : (t : Bool) → 1 ≤ x .number → ifSo t (x .number) (firstOf xs) ≡ 0 → (firstOf xs ≡ 0 → silent xs ≡ true) → (not t && silent xs) ≡ true
     go true here f later = absurd (omega arith)
     go false here f later = later f
 
 -- rows after rows: the second list is asked where the first gives none
-pub first-append : (most : ℕ) (xs ys : List Row) → numbered most xs ≡ true → ifEq (firstOf xs) 0 (firstOf ys) (firstOf xs) ≡ firstOf (xs ++ ys)
+pub first-append : (xs ys : List Row) → numbered xs ≡ true → ifEq (firstOf xs) 0 (firstOf ys) (firstOf xs) ≡ firstOf (xs ++ ys)
 unfolding firstOf numbered ifSo
-first-append most [] ys e = sym (eq-yes 0 0 (firstOf ys) (firstOf ys) 0 refl refl)
-first-append most (x ∷ xs) ys e =
-    let p = both (inside 1 (x .number) most) (numbered most xs) e in
-    go (x .test) (inside-tells 1 (x .number) most (p .0) .0) (first-append most xs ys (p .1))
+first-append [] ys e = sym (eq-yes 0 0 (firstOf ys) (firstOf ys) 0 refl refl)
+first-append (x ∷ xs) ys e =
+    let p = both (inTable (x .number)) (numbered xs) e in
+    go (x .test) (table-bounds (x .number) (p .0) .0) (first-append xs ys (p .1))
   where
     go : (t : Bool) → 1 ≤ x .number → ifEq (firstOf xs) 0 (firstOf ys) (firstOf xs) ≡ firstOf (xs ++ ys)
         → ifEq (ifSo t (x .number) (firstOf xs)) 0 (firstOf ys) (ifSo t (x .number) (firstOf xs)) ≡ ifSo t (x .number) (firstOf (xs ++ ys))
     go true here later = sym (eq-no (x .number) 0 (x .number) (firstOf ys) (x .number) (λ z. omega arith) refl)
     go false here later = later
 
-pub numbered-append : (most : ℕ) (xs ys : List Row) → numbered most xs ≡ true → numbered most ys ≡ true → numbered most (xs ++ ys) ≡ true
+pub numbered-append : (xs ys : List Row) → numbered xs ≡ true → numbered ys ≡ true → numbered (xs ++ ys) ≡ true
 unfolding numbered
-numbered-append most [] ys e f = f
-numbered-append most (x ∷ xs) ys e f =
-    let p = both (inside 1 (x .number) most) (numbered most xs) e in
-    whole (p .0) (numbered-append most xs ys (p .1) f)
+numbered-append [] ys e f = f
+numbered-append (x ∷ xs) ys e f =
+    let p = both (inTable (x .number)) (numbered xs) e in
+    whole (p .0) (numbered-append xs ys (p .1) f)
 
 -- a number from k on, but not k
 pub past : (n k : ℕ) → k ≤ n → (n ≡ k → ⊥) → k + 1 ≤ n
 past n k h f = omega arith
 
--- ---- 3, then 4, then the rows of one event
+-- ---- 3, then the row of a field, k, then the other rows of one event
 
-module _ (late bad : Bool) (xs : List Row) where
-  pub judged-3 : late ≡ true → 3 ≡ firstOf (row late 3 ∷ row bad 4 ∷ xs)
-  judged-3 e = first-here 3 3 late (row bad 4 ∷ xs) e refl
+module _ (late bad : Bool) (k : ℕ) (xs : List Row) where
+  pub judged-3 : late ≡ true → 3 ≡ firstOf (row late 3 ∷ row bad k ∷ xs)
+  judged-3 e = first-here 3 3 late (row bad k ∷ xs) e refl
 
   module _ (in-time : late ≡ false) where
-    pub judged-4 : bad ≡ true → 4 ≡ firstOf (row late 3 ∷ row bad 4 ∷ xs)
-    judged-4 e = first-later 4 3 late (row bad 4 ∷ xs) in-time (first-here 4 4 bad xs e refl)
+    pub judged-field : bad ≡ true → k ≡ firstOf (row late 3 ∷ row bad k ∷ xs)
+    judged-field e = first-later k 3 late (row bad k ∷ xs) in-time (first-here k k bad xs e refl)
 
-    pub judged-on : bad ≡ false → (n : ℕ) → n ≡ firstOf xs → n ≡ firstOf (row late 3 ∷ row bad 4 ∷ xs)
-    judged-on e n f = first-later n 3 late (row bad 4 ∷ xs) in-time (first-later n 4 bad xs e f)
+    pub judged-on : bad ≡ false → (n : ℕ) → n ≡ firstOf xs → n ≡ firstOf (row late 3 ∷ row bad k ∷ xs)
+    judged-on e n f = first-later n 3 late (row bad k ∷ xs) in-time (first-later n k bad xs e f)
 
 -- a path choice is refused with 3 alone
 pub path-late : (time : ℕ) (c : Controller) → (firstOf (pathRows time c) ≡ 0 → ⊥) → 3 ≡ firstOf (pathRows time c)
@@ -126,8 +159,8 @@ over-test most held n h = go (ltb most (held + n)) refl
 -- ---- a send's rows: the ledger's, then 6
 
 module _ (f : Flow) (r : Ring) (psn size : ℕ) where
-  pub send-numbered : (resend : Bool) → numbered 11 (sendRows f r psn size resend) ≡ true
-  unfolding numbered inside
+  pub send-numbered : (resend : Bool) → numbered (sendRows f r psn size resend) ≡ true
+  unfolding numbered inTable inside
   send-numbered true = refl
   send-numbered false = refl
 
@@ -137,20 +170,20 @@ module _ (f : Flow) (r : Ring) (psn size : ℕ) where
   pub rows-new : (resend : Bool) → resend ≡ false → firstOf (newRows f (capOf r) psn size) ≡ firstOf (sendRows f r psn size resend)
   rows-new resend e = rw e
 
-pub send-all-numbered : (time : ℕ) (a : Send) (c : Controller) (r : Ring) → numbered 11 (sendAllRows time a c r) ≡ true
-unfolding numbered inside
+pub send-all-numbered : (time : ℕ) (a : Send) (c : Controller) (r : Ring) → numbered (sendAllRows time a c r) ≡ true
+unfolding numbered inTable inside
 send-all-numbered time a c r =
-    numbered-append 11 (sendRows (c .flow) r (a .psn) (a .size) (a .resend)) _ (send-numbered (c .flow) r (a .psn) (a .size) (a .resend)) refl
+    numbered-append (sendRows (c .flow) r (a .psn) (a .size) (a .resend)) _ (send-numbered (c .flow) r (a .psn) (a .size) (a .resend)) refl
 
 -- 6
 abbrev pub roomRows : Controller → List Row
 roomRows c = row (not (hasRoom (c .settings .mtu) (c .window .cwnd) (c .totals .«in_flight»))) 6 ∷ []
 
-pub room-row : (c : Controller) (xs : List Row) → numbered 11 xs ≡ true → roomAfter c (firstOf xs) ≡ firstOf (xs ++ roomRows c)
+pub room-row : (c : Controller) (xs : List Row) → numbered xs ≡ true → roomAfter c (firstOf xs) ≡ firstOf (xs ++ roomRows c)
 unfolding roomAfter firstOf ifSo
 room-row c xs e =
     ap (λ (n : ℕ). ifEq (firstOf xs) 0 n (firstOf xs)) (turned (hasRoom (c .settings .mtu) (c .window .cwnd) (c .totals .«in_flight»)))
-    ∙ first-append 11 xs (roomRows c) e
+    ∙ first-append xs (roomRows c) e
   where
     turned : (b : Bool) → _≡_ {A = ℕ} (ifSo b 0 6) (ifSo (not b) 6 0)
     turned true = refl

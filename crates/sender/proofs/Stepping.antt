@@ -76,7 +76,7 @@ pub new-data-facts : (time bytes : ℕ) (c : Controller) → firstOf (newDataRow
     → Timely time c × (c .flow .backlog + bytes ≤ backlogMost)
 new-data-facts time bytes c e =
     let a = time-facts time c _ e in
-    let b = none-here 4 _ [] (omega arith) (a .1) in
+    let b = none-here 20 _ [] (omega arith) (a .1) in
     let n = neither (eqb bytes 0) (ltb backlogMost (c .flow .backlog + bytes)) (b .0) in
     (a .0, ltb-false backlogMost (c .flow .backlog + bytes) (n .1))
 
@@ -91,7 +91,7 @@ pub record Sendable (time : ℕ) (a : Send) (c : Controller) (r : Ring) : Type 0
 send-rows : (f : Flow) (r : Ring) (psn size : ℕ) (resend t : Bool) → firstOf (sendRows f r psn size resend ++ (row t 6 ∷ [])) ≡ 0
     → (firstOf (sendRows f r psn size resend) ≡ 0) × (t ≡ false)
 send-rows f r psn size resend t e =
-    let d = split (firstOf (sendRows f r psn size resend)) (firstOf (row t 6 ∷ [])) (first-append 11 _ _ (send-numbered f r psn size resend) ∙ e) in
+    let d = split (firstOf (sendRows f r psn size resend)) (firstOf (row t 6 ∷ [])) (first-append _ _ (send-numbered f r psn size resend) ∙ e) in
     (d .0, none-here 6 t [] (omega arith) (d .1) .0)
   where
     split : (n m : ℕ) → ifEq n 0 m n ≡ 0 → (n ≡ 0) × (m ≡ 0)
@@ -114,10 +114,10 @@ pub record Ackable (time : ℕ) (a : Ack) (c : Controller) : Type 0 where
 pub ack-facts : (time : ℕ) (a : Ack) (c : Controller) → firstOf (ackAllRows time a c) ≡ 0 → Ackable time a c
 ack-facts time a c e =
     let t = time-facts time c _ e in
-    let b = none-here 4 _ _ (omega arith) (t .1) in
-    let n = neither (leb counts (a .count) || leb evCount (a .ev)) (not (covered (a .cum) (a .map) (a .trigger))) (b .0) in
-    let m = neither (leb counts (a .count)) (leb evCount (a .ev)) (n .0) in
-    record { timely = t .0; count-ok = leb-false counts (a .count) (m .0); ev-ok = leb-false evCount (a .ev) (m .1); rows = b .1 }
+    let k = none-here 21 _ _ (omega arith) (t .1) in
+    let v = none-here 23 _ _ (omega arith) (k .1) in
+    let g = none-here 24 _ _ (omega arith) (v .1) in
+    record { timely = t .0; count-ok = leb-false counts (a .count) (k .0); ev-ok = leb-false evCount (a .ev) (v .0); rows = g .1 }
 
 -- a NACK or a loss
 pub record Markable (time psn ev : ℕ) (c : Controller) (r : Ring) : Type 0 where
@@ -128,15 +128,15 @@ pub record Markable (time psn ev : ℕ) (c : Controller) (r : Ring) : Type 0 whe
 pub nack-facts : (time : ℕ) (a : Nack) (c : Controller) (r : Ring) → firstOf (nackAllRows time a c r) ≡ 0 → Markable time (a .psn) (a .ev) c r
 nack-facts time a c r e =
     let t = time-facts time c _ e in
-    let b = none-here 4 _ _ (omega arith) (t .1) in
-    let n = neither (ltb reasonMost (a .reason)) (leb evCount (a .ev)) (b .0) in
-    record { timely = t .0; ev-ok = leb-false evCount (a .ev) (n .1); rows = b .1 }
+    let k = none-here 22 _ _ (omega arith) (t .1) in
+    let v = none-here 23 _ _ (omega arith) (k .1) in
+    record { timely = t .0; ev-ok = leb-false evCount (a .ev) (v .0); rows = v .1 }
 
 pub loss-facts : (time : ℕ) (a : Loss) (c : Controller) (r : Ring) → firstOf (lossAllRows time a c r) ≡ 0 → Markable time (a .psn) (a .ev) c r
 loss-facts time a c r e =
     let t = time-facts time c _ e in
-    let b = none-here 4 _ _ (omega arith) (t .1) in
-    record { timely = t .0; ev-ok = leb-false evCount (a .ev) (b .0); rows = b .1 }
+    let v = none-here 23 _ _ (omega arith) (t .1) in
+    record { timely = t .0; ev-ok = leb-false evCount (a .ev) (v .0); rows = v .1 }
 
 -- ---- after the ledger's step: what the window's rules and the state's name ask
 

@@ -1,8 +1,10 @@
--- The number that document 01's table gives each answer. "Accepted is 0."
+-- The number that document 01's table, as request M-100 amends it, gives each answer. "Accepted is 0."
 -- Assumes nothing.
+use mathlib.Core.Bool.{Bool, _||_}
 use Prim.Native.Nat.{ℕ}
+use Rattle.decide.specs.Test.{inside}
 use Rattle.sender.specs.declared.Refusal.{Refusal}
-use Rattle.sender.specs.declared.Refusal.the-variants.{Setting, Unsound, Time, Field, Backlog, WindowFull, RingFull, WrongPsn, UnsentOrOld, NotFlying, Sinks}
+use Rattle.sender.specs.declared.Refusal.the-variants.{Setting, Unsound, Time, Size, Backlog, WindowFull, RingFull, WrongPsn, UnsentOrOld, NotFlying, Sinks, Bytes, Count, Reason, Ev, Trigger}
 use Rattle.sender.specs.declared.Outcome.{Outcome}
 use Rattle.sender.specs.declared.Outcome.the-variants as outcome
 use Rattle.sender.specs.declared.Route.{Route}
@@ -13,7 +15,7 @@ unfoldable pub rowOf : Refusal → ℕ
 rowOf Setting = 1
 rowOf Unsound = 2
 rowOf Time = 3
-rowOf Field = 4
+rowOf Size = 4
 rowOf Backlog = 5
 rowOf WindowFull = 6
 rowOf RingFull = 7
@@ -21,6 +23,15 @@ rowOf WrongPsn = 8
 rowOf UnsentOrOld = 9
 rowOf NotFlying = 10
 rowOf Sinks = 11
+rowOf Bytes = 20
+rowOf Count = 21
+rowOf Reason = 22
+rowOf Ev = 23
+rowOf Trigger = 24
+
+-- the table's numbers; 12 is a log's
+unfoldable pub inTable : ℕ → Bool
+inTable n = inside 1 n 11 || inside 20 n 24
 
 unfoldable pub numberOf : Outcome → ℕ
 numberOf outcome.Accepted = 0

@@ -1,5 +1,5 @@
 -- The refusals of each event, in document 01's order: "2, 3, 4, then send: 8, 5, 7, 6; ACK: 9, 11; NACK and loss: 10, 11". New data and path choice
--- "use only the rows that apply". The ledger's rows are `ledger`'s.
+-- "use only the rows that apply". Where 01 has 4 for every field, request M-100 tells which: "4, 20, 21, 22, 23, 24". The ledger's rows are `ledger`'s.
 -- Assumes nothing.
 use mathlib.Core.Bool.{not, _&&_, _||_}
 use mathlib.Core.List.{List, [], _∷_, _++_}
@@ -30,9 +30,9 @@ use Rattle.sender.specs.declared.Loss.{Loss}
 abbrev pub timeRow : ℕ → Controller → Row
 timeRow time c = row (ltb time (c .clock) || leb timeEnd time) 3
 
--- "0 bytes or a sum over 2^40 on new data" (4)
+-- "0 bytes or a sum over 2^40 on new data" (20)
 abbrev pub newDataRows : ℕ → ℕ → Controller → List Row
-newDataRows time bytes c = timeRow time c ∷ row (eqb bytes 0 || ltb backlogMost (c .flow .backlog + bytes)) 4 ∷ []
+newDataRows time bytes c = timeRow time c ∷ row (eqb bytes 0 || ltb backlogMost (c .flow .backlog + bytes)) 20 ∷ []
 
 -- "size outside 41..MTU on a send" (4); .. ; "in-flight + MTU > cwnd on a send" (6)
 abbrev pub sendAllRows : ℕ → Send → Controller → Ring → List Row
@@ -42,23 +42,26 @@ sendAllRows time a c r =
     ∷ (sendRows (c .flow) r (a .psn) (a .size) (a .resend)
     ++ (row (not (hasRoom (c .settings .mtu) (c .window .cwnd) (c .totals .«in_flight»))) 6 ∷ []))
 
--- "count 2^24 or more; .. EV over 255; ACK's trigger PSN not covered by that ACK" (4)
+-- "count 2^24 or more" (21); "EV over 255" (23); "ACK's trigger PSN not covered by that ACK" (24)
 abbrev pub ackAllRows : ℕ → Ack → Controller → List Row
 ackAllRows time a c =
     timeRow time c
-    ∷ row (leb counts (a .count) || leb evCount (a .ev) || not (covered (a .cum) (a .map) (a .trigger))) 4
+    ∷ row (leb counts (a .count)) 21
+    ∷ row (leb evCount (a .ev)) 23
+    ∷ row (not (covered (a .cum) (a .map) (a .trigger))) 24
     ∷ ackRows (c .flow) (c .totals .«in_flight») (a .cum) (a .map) (a .count)
 
--- "NACK reason over 2; EV over 255" (4)
+-- "NACK reason over 2" (22); "EV over 255" (23)
 abbrev pub nackAllRows : ℕ → Nack → Controller → Ring → List Row
 nackAllRows time a c r =
     timeRow time c
-    ∷ row (ltb reasonMost (a .reason) || leb evCount (a .ev)) 4
+    ∷ row (ltb reasonMost (a .reason)) 22
+    ∷ row (leb evCount (a .ev)) 23
     ∷ markRows (c .flow) (c .totals .«in_flight») r (a .psn)
 
--- "EV over 255" (4)
+-- "EV over 255" (23)
 abbrev pub lossAllRows : ℕ → Loss → Controller → Ring → List Row
-lossAllRows time a c r = timeRow time c ∷ row (leb evCount (a .ev)) 4 ∷ markRows (c .flow) (c .totals .«in_flight») r (a .psn)
+lossAllRows time a c r = timeRow time c ∷ row (leb evCount (a .ev)) 23 ∷ markRows (c .flow) (c .totals .«in_flight») r (a .psn)
 
 abbrev pub pathRows : ℕ → Controller → List Row
 pathRows time c = timeRow time c ∷ []

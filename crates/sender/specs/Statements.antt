@@ -1,17 +1,27 @@
--- What the theorems on refusals say: which row a number is, and which send document 01 permits.
+-- What the theorems on refusals say: which row a number is, what request M-100 leaves as it was, and which send document 01 permits.
 -- Assumes nothing.
 use mathlib.Core.Path.{_≡_}
-use mathlib.Core.Bool.{Bool, true, false, not, _&&_}
+use mathlib.Core.Bool.{Bool, true, false, not, _&&_, _||_}
 use mathlib.Core.List.{List, [], _∷_, _++_}
-use Prim.Native.Nat.{ℕ, _≤_, _<_}
-use Rattle.decide.specs.Rows.{Row}
+use Prim.Native.Nat.{ℕ, _+_, _≤_, _<_}
+use lib.Dec.{leb, ltb, eqb}
+use Rattle.decide.specs.Rows.{Row, row, firstOf}
+use Rattle.serial.specs.Psn.{covered}
+use Rattle.serial.specs.Count.{counts}
+use Rattle.ledger.specs.Bounds.{backlogMost}
 use Rattle.ledger.specs.Packets.{isMarked}
-use Rattle.ledger.specs.Ring.{capOf, longOf, packetOf}
-use Rattle.sender.specs.Limits.{timeEnd}
+use Rattle.ledger.specs.Ring.{Ring, capOf, longOf, packetOf}
+use Rattle.ledger.specs.Rows.{ackRows, markRows}
+use Rattle.sender.specs.Limits.{timeEnd, evCount, reasonMost}
 use Rattle.sender.specs.World.{World}
 use Rattle.sender.specs.Named.{hasRoom}
 use Rattle.sender.specs.Sound.{sound}
+use Rattle.sender.specs.Rows.{timeRow}
+use Rattle.sender.specs.declared.Controller.{Controller}
 use Rattle.sender.specs.declared.Send.{Send}
+use Rattle.sender.specs.declared.Ack.{Ack}
+use Rattle.sender.specs.declared.Nack.{Nack}
+use Rattle.sender.specs.declared.Loss.{Loss}
 
 -- ---- "Of several that apply, the first in the order below is given."
 
@@ -36,6 +46,32 @@ pub record Exact (rows : List Row) (number : ℕ) : Type 0 where
   pub first : (n : ℕ) → First n rows → number ≡ n
   pub accepted : number ≡ 0 → silent rows ≡ true
   pub none : silent rows ≡ true → number ≡ 0
+
+-- ---- request M-100: "what is refused at all stays"
+
+-- document 01's rows as they were, with 4 for every field
+abbrev pub plainNewData : ℕ → ℕ → Controller → List Row
+plainNewData time bytes c = timeRow time c ∷ row (eqb bytes 0 || ltb backlogMost (c .flow .backlog + bytes)) 4 ∷ []
+
+abbrev pub plainAck : ℕ → Ack → Controller → List Row
+plainAck time a c =
+    timeRow time c
+    ∷ row (leb counts (a .count) || leb evCount (a .ev) || not (covered (a .cum) (a .map) (a .trigger))) 4
+    ∷ ackRows (c .flow) (c .totals .«in_flight») (a .cum) (a .map) (a .count)
+
+abbrev pub plainNack : ℕ → Nack → Controller → Ring → List Row
+plainNack time a c r =
+    timeRow time c
+    ∷ row (ltb reasonMost (a .reason) || leb evCount (a .ev)) 4
+    ∷ markRows (c .flow) (c .totals .«in_flight») r (a .psn)
+
+abbrev pub plainLoss : ℕ → Loss → Controller → Ring → List Row
+plainLoss time a c r = timeRow time c ∷ row (leb evCount (a .ev)) 4 ∷ markRows (c .flow) (c .totals .«in_flight») r (a .psn)
+
+-- the new rows refuse what the old ones refuse, and give every number but 4 as they gave it
+pub record Apart (old new : List Row) : Type 0 where
+  pub same-refused : silent new ≡ silent old
+  pub same-number : (firstOf old ≡ 4 → ⊥) → firstOf new ≡ firstOf old
 
 -- ---- a send that 01 permits
 

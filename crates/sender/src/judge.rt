@@ -17,14 +17,24 @@ ghost use Rattle.sender.specs.Limits.{timeEnd};
 ghost use Rattle.sender.specs.Bounds.{Bounded, roomAfter};
 ghost use Rattle.sender.specs.Rows.{newDataRows, sendAllRows, ackAllRows, nackAllRows, lossAllRows, pathRows};
 
-// The numbers of document 01's table that the sender gives itself.
+// The numbers of the table that the sender gives itself: document 01's, with its field row told apart by request M-100.
 pub const UNSOUND: u32 = 2;
 
 pub const BAD_TIME: u32 = 3;
 
-pub const BAD_FIELD: u32 = 4;
+pub const BAD_SIZE: u32 = 4;
 
 pub const WINDOW_FULL: u32 = 6;
+
+pub const BAD_BYTES: u32 = 20;
+
+pub const BAD_COUNT: u32 = 21;
+
+pub const BAD_REASON: u32 = 22;
+
+pub const BAD_EV: u32 = 23;
+
+pub const BAD_TRIGGER: u32 = 24;
 
 // Refusal 3: a time before the held clock, or 2^48 or more.
 fn bad_time(time: u64, clock: u64) -> bool
@@ -33,7 +43,7 @@ fn bad_time(time: u64, clock: u64) -> bool
     (time < clock) | (crate::TIME_END <= time)
 }
 
-// New data: 3, 4.
+// New data: 3, 20.
 pub fn judge_new_data(c: Controller, time: u64, bytes: u64) -> u32
     requires { ⌜ Bounded c ⌝ }
     ensures { λ r. ⌜ r ≡ firstOf (newDataRows time bytes c) ⌝ }
@@ -44,7 +54,7 @@ pub fn judge_new_data(c: Controller, time: u64, bytes: u64) -> u32
         return BAD_TIME;
     }
     if (bytes == 0) | (ledger::BACKLOG_MOST - backlog < bytes) {
-        return BAD_FIELD;
+        return BAD_BYTES;
     }
     0
 }
@@ -86,7 +96,7 @@ pub fn judge_send<'a>(
         return BAD_TIME;
     }
     if !decide::within(ledger::SIZE_LEAST as u64, a.size as u64, settings.mtu) {
-        return BAD_FIELD;
+        return BAD_SIZE;
     }
     if a.resend {
         return judge_room(
@@ -100,7 +110,7 @@ pub fn judge_send<'a>(
     )
 }
 
-// An ACK: 3, 4, 9, 11.
+// An ACK: 3, 21, 23, 24, 9, 11.
 pub fn judge_ack(c: Controller, time: u64, a: Ack) -> u32
     requires { ⌜ Bounded c ⌝ }
     ensures { λ r. ⌜ r ≡ firstOf (ackAllRows time a c) ⌝ }
@@ -110,16 +120,19 @@ pub fn judge_ack(c: Controller, time: u64, a: Ack) -> u32
     if bad_time(time, c.clock) {
         return BAD_TIME;
     }
-    if (serial::COUNTS <= a.count)
-        | (crate::EVS <= a.ev)
-        | !serial::covers(a.cum, a.map, a.trigger)
-    {
-        return BAD_FIELD;
+    if serial::COUNTS <= a.count {
+        return BAD_COUNT;
+    }
+    if crate::EVS <= a.ev {
+        return BAD_EV;
+    }
+    if !serial::covers(a.cum, a.map, a.trigger) {
+        return BAD_TRIGGER;
     }
     ledger::judge::judge_ack(Books { flow, totals }, a.cum, a.map, a.count)
 }
 
-// A NACK: 3, 4, 10, 11.
+// A NACK: 3, 22, 23, 10, 11.
 pub fn judge_nack<'a>(
     c: Controller,
     status: &'a [u8],
@@ -138,13 +151,16 @@ pub fn judge_nack<'a>(
     if bad_time(time, c.clock) {
         return BAD_TIME;
     }
-    if (crate::REASON_MOST < a.reason) | (crate::EVS <= a.ev) {
-        return BAD_FIELD;
+    if crate::REASON_MOST < a.reason {
+        return BAD_REASON;
+    }
+    if crate::EVS <= a.ev {
+        return BAD_EV;
     }
     ledger::judge::judge_mark(Books { flow, totals }, status, size, sent, resent, a.psn)
 }
 
-// A loss: 3, 4, 10, 11.
+// A loss: 3, 23, 10, 11.
 pub fn judge_loss<'a>(
     c: Controller,
     status: &'a [u8],
@@ -164,7 +180,7 @@ pub fn judge_loss<'a>(
         return BAD_TIME;
     }
     if crate::EVS <= a.ev {
-        return BAD_FIELD;
+        return BAD_EV;
     }
     ledger::judge::judge_mark(Books { flow, totals }, status, size, sent, resent, a.psn)
 }

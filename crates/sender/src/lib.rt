@@ -13,9 +13,9 @@ use ledger::Totals;
 use window::Settings;
 use window::Window;
 ghost use mathlib.Core.Path.{_≡_};
+ghost use mathlib.Core.Bool.{true};
 ghost use Rattle.ledger.specs.Ring.{ring};
-ghost use Prim.Native.Nat.{_<_, _≤_};
-ghost use Rattle.sender.specs.Numbers.{rowOf, numberOf, pathNumber, pathEv};
+ghost use Rattle.sender.specs.Numbers.{rowOf, inTable, numberOf, pathNumber, pathEv};
 ghost use Rattle.sender.specs.World.{world, answered, routed};
 ghost use Rattle.sender.specs.Events.{onNewData, onSend, onAck, onNack, onLoss, onPath};
 
@@ -47,12 +47,12 @@ pub struct Controller {
     pub phase: Phase,
 }
 
-// A row of document 01's table; `Numbers.numberOf` gives each its number.
+// A row of document 01's table, its field row told apart by request M-100; `Numbers.rowOf` gives each its number.
 pub enum Refusal {
     Setting,
     Unsound,
     Time,
-    Field,
+    Size,
     Backlog,
     WindowFull,
     RingFull,
@@ -60,6 +60,11 @@ pub enum Refusal {
     UnsentOrOld,
     NotFlying,
     Sinks,
+    Bytes,
+    Count,
+    Reason,
+    Ev,
+    Trigger,
 }
 
 pub enum Outcome {
@@ -117,21 +122,26 @@ pub struct Loss {
 
 // The refusal of a number.
 fn refusal_of(number: u32) -> Refusal
-    requires { ⌜ (0 < number) × (number ≤ 11) ⌝ }
+    requires { ⌜ inTable number ≡ true ⌝ }
     ensures { λ r. ⌜ rowOf r ≡ number ⌝ }
 {
     match number {
         1 => Refusal::Setting,
         2 => Refusal::Unsound,
         3 => Refusal::Time,
-        4 => Refusal::Field,
+        4 => Refusal::Size,
         5 => Refusal::Backlog,
         6 => Refusal::WindowFull,
         7 => Refusal::RingFull,
         8 => Refusal::WrongPsn,
         9 => Refusal::UnsentOrOld,
         10 => Refusal::NotFlying,
-        _ => Refusal::Sinks,
+        11 => Refusal::Sinks,
+        20 => Refusal::Bytes,
+        21 => Refusal::Count,
+        22 => Refusal::Reason,
+        23 => Refusal::Ev,
+        _ => Refusal::Trigger,
     }
 }
 
@@ -143,7 +153,7 @@ fn row_of(r: Refusal) -> u32
         Refusal::Setting => 1,
         Refusal::Unsound => 2,
         Refusal::Time => 3,
-        Refusal::Field => 4,
+        Refusal::Size => 4,
         Refusal::Backlog => 5,
         Refusal::WindowFull => 6,
         Refusal::RingFull => 7,
@@ -151,6 +161,11 @@ fn row_of(r: Refusal) -> u32
         Refusal::UnsentOrOld => 9,
         Refusal::NotFlying => 10,
         Refusal::Sinks => 11,
+        Refusal::Bytes => 20,
+        Refusal::Count => 21,
+        Refusal::Reason => 22,
+        Refusal::Ev => 23,
+        Refusal::Trigger => 24,
     }
 }
 
@@ -176,7 +191,7 @@ pub fn path_number(route: Route) -> u32
 
 // The state as it was given, refused with a number.
 pub(crate) fn refused(state: Controller, number: u32) -> Answer
-    requires { ⌜ (0 < number) × (number ≤ 11) ⌝ }
+    requires { ⌜ inTable number ≡ true ⌝ }
     ensures { λ r. ⌜ (r .state ≡ state) × (numberOf (r .outcome) ≡ number) ⌝ }
 {
     Answer {

@@ -186,7 +186,7 @@ impl Source {
         let half = end / 2;
         let old = self.rng.pick(&[end - 1, half - 1, half, half + 1]);
         let ahead = self.rng.pick(&[0, 1, step, step, old, deep, to_bound + 1]);
-        match self.rng.below(16) {
+        match self.rng.below(8) {
             0 => self
                 .rng
                 .pick(&[COUNT_END - 1, COUNT_END, 1 << 25, u32::MAX]),

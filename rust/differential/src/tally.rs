@@ -2,15 +2,18 @@
 
 use crate::call::Call;
 use crate::sides::Model;
-use nscc::{Word, IN_FLIGHT_ADDED, WORDS};
+use nscc::{Refusal, Word, IN_FLIGHT_ADDED, WORDS};
 use std::fmt;
+
+/// Room for every number of an answer.
+const NUMBERS: usize = Refusal::Trigger as usize + 1;
 
 #[derive(Clone, Debug, Default)]
 pub struct Tally {
     /// Streams, states or logs.
     pub cases: u64,
     /// Answers by number.
-    pub answers: [u64; 13],
+    pub answers: [u64; NUMBERS],
     pub seen: Seen,
 }
 

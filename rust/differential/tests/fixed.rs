@@ -7,6 +7,9 @@ use std::time::Instant;
 /// Under an emulator one seed in so many.
 const SHARE: u64 = if EMULATED { 20 } else { 1 };
 
+/// The numbers of a field that is refused.
+const FIELDS: [usize; 6] = [4, 20, 21, 22, 23, 24];
+
 fn run(kind: Kind, seeds: u64) -> Tally {
     let start = Instant::now();
     let mut tally = Tally::default();
@@ -41,7 +44,8 @@ fn set_up() {
 #[test]
 fn streams() {
     let tally = run(Kind::Streams, 324);
-    all_met(&tally, &[0, 3, 4, 5, 6, 7, 8, 9, 10, 11], 50);
+    all_met(&tally, &[0, 3, 5, 6, 7, 8, 9, 10, 11], 50);
+    all_met(&tally, &FIELDS, 50);
     let seen = &tally.seen;
     let rules = [seen.cuts, seen.quick_adapts, seen.fast_modes];
     often(&tally, &rules, 100);
@@ -51,13 +55,15 @@ fn streams() {
 #[test]
 fn logs() {
     let tally = run(Kind::Logs, 800);
-    all_met(&tally, &[0, 3, 4, 5, 6, 8, 9, 10, 11], 20);
+    all_met(&tally, &[0, 3, 5, 6, 8, 9, 10, 11], 20);
+    all_met(&tally, &FIELDS, 20);
 }
 
 #[test]
 fn states() {
     let tally = run(Kind::States, 2_000);
-    all_met(&tally, &[0, 3, 4, 5, 6, 7, 8, 9, 10, 11], 20);
+    all_met(&tally, &[0, 3, 5, 6, 7, 8, 9, 10, 11], 20);
+    all_met(&tally, &FIELDS, 20);
     let seen = &tally.seen;
     let rare = [seen.stops, seen.count_wraps, seen.psn_wraps];
     often(&tally, &rare, 100);
@@ -66,19 +72,22 @@ fn states() {
 #[test]
 fn spoilt() {
     let tally = run(Kind::Spoilt, 2_000);
-    all_met(&tally, &[0, 2, 3, 4], 100);
+    all_met(&tally, &[0, 2, 3], 100);
+    all_met(&tally, &FIELDS, 100);
 }
 
 #[test]
 fn replay() {
     let tally = run(Kind::Replay, 2_400);
-    all_met(&tally, &[0, 1, 3, 4, 5, 6, 8, 9, 10, 11, 12], 5);
+    all_met(&tally, &[0, 1, 3, 5, 6, 8, 9, 10, 11, 12], 5);
+    all_met(&tally, &FIELDS, 5);
 }
 
 #[test]
 fn text() {
     let tally = run(Kind::Text, 2_400);
-    all_met(&tally, &[0, 1, 3, 4, 5, 6, 8, 9, 10, 11, 12], 5);
+    all_met(&tally, &[0, 1, 3, 5, 6, 8, 9, 10, 11, 12], 5);
+    all_met(&tally, &FIELDS, 5);
 }
 
 #[test]

@@ -234,7 +234,7 @@ impl State {
     fn try_new_data(&mut self, event: &NewData) -> Result<(), Refusal> {
         self.time_allowed(event.time)?;
         let fits = event.bytes <= BACKLOG_MAX - self.backlog;
-        Refusal::Field.unless(event.bytes > 0 && fits)?;
+        Refusal::Bytes.unless(event.bytes > 0 && fits)?;
 
         self.backlog += event.bytes;
         self.finish(event.time);
@@ -244,7 +244,7 @@ impl State {
     fn try_send(&mut self, lent: &mut Lent, event: &Send) -> Result<(), Refusal> {
         self.time_allowed(event.time)?;
         let size = event.size;
-        Refusal::Field.unless(size >= SIZE_MIN && u64::from(size) <= self.settings.mtu)?;
+        Refusal::Size.unless(size >= SIZE_MIN && u64::from(size) <= self.settings.mtu)?;
         if event.resend {
             self.resend(lent, event)?;
         } else {
@@ -278,9 +278,9 @@ impl State {
     fn try_ack(&mut self, lent: &mut Lent, event: &Ack) -> Result<(), Refusal> {
         let now = event.time;
         self.time_allowed(now)?;
+        Refusal::Count.unless(event.count < COUNT_END)?;
         ev_allowed(event.ev)?;
-        Refusal::Field.unless(event.count < COUNT_END)?;
-        Refusal::Field.unless(covers(event.cum, event.map, event.trigger))?;
+        Refusal::Trigger.unless(covers(event.cum, event.map, event.trigger))?;
         Refusal::WrongAck.unless(self.names_sent(event.cum, event.map))?;
         let forward = self.forward_units(event.count);
         let falls_by = UNIT * u64::from(forward.unwrap_or(0));
@@ -304,8 +304,8 @@ impl State {
     fn try_nack(&mut self, lent: &mut Lent, event: &Nack) -> Result<(), Refusal> {
         let now = event.time;
         self.time_allowed(now)?;
+        Refusal::Reason.unless(event.reason <= OTHER)?;
         ev_allowed(event.ev)?;
-        Refusal::Field.unless(event.reason <= OTHER)?;
         let slot = self.lost_slot(lent, event.psn)?;
 
         let base_before = self.base;
@@ -371,5 +371,5 @@ impl State {
 }
 
 fn ev_allowed(ev: u16) -> Result<(), Refusal> {
-    Refusal::Field.unless(usize::from(ev) < EVS)
+    Refusal::Ev.unless(usize::from(ev) < EVS)
 }

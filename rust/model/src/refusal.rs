@@ -1,11 +1,12 @@
-/// Why an event, a setting up or a log record is refused; the value is the number of 01.
+/// Why an event, a setting up or a log record is refused; the value is the number of 01 as amended
+/// by M-100.
 #[derive(Clone, Copy, Debug, PartialEq, Eq)]
 #[repr(u8)]
 pub enum Refusal {
     Setting = 1,
     NotTogether = 2,
     Time = 3,
-    Field = 4,
+    Size = 4,
     Backlog = 5,
     Window = 6,
     RingFull = 7,
@@ -15,6 +16,11 @@ pub enum Refusal {
     InFlight = 11,
     Malformed = 12,
     Room = 13,
+    Bytes = 20,
+    Count = 21,
+    Reason = 22,
+    Ev = 23,
+    Trigger = 24,
 }
 
 impl Refusal {

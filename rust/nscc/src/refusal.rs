@@ -7,7 +7,7 @@ pub enum Refusal {
     Setting = 1,
     Unsound = 2,
     Time = 3,
-    Field = 4,
+    Size = 4,
     Backlog = 5,
     WindowFull = 6,
     RingFull = 7,
@@ -16,6 +16,11 @@ pub enum Refusal {
     NotFlying = 10,
     Sinks = 11,
     Malformed = 12,
+    Bytes = 20,
+    Count = 21,
+    Reason = 22,
+    Ev = 23,
+    Trigger = 24,
 }
 
 impl Refusal {
@@ -24,11 +29,11 @@ impl Refusal {
     }
 
     pub fn of(number: u32) -> Option<Refusal> {
-        const ALL: [Refusal; 12] = [
+        const ALL: [Refusal; 17] = [
             Refusal::Setting,
             Refusal::Unsound,
             Refusal::Time,
-            Refusal::Field,
+            Refusal::Size,
             Refusal::Backlog,
             Refusal::WindowFull,
             Refusal::RingFull,
@@ -37,6 +42,11 @@ impl Refusal {
             Refusal::NotFlying,
             Refusal::Sinks,
             Refusal::Malformed,
+            Refusal::Bytes,
+            Refusal::Count,
+            Refusal::Reason,
+            Refusal::Ev,
+            Refusal::Trigger,
         ];
         ALL.into_iter().find(|refusal| refusal.number() == number)
     }
@@ -48,7 +58,7 @@ impl fmt::Display for Refusal {
             Refusal::Setting => "a setting is outside its range",
             Refusal::Unsound => "state or buffers don't hold together",
             Refusal::Time => "time before the held clock, or 2^48 or more",
-            Refusal::Field => "a field is out of range",
+            Refusal::Size => "a packet's size is outside 41..MTU",
             Refusal::Backlog => "a new packet larger than the backlog",
             Refusal::WindowFull => "in-flight + MTU is over the window",
             Refusal::RingFull => "no slot for a new packet",
@@ -57,6 +67,11 @@ impl fmt::Display for Refusal {
             Refusal::NotFlying => "the packet does not fly",
             Refusal::Sinks => "in-flight would fall below -2^24",
             Refusal::Malformed => "a log record is malformed",
+            Refusal::Bytes => "new data of 0 bytes, or a backlog over 2^40",
+            Refusal::Count => "a received count of 2^24 or more",
+            Refusal::Reason => "a NACK's reason over 2",
+            Refusal::Ev => "an EV over 255",
+            Refusal::Trigger => "an ACK does not cover its trigger",
         };
         write!(f, "{}: {why}", self.number())
     }

@@ -81,6 +81,38 @@ fn paths_and_losses() {
 }
 
 #[test]
+fn refused_fields() {
+    let mut context = Context::set_up(&e(), 64).expect("good settings");
+    assert_eq!(context.new_data(0, 0), Err(Refusal::Bytes));
+    assert_eq!(context.new_data(0, 8192), Ok(()));
+    assert_eq!(context.send(10, 0, 40, false), Err(Refusal::Size));
+    assert_eq!(context.send(10, 0, 4096, false), Ok(()));
+    let before = context.clone();
+    let ack = Ack {
+        trigger: 1,
+        ..worked_ack()
+    };
+    assert_eq!(context.ack(&ack), Err(Refusal::Trigger));
+    let ack = Ack { ev: 256, ..ack };
+    assert_eq!(context.ack(&ack), Err(Refusal::Ev));
+    let count = 1 << 24;
+    assert_eq!(context.ack(&Ack { count, ..ack }), Err(Refusal::Count));
+    let nack = Nack {
+        time: 110,
+        psn: 0,
+        ev: 256,
+        reason: 3,
+        marked: false,
+        retx: false,
+    };
+    assert_eq!(context.nack(&nack), Err(Refusal::Reason));
+    let reason = 2;
+    assert_eq!(context.nack(&Nack { reason, ..nack }), Err(Refusal::Ev));
+    assert_eq!(context.loss(110, 0, 256), Err(Refusal::Ev));
+    assert_eq!(context, before);
+}
+
+#[test]
 fn refused_settings_and_lengths() {
     let small = Settings { mtu: 1023, ..e() };
     assert_eq!(Context::set_up(&small, 64), Err(Refusal::Setting));

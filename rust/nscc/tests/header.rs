@@ -62,10 +62,12 @@ fn place() {
 #[test]
 fn refusals() {
     let header = names("nscc_refusal");
-    assert_eq!(header.len(), 13);
+    assert_eq!(header.len(), 18);
     assert_eq!(header[0], ("ACCEPTED".to_string(), Some(0)));
     for (name, number) in &header[1..] {
         let refusal = number.and_then(Refusal::of).expect("a refusal");
+        // The names of C's enums share one space, where TRIGGER is a word of the state.
+        let name = name.strip_prefix("BAD_").unwrap_or(name);
         assert_eq!(letters(refusal), letters(name));
     }
 }

@@ -1,8 +1,8 @@
--- `refusal_of` answers the row of the number, case by case; what is left is from 11 on and at most 11.
-use native.Mathlib.Nat.{le-antisymm}
+-- `refusal_of` answers the row of the number, case by case; of the table's numbers only the last is left.
+use mathlib.Core.Path.{sym}
 use borrow.Author.Needs.{needs}
 use Rattle.sender.specs.Numbers.{rowOf}
-use Rattle.sender.proofs.Rowing.{past}
+use Rattle.sender.proofs.Rowing.{past, table-last}
 use Rattle.sender.proofs.refusal_of.Statement.{statement}
 use Rattle.sender.proofs.refusal_of.Tie as tie
 
@@ -48,20 +48,30 @@ returns-10 c = search needs
 
 returns-11 : tie.Need-returns-11
 unfolding rowOf
-returns-11 c =
+returns-11 c = search needs
+
+returns-12 : tie.Need-returns-12
+unfolding rowOf
+returns-12 c = search needs
+
+returns-13 : tie.Need-returns-13
+unfolding rowOf
+returns-13 c = search needs
+
+returns-14 : tie.Need-returns-14
+unfolding rowOf
+returns-14 c = search needs
+
+returns-15 : tie.Need-returns-15
+unfolding rowOf
+returns-15 c = search needs
+
+returns-16 : tie.Need-returns-16
+unfolding rowOf
+returns-16 c =
     let n = c .before .args .number in
     let q = c .match .rest in
-    let from-2 = past n 1 (c .before .pre .0) (q .0 .0 .0 .0 .0 .0 .0 .0 .0 .1) in
-    let from-3 = past n 2 from-2 (q .0 .0 .0 .0 .0 .0 .0 .0 .1) in
-    let from-4 = past n 3 from-3 (q .0 .0 .0 .0 .0 .0 .0 .1) in
-    let from-5 = past n 4 from-4 (q .0 .0 .0 .0 .0 .0 .1) in
-    let from-6 = past n 5 from-5 (q .0 .0 .0 .0 .0 .1) in
-    let from-7 = past n 6 from-6 (q .0 .0 .0 .0 .1) in
-    let from-8 = past n 7 from-7 (q .0 .0 .0 .1) in
-    let from-9 = past n 8 from-8 (q .0 .0 .1) in
-    let from-10 = past n 9 from-9 (q .0 .1) in
-    let from-11 = past n 10 from-10 (q .1) in
-    le-antisymm from-11 (c .before .pre .1)
+    sym (table-last n (c .before .pre) (λ h. (past n 11 (past n 10 (past n 9 (past n 8 (past n 7 (past n 6 (past n 5 (past n 4 (past n 3 (past n 2 (past n 1 h (q .0 .0 .0 .0 .0 .0 .0 .0 .0 .0 .0 .0 .0 .0 .1)) (q .0 .0 .0 .0 .0 .0 .0 .0 .0 .0 .0 .0 .0 .1)) (q .0 .0 .0 .0 .0 .0 .0 .0 .0 .0 .0 .0 .1)) (q .0 .0 .0 .0 .0 .0 .0 .0 .0 .0 .0 .1)) (q .0 .0 .0 .0 .0 .0 .0 .0 .0 .0 .1)) (q .0 .0 .0 .0 .0 .0 .0 .0 .0 .1)) (q .0 .0 .0 .0 .0 .0 .0 .0 .1)) (q .0 .0 .0 .0 .0 .0 .0 .1)) (q .0 .0 .0 .0 .0 .0 .1)) (q .0 .0 .0 .0 .0 .1)) (q .0 .0 .0 .0 .1))) (λ h. (past n 23 (past n 22 (past n 21 (past n 20 h (q .0 .0 .0 .1)) (q .0 .0 .1)) (q .0 .1)) (q .1))))
 
 pub refusal-of-spec : {M : Type 1} → statement M
 refusal-of-spec =
@@ -77,4 +87,9 @@ refusal-of-spec =
     returns-8
     returns-9
     returns-10
-    returns-11)
+    returns-11
+    returns-12
+    returns-13
+    returns-14
+    returns-15
+    returns-16)

@@ -37,6 +37,21 @@ enum-told-10 c = search needs
 enum-told-11 : tie.Need-enum-told-11
 enum-told-11 c = search needs
 
+enum-told-12 : tie.Need-enum-told-12
+enum-told-12 c = search needs
+
+enum-told-13 : tie.Need-enum-told-13
+enum-told-13 c = search needs
+
+enum-told-14 : tie.Need-enum-told-14
+enum-told-14 c = search needs
+
+enum-told-15 : tie.Need-enum-told-15
+enum-told-15 c = search needs
+
+enum-told-16 : tie.Need-enum-told-16
+enum-told-16 c = search needs
+
 returns : tie.Need-returns
 unfolding rowOf
 returns c = search needs
@@ -81,6 +96,26 @@ returns-11 : tie.Need-returns-11
 unfolding rowOf
 returns-11 c = search needs
 
+returns-12 : tie.Need-returns-12
+unfolding rowOf
+returns-12 c = search needs
+
+returns-13 : tie.Need-returns-13
+unfolding rowOf
+returns-13 c = search needs
+
+returns-14 : tie.Need-returns-14
+unfolding rowOf
+returns-14 c = search needs
+
+returns-15 : tie.Need-returns-15
+unfolding rowOf
+returns-15 c = search needs
+
+returns-16 : tie.Need-returns-16
+unfolding rowOf
+returns-16 c = search needs
+
 pub row-of-spec : {M : Type 1} → statement M
 row-of-spec =
     tie.close
@@ -96,6 +131,11 @@ row-of-spec =
     enum-told-9
     enum-told-10
     enum-told-11
+    enum-told-12
+    enum-told-13
+    enum-told-14
+    enum-told-15
+    enum-told-16
     returns
     returns-2
     returns-3
@@ -106,4 +146,9 @@ row-of-spec =
     returns-8
     returns-9
     returns-10
-    returns-11)
+    returns-11
+    returns-12
+    returns-13
+    returns-14
+    returns-15
+    returns-16)

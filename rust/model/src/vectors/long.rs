@@ -8,7 +8,7 @@ pub(super) fn logs() -> Vec<Vector> {
     vec![backlog_full(), paths(), ring_full()]
 }
 
-/// 4: a backlog of 2^40, and new data past it.
+/// 20: a backlog of 2^40, and new data past it.
 fn backlog_full() -> Vector {
     let mut log = vec![e()];
     log.extend([data(0, u32::MAX); 256]); // 256 bytes are left

@@ -1,5 +1,5 @@
 //! Malformed logs. All but those about record 1 start with settings E, and a good record follows
-//! the malformed one: it is not looked at.
+//! the malformed one, where that is no cut end: it is not looked at.
 
 use super::build::*;
 use super::Vector;
@@ -12,6 +12,7 @@ pub(super) fn logs() -> Vec<Vector> {
     logs.extend(unknown_bits());
     logs.extend(cut_ends());
     logs.extend(settings_place());
+    logs.extend(offsets());
     logs
 }
 
@@ -121,4 +122,25 @@ fn settings_place() -> Vec<Vector> {
         logs.push(first(&format!("first-{name}"), bytes_of(record)));
     }
     logs
+}
+
+/// Settings that are cut; and, after some or all of the events, one of which is refused, a record
+/// that is too long, settings, and unknown flags.
+fn offsets() -> Vec<Vector> {
+    let settings = bytes_of(e());
+    let cut = |name: &str, left: usize| raw(name, [settings[..left].to_vec()]);
+    let after = |name: &str, many: usize, malformed: Vec<u8>| {
+        let mut records = vec![settings.clone()];
+        let events = events().map(|(_, record)| bytes_of(record));
+        records.extend(events.into_iter().take(many));
+        records.extend([malformed, bytes_of(path(0))]);
+        raw(name, records)
+    };
+    vec![
+        cut("settings-cut-1", 1),
+        cut("settings-cut-last", settings.len() - 1),
+        after("offset-73", 1, longer(path(0))),
+        after("offset-133", 3, settings.clone()),
+        after("offset-183", 6, with_last_byte(nack(0, 0, 2), 4)),
+    ]
 }

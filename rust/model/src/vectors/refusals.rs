@@ -1,5 +1,5 @@
 //! Each refusal number that a log can meet: the last value allowed and the first one refused.
-//! Numbers 7 and 4 at the full backlog need many records and stand with the long logs, number 12
+//! Numbers 7 and 20 at the full backlog need many records and stand with the long logs, number 12
 //! with the malformed ones.
 
 use super::build::*;
@@ -22,6 +22,8 @@ pub(super) fn logs() -> Vec<Vector> {
         not_flying(),
         in_flight(),
         order(),
+        order_ack(),
+        order_nack(),
     ]);
     logs
 }
@@ -148,7 +150,7 @@ fn send_size() -> Vector {
     )
 }
 
-/// 4: the count, EV and trigger of an ACK.
+/// 21, 23 and 24: the count, EV and trigger of an ACK.
 fn ack_fields() -> Vector {
     let far = 0u32.wrapping_sub(PSN_REACH);
     named(
@@ -173,7 +175,7 @@ fn ack_fields() -> Vector {
     )
 }
 
-/// 4: the reason and EV of a NACK, the EV of a loss.
+/// 22 and 23: the reason and EV of a NACK, the EV of a loss.
 fn nack_fields() -> Vector {
     named(
         "nack-fields",
@@ -194,7 +196,7 @@ fn nack_fields() -> Vector {
     )
 }
 
-/// 5: a new packet as large as the backlog, and larger. 4: new data of 0 bytes.
+/// 5: a new packet as large as the backlog, and larger. 20: new data of 0 bytes.
 fn backlog() -> Vector {
     named(
         "backlog",
@@ -336,7 +338,8 @@ fn in_flight() -> Vector {
     )
 }
 
-/// Of several that apply, the first in 01's order: 3, 4, 8, 5, 6; 3, 4, 9, 11; 3, 4, 10.
+/// Of several that apply, the first in order: 3, 4, 8, 5, 6; 3, 24, 9, 11; 3, 22, 10; 3, 23, 10;
+/// 3, 20.
 fn order() -> Vector {
     let most = COUNT_OLD - 1;
     named(
@@ -360,6 +363,55 @@ fn order() -> Vector {
             nack(100, 9, 2),
             loss(99, 9).ev(256),
             loss(100, 9).ev(256),
+            data(99, 0),
+            data(100, 0),
         ],
     )
+}
+
+/// Every choice of 21, 23 and 24: after 3, alone, and before 9, 11 and both.
+fn order_ack() -> Vector {
+    let most = COUNT_OLD - 1; // 11
+    let fields = |time: u64, cum: u32, count: u32| {
+        let good = ack(time, cum, count);
+        let over = ack(time, cum, COUNT_END + count);
+        [
+            over.ev(256).trigger(cum + 1),
+            over.ev(256),
+            over.trigger(cum + 1),
+            good.ev(256).trigger(cum + 1),
+            over,
+            good.ev(256),
+            good.trigger(cum + 1),
+        ]
+    };
+    let mut log = vec![e(), data(100, 100), send(100, 0, 100)];
+    log.extend(fields(99, 9, most));
+    for (cum, count) in [(0, 0), (9, 0), (0, most), (9, most)] {
+        log.extend(fields(100, cum, count));
+    }
+    log.extend([ack(100, 9, most), ack(100, 0, most), ack(100, 0, 0)]);
+    named("order-ack", log)
+}
+
+/// 22 and 23, of a NACK and of a loss: after 3, alone, and before 10 and 11.
+fn order_nack() -> Vector {
+    let fields = |time: u64, psn: u32| {
+        [
+            nack(time, psn, 3).ev(256),
+            nack(time, psn, 3),
+            nack(time, psn, 2).ev(256),
+            loss(time, psn).ev(256),
+        ]
+    };
+    let mut log = vec![e(), data(100, 297), send(100, 0, 100), send(100, 1, 156)];
+    log.extend(fields(99, 9));
+    log.extend(fields(100, 0));
+    log.extend(fields(100, 9));
+    log.push(ack(100, NONE, 65_537)); // in-flight is then -2^24
+    log.extend(fields(100, 0));
+    log.extend([nack(100, 9, 2), loss(100, 9)]);
+    log.extend([nack(100, 0, 2), loss(100, 0)]);
+    log.extend([send(100, 2, 41), nack(100, 2, 2)]);
+    named("order-nack", log)
 }

@@ -334,10 +334,10 @@ fn prints(records: &[Vec<u8>], lines: &str) {
 
 #[test]
 fn record_1_must_be_settings() {
-    prints(&[new_data(0, 1), settings_e()], "1 12\n");
-    prints(&[vec![7]], "1 12\n");
-    prints(&[vec![7, 0, 0]], "1 12\n");
-    prints(&[vec![55, 0, 16, 0]], "1 12\n");
+    prints(&[new_data(0, 1), settings_e()], "1 12 0\n");
+    prints(&[vec![7]], "1 12 0\n");
+    prints(&[vec![7, 0, 0]], "1 12 0\n");
+    prints(&[vec![55, 0, 16, 0]], "1 12 0\n");
 }
 
 #[test]
@@ -350,7 +350,7 @@ fn a_refused_record_1_stops_replay() {
 
 #[test]
 fn a_second_settings_record_stops_replay() {
-    let lines = format!("{FIRST}2 12\n");
+    let lines = format!("{FIRST}2 12 57\n");
     prints(&[settings_e(), settings_e(), new_data(0, 1)], &lines);
     // Also one that would be refused for its numbers.
     let mut bad = settings_e();
@@ -360,7 +360,7 @@ fn a_second_settings_record_stops_replay() {
 
 #[test]
 fn a_malformed_record_stops_replay() {
-    let lines = format!("{FIRST}2 0 0 614400 0 0 9 READY\n3 12\n");
+    let lines = format!("{FIRST}2 0 0 614400 0 0 9 READY\n3 12 73\n");
     let before = [settings_e(), new_data(0, 9)].concat();
     let [good, ..] = expected_bytes();
     for cut in [vec![1], vec![1, 0], vec![14, 0, 1], good[..15].to_vec()] {

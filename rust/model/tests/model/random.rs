@@ -1,8 +1,11 @@
 //! Random logs against a naive ledger that knows no wrap and no ring, and random garbage.
 
 use crate::rig::*;
-use model::{gen, Event, Memory, Name, Reader, Rng, Settings, State};
+use model::{gen, Event, Memory, Name, Reader, Refusal, Rng, Settings, State};
 use std::collections::BTreeMap;
+
+/// Room for every number of an answer.
+const NUMBERS: usize = Refusal::Trigger as usize + 1;
 
 /// A ledger by plain counting: PSNs and counts as numbers that never wrap.
 struct Naive {
@@ -128,7 +131,7 @@ struct Seen {
     /// Accepted events by kind.
     kinds: [u32; 7],
     /// Answers by number.
-    answers: [u32; 14],
+    answers: [u32; NUMBERS],
     names: [u32; 4],
     cuts: u32,
     fired: u32,
@@ -243,7 +246,7 @@ fn hostile_logs() {
         follow(&gen::hostile(seed, 1_500), &mut seen);
     }
     // 1, 2, 12 and 13 are no answers to an event of a log.
-    for number in [0, 3, 4, 5, 6, 7, 8, 9, 10, 11] {
+    for number in [0, 3, 4, 5, 6, 7, 8, 9, 10, 11, 20, 21, 22, 23, 24] {
         assert!(seen.answers[number] > 10, "{number}: {:?}", seen.answers);
     }
     assert!(
@@ -280,7 +283,7 @@ fn hostile_logs_stop_in_every_way() {
         let text = model::replay(&gen::hostile(seed, 5));
         let last: Vec<&str> = text.lines().last().unwrap_or("").split(' ').collect();
         let stop = match last[..] {
-            [_, number] => number.to_string(),
+            [_, number] | [_, number, _] => number.to_string(),
             ["rec", ..] => "empty".to_string(),
             _ => "end".to_string(),
         };
@@ -390,7 +393,7 @@ fn any_event(rng: &mut Rng) -> Event {
 #[test]
 fn garbage_is_answered() {
     let mut rng = Rng::new(5);
-    let mut answers = [0; 14];
+    let mut answers = [0; NUMBERS];
     for _ in 0..60_000 {
         let mut rig = Rig::e().lay(
             u32::MAX,

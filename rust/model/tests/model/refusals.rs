@@ -196,36 +196,36 @@ fn number_4_size_of_a_resend() {
 }
 
 #[test]
-fn number_4_new_data() {
+fn number_20_new_data() {
     let full = 1 << 40;
-    rig().refuse(4, new_data(NOW, 0));
+    rig().refuse(20, new_data(NOW, 0));
     rig().accept(new_data(NOW, 1));
     rig().accept(new_data(NOW, full - 5_000));
-    rig().refuse(4, new_data(NOW, full - 4_999));
-    rig().refuse(4, new_data(NOW, u64::MAX));
+    rig().refuse(20, new_data(NOW, full - 4_999));
+    rig().refuse(20, new_data(NOW, u64::MAX));
     let after = rig().after(new_data(NOW, full - 5_000));
     assert_eq!(after.state.backlog, full);
-    after.clone().refuse(4, new_data(NOW, 1));
+    after.clone().refuse(20, new_data(NOW, 1));
 }
 
 #[test]
-fn number_4_count() {
+fn number_21_count() {
     rig().accept(ack(NOW, 100, (1 << 24) - 1));
-    rig().refuse(4, ack(NOW, 100, 1 << 24));
-    rig().refuse(4, ack(NOW, 100, u32::MAX));
+    rig().refuse(21, ack(NOW, 100, 1 << 24));
+    rig().refuse(21, ack(NOW, 100, u32::MAX));
 }
 
 #[test]
-fn number_4_nack_reason() {
+fn number_22_nack_reason() {
     for reason in [0, 1, 2] {
         rig().accept(nack(NOW, 100, reason));
     }
-    rig().refuse(4, nack(NOW, 100, 3));
-    rig().refuse(4, nack(NOW, 100, 255));
+    rig().refuse(22, nack(NOW, 100, 3));
+    rig().refuse(22, nack(NOW, 100, 255));
 }
 
 #[test]
-fn number_4_ev() {
+fn number_23_ev() {
     let with_ev = |ev: u16| -> [model::Event; 3] {
         let ack = ack(NOW, 100, 0);
         let nack = nack(NOW, 100, 2);
@@ -240,12 +240,12 @@ fn number_4_ev() {
         rig().accept(event);
     }
     for event in with_ev(256).into_iter().chain(with_ev(u16::MAX)) {
-        rig().refuse(4, event);
+        rig().refuse(23, event);
     }
 }
 
 #[test]
-fn number_4_trigger() {
+fn number_24_trigger() {
     let with_trigger = |cum: u32, map: u64, trigger: u32| Ack {
         map,
         trigger,
@@ -255,17 +255,17 @@ fn number_4_trigger() {
     rig().accept(with_trigger(100, 0, 100));
     rig().accept(with_trigger(100, 0, 99));
     rig().accept(with_trigger(100, 0, 100u32.wrapping_sub(1 << 30)));
-    rig().refuse(4, with_trigger(100, 0, 99u32.wrapping_sub(1 << 30)));
+    rig().refuse(24, with_trigger(100, 0, 99u32.wrapping_sub(1 << 30)));
     // By a bit of the map.
     rig().accept(with_trigger(100, 0b100, 103));
-    rig().refuse(4, with_trigger(100, 0b100, 102));
-    rig().refuse(4, with_trigger(100, 0b100, 101));
-    rig().refuse(4, with_trigger(100, 0, 101));
+    rig().refuse(24, with_trigger(100, 0b100, 102));
+    rig().refuse(24, with_trigger(100, 0b100, 101));
+    rig().refuse(24, with_trigger(100, 0, 101));
     // Bit 63, and the PSN behind it.
     let top = 1 << 63;
     rig().accept(with_trigger(38, top, 102));
-    rig().refuse(4, with_trigger(38, top, 103));
-    rig().refuse(4, with_trigger(38, u64::MAX, 103));
+    rig().refuse(24, with_trigger(38, top, 103));
+    rig().refuse(24, with_trigger(38, u64::MAX, 103));
 }
 
 #[test]
@@ -426,7 +426,7 @@ fn number_11_by_a_loss() {
 }
 
 #[test]
-fn order_2_3_4() {
+fn order_2_3_then_a_field() {
     let mut spoilt = rig();
     spoilt.state.cursor = 256;
     spoilt.refuse(2, send(0, 104, 0));
@@ -465,21 +465,57 @@ fn order_of_a_send_4_8_5_7_6() {
     rig.refuse(6, resend(NOW, 1, 4_096));
 }
 
+/// The fields of an ACK: its count, EV and trigger.
 #[test]
-fn order_of_an_ack_4_9_11() {
-    let mut rig = rig();
+fn order_of_an_ack_21_23_24() {
+    let good = ack(NOW, 100, 0);
+    let (count, ev, trigger) = (1 << 24, 256, 101);
     let all = Ack {
-        trigger: 110,
-        ..ack(NOW, 105, 8_388_607)
+        count,
+        ev,
+        trigger,
+        ..good
     };
-    rig.refuse(4, all);
-    rig.refuse(
-        9,
+    rig().refuse(21, all);
+    rig().refuse(21, Ack { count, ev, ..good });
+    rig().refuse(
+        21,
         Ack {
-            trigger: 105,
+            count,
+            trigger,
+            ..good
+        },
+    );
+    rig().refuse(
+        23,
+        Ack {
+            ev,
+            trigger,
+            ..good
+        },
+    );
+}
+
+#[test]
+fn order_of_an_ack_fields_9_11() {
+    let mut rig = rig();
+    let all = ack(NOW, 105, 8_388_607);
+    rig.refuse(
+        21,
+        Ack {
+            count: (1 << 24) + 8_388_607,
             ..all
         },
     );
+    rig.refuse(23, Ack { ev: 256, ..all });
+    rig.refuse(
+        24,
+        Ack {
+            trigger: 110,
+            ..all
+        },
+    );
+    rig.refuse(9, all);
     rig.refuse(
         11,
         Ack {
@@ -491,20 +527,38 @@ fn order_of_an_ack_4_9_11() {
 }
 
 #[test]
-fn order_of_a_nack_and_a_loss_4_10_11() {
+fn order_of_a_nack_and_a_loss_22_23_10_11() {
     let mut rig = rig();
     rig.state.in_flight = -16_777_216;
     rig.settle();
-    rig.refuse(4, nack(NOW, 101, 3));
+    let ev = 256;
+    // Beside 10, then beside 11.
+    for psn in [101, 100] {
+        rig.refuse(
+            22,
+            Nack {
+                ev,
+                ..nack(NOW, psn, 3)
+            },
+        );
+        rig.refuse(22, nack(NOW, psn, 3));
+        rig.refuse(
+            23,
+            Nack {
+                ev,
+                ..nack(NOW, psn, 2)
+            },
+        );
+        rig.refuse(
+            23,
+            Loss {
+                ev,
+                ..loss(NOW, psn)
+            },
+        );
+    }
     rig.refuse(10, nack(NOW, 101, 2));
     rig.refuse(11, nack(NOW, 100, 2));
-    rig.refuse(
-        4,
-        Loss {
-            ev: 256,
-            ..loss(NOW, 101)
-        },
-    );
     rig.refuse(10, loss(NOW, 101));
     rig.refuse(11, loss(NOW, 100));
 }

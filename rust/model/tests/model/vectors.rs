@@ -53,7 +53,7 @@ fn every_number_that_a_log_can_meet_is_met() {
         .iter()
         .flat_map(|vector| answers(&replay(&vector.log)))
         .collect();
-    let expected = [0, 1, 3, 4, 5, 6, 7, 8, 9, 10, 11, 12];
+    let expected = [0, 1, 3, 4, 5, 6, 7, 8, 9, 10, 11, 12, 20, 21, 22, 23, 24];
     assert_eq!(numbers, BTreeSet::from(expected));
 }
 
@@ -82,6 +82,32 @@ fn records(log: &[u8]) -> usize {
     records
 }
 
+/// The offset in a line with 12 is that of the record's length; other stops tell none.
+#[test]
+fn a_malformed_record_is_told_with_its_offset() {
+    for vector in bundled() {
+        let text = replay(&vector.log);
+        let last = text.lines().last().expect("the header");
+        match last.split(' ').collect::<Vec<_>>()[..] {
+            [record, "12", offset] => {
+                let record = record.parse().expect("a number");
+                let start = start_of(&vector.log, record).to_string();
+                assert_eq!(offset, start, "{}", vector.name);
+            }
+            [record, number] => assert_eq!((record, number), ("1", "1")),
+            ref words => assert!(words.len() >= 8, "{}: {last}", vector.name),
+        }
+    }
+}
+
+/// Where a record starts, by the lengths of those before it.
+fn start_of(log: &[u8], record: usize) -> usize {
+    (1..record).fold(0, |start, _| {
+        let length = u16::from_le_bytes([log[start], log[start + 1]]);
+        start + 2 + usize::from(length)
+    })
+}
+
 fn text(vectors: &[Vector], name: &str) -> String {
     let vector = vectors.iter().find(|vector| vector.name == name);
     replay(&vector.expect(name).log)
@@ -97,6 +123,51 @@ fn the_worked_example_prints_the_text_of_01() {
                     5 0 0 614400 0 0 4096 READY\n";
     assert_eq!(text(&bundled(), "worked"), expected);
     assert_eq!(text(&examples(), "worked"), expected);
+}
+
+/// Settings have 57 bytes, the records after them 16, 21, 39, 20, 18 and 12.
+#[test]
+fn offsets_worked_out_by_hand() {
+    let expected = [
+        ("settings-cut-1", "1 12 0"),
+        ("settings-cut-last", "1 12 0"),
+        ("first-path", "1 12 0"),
+        ("settings-twice", "2 12 57"),
+        ("cut-1", "2 12 57"),
+        ("offset-73", "3 12 73"),
+        ("offset-133", "5 12 133"),
+        ("offset-183", "8 12 183"),
+    ];
+    let bundled = bundled();
+    for (name, line) in expected {
+        assert_eq!(text(&bundled, name).lines().last(), Some(line), "{name}");
+    }
+}
+
+#[test]
+fn the_order_of_refusals() {
+    let bundled = bundled();
+    let answers = |name| answers(&text(&bundled, name));
+    assert_eq!(
+        answers("order"),
+        [0, 0, 0, 3, 4, 8, 5, 6, 8, 3, 24, 9, 11, 3, 22, 10, 3, 23, 3, 20]
+    );
+
+    let fields = [21, 21, 21, 23, 21, 23, 24];
+    let mut expected = vec![0, 0, 0];
+    expected.extend([3; 7]);
+    expected.extend(fields.repeat(4));
+    expected.extend([9, 11, 0]);
+    assert_eq!(answers("order-ack"), expected);
+
+    let fields = [22, 22, 23, 23];
+    let mut expected = vec![0, 0, 0, 0];
+    expected.extend([3; 4]);
+    expected.extend(fields.repeat(2));
+    expected.push(0);
+    expected.extend(fields);
+    expected.extend([10, 10, 11, 11, 0, 0]);
+    assert_eq!(answers("order-nack"), expected);
 }
 
 /// Lines worked out by hand from 01. The window is the fourth word.
@@ -141,7 +212,7 @@ fn lines_worked_out_by_hand() {
         ("quick-adapt-off", "12 0 -634580 614400 2 1 0 READY"),
         ("ignoring", "11 0 0 4766 2 1 0 READY"), // 7,936 * 615 / 1,024
         ("backlog-full", "259 0 0 614400 0 0 1099511627776 READY"),
-        ("backlog-full", "260 4 0 614400 0 0 1099511627776 READY"),
+        ("backlog-full", "260 20 0 614400 0 0 1099511627776 READY"),
         ("paths", "130 0 0 614400 0 0 0 IDLE 128"),
         ("paths", "132 0 0 614400 0 0 0 IDLE 129"),
         ("paths", "257 0 0 614400 0 0 0 IDLE 254"),
@@ -161,7 +232,9 @@ fn lines_worked_out_by_hand() {
 fn insane_numbers_are_refused_and_change_nothing() {
     let text = text(&examples(), "insane");
     let unchanged = "8192 614400 2 0 11808 READY";
-    let numbers = [3, 3, 4, 4, 4, 8, 8, 4, 4, 4, 4, 4, 9, 9, 9, 10, 10, 11];
+    let numbers = [
+        3, 3, 20, 4, 4, 8, 8, 21, 23, 24, 22, 23, 9, 9, 9, 10, 10, 11,
+    ];
     let mut lines = text.lines().skip(5);
     for (record, number) in (5..).zip(numbers) {
         let line = format!("{record} {number} {unchanged}");

@@ -7,7 +7,7 @@ use Rattle.sender.specs.World.{World, world}
 use Rattle.sender.specs.Rows.{newDataRows}
 use Rattle.sender.specs.Steps.{newDataStep}
 use Rattle.sender.specs.Events.{onNewData}
-use Rattle.sender.proofs.Rowing.{answer-unsound}
+use Rattle.sender.proofs.Rowing.{two-table, answer-unsound}
 use Rattle.sender.proofs.Controller.new_data.Statement.{statement}
 use Rattle.sender.proofs.Controller.new_data.Tie as tie
 
@@ -23,7 +23,7 @@ is-sound-requires : tie.Need-is-sound-requires
 is-sound-requires c κs = search needs
 
 refused-requires : tie.Need-refused-requires
-refused-requires c κs = search needs
+refused-requires c κs = two-table
 
 returns : tie.Need-returns
 unfolding onNewData

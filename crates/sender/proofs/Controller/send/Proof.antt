@@ -7,7 +7,7 @@ use Rattle.sender.specs.World.{World, world}
 use Rattle.sender.specs.Rows.{sendAllRows}
 use Rattle.sender.specs.Steps.{sendStep}
 use Rattle.sender.specs.Events.{onSend}
-use Rattle.sender.proofs.Rowing.{answer-unsound}
+use Rattle.sender.proofs.Rowing.{two-table, answer-unsound}
 use Rattle.sender.proofs.Controller.send.Statement.{statement}
 use Rattle.sender.proofs.Controller.send.Tie as tie
 
@@ -23,7 +23,7 @@ is-sound-requires : tie.Need-is-sound-requires
 is-sound-requires c κs = search needs
 
 refused-requires : tie.Need-refused-requires
-refused-requires c κs = search needs
+refused-requires c κs = two-table
 
 same-length : tie.Need-same-length
 same-length c = search needs

@@ -4,7 +4,7 @@ use borrow.Author.Needs.{needs}
 use borrow.Author.Tests.{le-leb, lt-leb}
 use Rattle.ledger.specs.Ring.{Ring, ring}
 use Rattle.ledger.specs.Rows.{markRows}
-use Rattle.sender.proofs.Rowing.{judged-3, judged-4, judged-on}
+use Rattle.sender.proofs.Rowing.{judged-3, judged-field, judged-on}
 use Rattle.sender.proofs.judge.judge_loss.Statement.{statement}
 use Rattle.sender.proofs.judge.judge_loss.Tie as tie
 
@@ -15,12 +15,12 @@ bad-time-requires : tie.Need-bad-time-requires
 bad-time-requires c κs = search needs
 
 returns : tie.Need-returns
-returns c = judged-3 _ _ _ (sym (c .before .bad-time .ensures) ∙ c .if1 .taken)
+returns c = judged-3 _ _ _ _ (sym (c .before .bad-time .ensures) ∙ c .if1 .taken)
 
 returns-2 : tie.Need-returns-2
 returns-2 c =
     let i = c .before .before in
-    judged-4 _ _ _ (sym (i .before .bad-time .ensures) ∙ i .if1 .left) (le-leb _ _ (c .if2 .taken))
+    judged-field _ _ _ _ (sym (i .before .bad-time .ensures) ∙ i .if1 .left) (le-leb _ _ (c .if2 .taken))
 
 judge-mark-requires : tie.Need-judge-mark-requires
 judge-mark-requires c κs = search needs
@@ -30,7 +30,7 @@ returns-3 c =
     let i = c .before .before .before in
     let s = i .before .before .before .before .before .before .before .before in
     let a = s .args in
-    judged-on _ _ (markRows (a .c .flow) (a .c .totals .«in_flight») (slots s) (a .a .psn)) (sym (i .before .bad-time .ensures) ∙ i .if1 .left)
+    judged-on _ _ _ (markRows (a .c .flow) (a .c .totals .«in_flight») (slots s) (a .a .psn)) (sym (i .before .bad-time .ensures) ∙ i .if1 .left)
     (lt-leb _ _ (c .before .if2 .left)) (c .judge-mark .result) (c .judge-mark .ensures)
 
 pub judge-loss-spec : {M : Type 1} → statement M

@@ -1,36 +1,39 @@
 -- `judge_nack` walks the rows of a NACK: each branch opens one, and the last are the ledger's.
-use mathlib.Core.Path.{sym, _∙_}
+use mathlib.Core.Path.{sym, refl, _∙_}
 use borrow.Author.Needs.{needs}
-use Rattle.ledger.specs.Ring.{Ring, ring}
-use Rattle.ledger.specs.Rows.{markRows}
-use Rattle.sender.proofs.Rowing.{judged-3, judged-4, judged-on}
+use borrow.Author.Tests.{le-leb, lt-leb, le-ltb, lt-ltb}
+use Rattle.decide.specs.Rows.{first-here, first-later}
+use Rattle.sender.proofs.Rowing.{judged-3, judged-field, judged-on}
 use Rattle.sender.proofs.judge.judge_nack.Statement.{statement}
 use Rattle.sender.proofs.judge.judge_nack.Tie as tie
-
-abbrev slots : tie.Start → Ring
-slots s = ring (s .args .status .now) (s .args .size .now) (s .args .sent .now) (s .args .resent .now)
 
 bad-time-requires : tie.Need-bad-time-requires
 bad-time-requires c κs = search needs
 
 returns : tie.Need-returns
-returns c = judged-3 _ _ _ (sym (c .before .bad-time .ensures) ∙ c .if1 .taken)
+returns c = judged-3 _ _ _ _ (sym (c .before .bad-time .ensures) ∙ c .if1 .taken)
 
 returns-2 : tie.Need-returns-2
 returns-2 c =
-    let i = c .before .before .before in
-    judged-4 _ _ _ (sym (i .before .bad-time .ensures) ∙ i .if1 .left) (c .if2 .taken)
+    let i = c .before .before in
+    judged-field _ _ _ _ (sym (i .before .bad-time .ensures) ∙ i .if1 .left) (lt-ltb _ _ (c .if2 .taken))
+
+returns-3 : tie.Need-returns-3
+returns-3 c =
+    let k = c .before .before in
+    let i = k .before .before in
+    judged-on _ _ _ _ (sym (i .before .bad-time .ensures) ∙ i .if1 .left) (le-ltb _ _ (k .if2 .left)) _ (first-here _ _ _ _ (le-leb _ _ (c .if3 .taken)) refl)
 
 judge-mark-requires : tie.Need-judge-mark-requires
 judge-mark-requires c κs = search needs
 
-returns-3 : tie.Need-returns-3
-returns-3 c =
-    let i = c .before .before .before .before in
-    let s = i .before .before .before .before .before .before .before .before in
-    let a = s .args in
-    judged-on _ _ (markRows (a .c .flow) (a .c .totals .«in_flight») (slots s) (a .a .psn)) (sym (i .before .bad-time .ensures) ∙ i .if1 .left)
-    (c .before .if2 .left) (c .judge-mark .result) (c .judge-mark .ensures)
+returns-4 : tie.Need-returns-4
+returns-4 c =
+    let v = c .before in
+    let k = v .before .before in
+    let i = k .before .before in
+    judged-on _ _ _ _ (sym (i .before .bad-time .ensures) ∙ i .if1 .left) (le-ltb _ _ (k .if2 .left)) _
+    (first-later _ _ _ _ (lt-leb _ _ (v .if3 .left)) (c .judge-mark .ensures))
 
 pub judge-nack-spec : {M : Type 1} → statement M
-judge-nack-spec = tie.close (tie.spec bad-time-requires returns returns-2 judge-mark-requires returns-3)
+judge-nack-spec = tie.close (tie.spec bad-time-requires returns returns-2 returns-3 judge-mark-requires returns-4)

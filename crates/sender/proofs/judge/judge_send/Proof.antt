@@ -5,7 +5,7 @@ use mathlib.Core.List.{_++_}
 use borrow.Author.Needs.{needs}
 use Rattle.ledger.specs.Ring.{Ring, ring}
 use Rattle.ledger.specs.Rows.{sendRows}
-use Rattle.sender.proofs.Rowing.{judged-3, judged-4, judged-on, roomRows, judged-resend, judged-new}
+use Rattle.sender.proofs.Rowing.{judged-3, judged-field, judged-on, roomRows, judged-resend, judged-new}
 use Rattle.sender.proofs.judge.judge_send.Statement.{statement}
 use Rattle.sender.proofs.judge.judge_send.Tie as tie
 
@@ -16,7 +16,7 @@ bad-time-requires : tie.Need-bad-time-requires
 bad-time-requires c κs = search needs
 
 returns : tie.Need-returns
-returns c = judged-3 _ _ _ (sym (c .before .bad-time .ensures) ∙ c .if1 .taken)
+returns c = judged-3 _ _ _ _ (sym (c .before .bad-time .ensures) ∙ c .if1 .taken)
 
 cast-within : tie.Need-cast-within
 cast-within c = search needs
@@ -30,7 +30,7 @@ within-requires c κs = search needs
 returns-2 : tie.Need-returns-2
 returns-2 c =
     let i = c .before .before .before in
-    judged-4 _ _ _ (sym (i .before .bad-time .ensures) ∙ i .if1 .left) (ap not (sym (c .before .within .ensures)) ∙ c .if2 .taken)
+    judged-field _ _ _ _ (sym (i .before .bad-time .ensures) ∙ i .if1 .left) (ap not (sym (c .before .within .ensures)) ∙ c .if2 .taken)
 
 judge-resend-requires : tie.Need-judge-resend-requires
 judge-resend-requires c κs = search needs
@@ -45,7 +45,7 @@ returns-3 c =
     let i = k .before .before .before in
     let s = i .before .before .before .before .before .before .before .before in
     let a = s .args in
-    judged-on _ _ (sendRows (a .c .flow) (slots s) (a .a .psn) (a .a .size) (a .a .resend) ++ roomRows (a .c))
+    judged-on _ _ _ (sendRows (a .c .flow) (slots s) (a .a .psn) (a .a .size) (a .a .resend) ++ roomRows (a .c))
     (sym (i .before .bad-time .ensures) ∙ i .if1 .left) (ap not (sym (k .before .within .ensures)) ∙ k .if2 .left) (c .judge-room .result)
     (judged-resend (a .c) (slots s) (a .a) (n .judge-resend .result) (c .judge-room .result) (c .judge-room .ensures) (n .before .if3 .taken) (n .judge-resend .ensures))
 
@@ -62,7 +62,7 @@ returns-4 c =
     let i = k .before .before .before in
     let s = i .before .before .before .before .before .before .before .before in
     let a = s .args in
-    judged-on _ _ (sendRows (a .c .flow) (slots s) (a .a .psn) (a .a .size) (a .a .resend) ++ roomRows (a .c))
+    judged-on _ _ _ (sendRows (a .c .flow) (slots s) (a .a .psn) (a .a .size) (a .a .resend) ++ roomRows (a .c))
     (sym (i .before .bad-time .ensures) ∙ i .if1 .left) (ap not (sym (k .before .within .ensures)) ∙ k .if2 .left) (c .judge-room2 .result)
     (judged-new (a .c) (slots s) (a .a) (n .judge-new .result) (c .judge-room2 .result) (c .judge-room2 .ensures) (n .before .if3 .left) (n .judge-new .ensures))
 

@@ -10,6 +10,7 @@ use Rattle.sender.specs.Rows.{ackAllRows}
 use Rattle.sender.specs.Steps.{ackStep}
 use Rattle.sender.specs.Events.{onAck}
 use Rattle.sender.proofs.Sounds.{sound-bounded}
+use Rattle.sender.specs.Numbers.{inTable}
 use Rattle.sender.proofs.Rowing.{numbered, in-table, answer-refused, answer-accepted}
 use Rattle.sender.proofs.rely.ack.Statement.{statement}
 use Rattle.sender.proofs.rely.ack.Tie as tie
@@ -34,7 +35,7 @@ judge-ack-requires c κs =
     sound-bounded (handed s) (s .pre)
 
 refused-requires : tie.Need-refused-requires
-unfolding numbered inside
+unfolding numbered inTable inside
 refused-requires c κs =
     let j = c .before in
     let s = start j in

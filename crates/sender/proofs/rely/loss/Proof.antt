@@ -10,6 +10,7 @@ use Rattle.sender.specs.Rows.{lossAllRows}
 use Rattle.sender.specs.Steps.{lossStep}
 use Rattle.sender.specs.Events.{onLoss}
 use Rattle.sender.proofs.Sounds.{sound-bounded, sound-even}
+use Rattle.sender.specs.Numbers.{inTable}
 use Rattle.sender.proofs.Rowing.{numbered, in-table, answer-refused, answer-accepted}
 use Rattle.sender.proofs.rely.loss.Statement.{statement}
 use Rattle.sender.proofs.rely.loss.Tie as tie
@@ -34,7 +35,7 @@ judge-loss-requires c κs =
     (sound-bounded (handed s) (s .pre), sound-even (handed s) (s .pre))
 
 refused-requires : tie.Need-refused-requires
-unfolding numbered inside
+unfolding numbered inTable inside
 refused-requires c κs =
     let j = c .before in
     let s = start j in

@@ -11,6 +11,7 @@ use Rattle.sender.specs.Steps.{newDataStep}
 use Rattle.sender.specs.Events.{onNewData}
 use Rattle.sender.specs.declared.Controller.{Controller}
 use Rattle.sender.proofs.Sounds.{sound-bounded}
+use Rattle.sender.specs.Numbers.{inTable}
 use Rattle.sender.proofs.Rowing.{numbered, in-table, answer-refused, answer-accepted}
 use Rattle.sender.proofs.rely.new_data.Statement.{statement}
 use Rattle.sender.proofs.rely.new_data.Tie as tie
@@ -35,7 +36,7 @@ judge-new-data-requires c κs =
     sound-bounded (handed s) (s .pre)
 
 refused-requires : tie.Need-refused-requires
-unfolding numbered inside
+unfolding numbered inTable inside
 refused-requires c κs =
     let j = c .before in
     let s = start j in
