@@ -11,10 +11,6 @@ fn clock_of(w: World) -> u64 {
     state.clock
 }
 
-pub(crate) fn data(w: World, bytes: u64) -> World {
-    worlds::new_data(w, clock_of(w), bytes)
-}
-
 pub(crate) fn fresh_send(w: World, psn: u32, size: u32) -> World {
     let resend = false;
     worlds::send(w, clock_of(w), Send { psn, size, resend })
@@ -41,14 +37,6 @@ pub(crate) fn plain_ack(cum: u32, map: u64, trigger: u32, count: u32) -> Ack {
 
 pub(crate) fn ack(w: World, cum: u32, map: u64, trigger: u32, count: u32) -> World {
     worlds::ack(w, clock_of(w), plain_ack(cum, map, trigger, count))
-}
-
-// An ACK of nothing new, with an EV.
-pub(crate) fn ack_ev(w: World, ev: u32) -> World {
-    let mut a = plain_ack(4, 0, 4, 7);
-    a.ev = ev;
-    a.marked = true;
-    worlds::ack(w, clock_of(w), a)
 }
 
 pub(crate) fn plain_nack(psn: u32, ev: u32, reason: u32) -> Nack {

@@ -23,7 +23,7 @@ fn row(record: u64, w: World) {
     say::text(b"example ");
     say::number(record);
     say::text(b":");
-    say::also(w.number);
+    say::also(w.number as u64);
     say::also(bytes_of(totals.in_flight));
     say::also(window.cwnd);
     say::also(totals.flying as u64);

@@ -1,7 +1,6 @@
 // Calls every entry point of the sender at every edge of document 01 and writes what it is answered, one case a line.
 mod calls;
 mod example;
-mod lent;
 mod make;
 mod order;
 mod rows;
@@ -17,7 +16,6 @@ fn main() {
     example::run();
     start::settings();
     start::unbounded();
-    lent::run();
     rows::run();
     order::run();
     spoil::run();

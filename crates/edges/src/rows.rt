@@ -4,6 +4,7 @@ use crate::make;
 use crate::say;
 use crate::say::line;
 use crate::six;
+use crate::worlds;
 
 // 2^48, 2^30, 2^24, 2^23.
 const TIME_END: u64 = 1 << 48;
@@ -16,6 +17,46 @@ const HALF: u32 = 1 << 23;
 
 // -2^24.
 const LEAST: i64 = -16777216;
+
+// Calls on the mixed world at its clock, one case a line.
+fn data(label: &[u8], bytes: u64) {
+    let w = make::mixed();
+    line(label, w, worlds::new_data(w, make::CLOCK, bytes));
+}
+
+fn new_packet(label: &[u8], psn: u32, size: u32) {
+    let w = make::mixed();
+    line(label, w, calls::fresh_send(w, psn, size));
+}
+
+fn resend(label: &[u8], psn: u32, size: u32) {
+    let w = make::mixed();
+    line(label, w, calls::resend(w, psn, size));
+}
+
+fn ack(label: &[u8], cum: u32, map: u64, trigger: u32, count: u32) {
+    let w = make::mixed();
+    line(label, w, calls::ack(w, cum, map, trigger, count));
+}
+
+// An ACK of nothing new, with an EV.
+fn ack_ev(label: &[u8], ev: u32) {
+    let w = make::mixed();
+    let mut a = calls::plain_ack(4, 0, 4, 7);
+    a.ev = ev;
+    a.marked = true;
+    line(label, w, worlds::ack(w, make::CLOCK, a));
+}
+
+fn nack(label: &[u8], psn: u32, ev: u32, reason: u32) {
+    let w = make::mixed();
+    line(label, w, calls::nack(w, psn, ev, reason));
+}
+
+fn loss(label: &[u8], psn: u32, ev: u32) {
+    let w = make::mixed();
+    line(label, w, calls::loss(w, psn, ev));
+}
 
 fn time_line(label: &[u8], time: u64) {
     say::text(label);
@@ -35,61 +76,54 @@ fn times() {
 
 // 20 on new data, and 4 on a send's size.
 fn data_and_sizes() {
-    let w = make::mixed();
-    line(b"20 new data 0", w, calls::data(w, 0));
-    line(b"20 new data 1", w, calls::data(w, 1));
-    line(b"20 new data sum 2^40", w, calls::data(w, 1099511619584));
-    line(b"20 new data sum 2^40+1", w, calls::data(w, 1099511619585));
-    line(b"20 new data 2^64-1", w, calls::data(w, u64::MAX));
-    line(b"4 new packet 0", w, calls::fresh_send(w, 10, 0));
-    line(b"4 new packet 40", w, calls::fresh_send(w, 10, 40));
-    line(b"4 new packet 41", w, calls::fresh_send(w, 10, 41));
-    line(b"4 new packet MTU", w, calls::fresh_send(w, 10, 4096));
-    line(b"4 new packet MTU+1", w, calls::fresh_send(w, 10, 4097));
-    line(
-        b"4 new packet 2^32-1",
-        w,
-        calls::fresh_send(w, 10, u32::MAX),
-    );
-    line(b"4 resend 40", w, calls::resend(w, 6, 40));
-    line(b"4 resend MTU+1", w, calls::resend(w, 6, 4097));
+    data(b"20 new data 0", 0);
+    data(b"20 new data 1", 1);
+    data(b"20 new data sum 2^40", 1099511619584);
+    data(b"20 new data sum 2^40+1", 1099511619585);
+    data(b"20 new data 2^64-1", u64::MAX);
+    new_packet(b"4 new packet 0", 10, 0);
+    new_packet(b"4 new packet 40", 10, 40);
+    new_packet(b"4 new packet 41", 10, 41);
+    new_packet(b"4 new packet MTU", 10, 4096);
+    new_packet(b"4 new packet MTU+1", 10, 4097);
+    new_packet(b"4 new packet 2^32-1", 10, u32::MAX);
+    resend(b"4 resend 40", 6, 40);
+    resend(b"4 resend MTU+1", 6, 4097);
 }
 
 // 21 on counts, 22 on reasons and 23 on EVs.
 fn fields() {
-    let w = make::mixed();
-    line(b"21 count 2^24-1", w, calls::ack(w, 4, 0, 4, COUNTS - 1));
-    line(b"21 count 2^24", w, calls::ack(w, 4, 0, 4, COUNTS));
-    line(b"21 count 2^32-1", w, calls::ack(w, 4, 0, 4, u32::MAX));
-    line(b"22 reason 0", w, calls::nack(w, 5, 0, 0));
-    line(b"22 reason 1", w, calls::nack(w, 5, 0, 1));
-    line(b"22 reason 2", w, calls::nack(w, 5, 0, 2));
-    line(b"22 reason 3", w, calls::nack(w, 5, 0, 3));
-    line(b"22 reason 2^32-1", w, calls::nack(w, 5, 0, u32::MAX));
-    line(b"23 ACK EV 255", w, calls::ack_ev(w, 255));
-    line(b"23 ACK EV 256", w, calls::ack_ev(w, 256));
-    line(b"23 ACK EV 2^32-1", w, calls::ack_ev(w, u32::MAX));
-    line(b"23 NACK EV 255", w, calls::nack(w, 5, 255, 0));
-    line(b"23 NACK EV 256", w, calls::nack(w, 5, 256, 0));
-    line(b"23 NACK EV 2^32-1", w, calls::nack(w, 5, u32::MAX, 0));
-    line(b"23 loss EV 255", w, calls::loss(w, 5, 255));
-    line(b"23 loss EV 256", w, calls::loss(w, 5, 256));
-    line(b"23 loss EV 2^32-1", w, calls::loss(w, 5, u32::MAX));
+    ack(b"21 count 2^24-1", 4, 0, 4, COUNTS - 1);
+    ack(b"21 count 2^24", 4, 0, 4, COUNTS);
+    ack(b"21 count 2^32-1", 4, 0, 4, u32::MAX);
+    nack(b"22 reason 0", 5, 0, 0);
+    nack(b"22 reason 1", 5, 0, 1);
+    nack(b"22 reason 2", 5, 0, 2);
+    nack(b"22 reason 3", 5, 0, 3);
+    nack(b"22 reason 2^32-1", 5, 0, u32::MAX);
+    ack_ev(b"23 ACK EV 255", 255);
+    ack_ev(b"23 ACK EV 256", 256);
+    ack_ev(b"23 ACK EV 2^32-1", u32::MAX);
+    nack(b"23 NACK EV 255", 5, 255, 0);
+    nack(b"23 NACK EV 256", 5, 256, 0);
+    nack(b"23 NACK EV 2^32-1", 5, u32::MAX, 0);
+    loss(b"23 loss EV 255", 5, 255);
+    loss(b"23 loss EV 256", 5, 256);
+    loss(b"23 loss EV 2^32-1", 5, u32::MAX);
 }
 
 // 24 on the trigger: covered by cum up to 2^30 back, or by its bit.
 fn triggers() {
-    let w = make::mixed();
     let far = std::num::wrapping_sub_u32(5, REACH);
     let farther = std::num::wrapping_sub_u32(4, REACH);
     let f = make::full();
-    line(b"24 trigger cum", w, calls::ack(w, 5, 0, 5, 7));
-    line(b"24 trigger cum-2^30", w, calls::ack(w, 5, 0, far, 7));
-    line(b"24 trigger cum-2^30-1", w, calls::ack(w, 5, 0, farther, 7));
-    line(b"24 trigger cum+1, no bit", w, calls::ack(w, 5, 0, 6, 7));
-    line(b"24 trigger cum+1, bit 0", w, calls::ack(w, 5, 1, 6, 7));
-    line(b"24 trigger cum+2, bit 0", w, calls::ack(w, 5, 1, 7, 7));
-    line(b"24 trigger cum+4, bit 3", w, calls::ack(w, 5, 8, 9, 7));
+    ack(b"24 trigger cum", 5, 0, 5, 7);
+    ack(b"24 trigger cum-2^30", 5, 0, far, 7);
+    ack(b"24 trigger cum-2^30-1", 5, 0, farther, 7);
+    ack(b"24 trigger cum+1, no bit", 5, 0, 6, 7);
+    ack(b"24 trigger cum+1, bit 0", 5, 1, 6, 7);
+    ack(b"24 trigger cum+2, bit 0", 5, 1, 7, 7);
+    ack(b"24 trigger cum+4, bit 3", 5, 8, 9, 7);
     line(
         b"24 trigger cum+64, bit 63",
         f,
@@ -157,32 +191,30 @@ fn rings() {
 
 // 8, on new packets and on resends.
 fn sends() {
-    let w = make::mixed();
-    line(b"8 new packet next", w, calls::fresh_send(w, 10, 41));
-    line(b"8 new packet next+1", w, calls::fresh_send(w, 11, 41));
-    line(b"8 new packet next-1", w, calls::fresh_send(w, 9, 41));
-    line(b"8 new packet next+64", w, calls::fresh_send(w, 74, 41));
-    line(b"8 new packet marked", w, calls::fresh_send(w, 6, 200));
-    line(b"8 resend marked", w, calls::resend(w, 6, 200));
-    line(b"8 resend marked, size-1", w, calls::resend(w, 6, 199));
-    line(b"8 resend marked, size+1", w, calls::resend(w, 6, 201));
-    line(b"8 resend flying", w, calls::resend(w, 5, 1024));
-    line(b"8 resend done", w, calls::resend(w, 7, 300));
-    line(b"8 resend low-1", w, calls::resend(w, 4, 200));
-    line(b"8 resend next", w, calls::resend(w, 10, 200));
-    line(b"8 resend marked+64", w, calls::resend(w, 70, 200));
-    line(b"8 resend marked-64", w, calls::resend(w, 4294967238, 200));
+    new_packet(b"8 new packet next", 10, 41);
+    new_packet(b"8 new packet next+1", 11, 41);
+    new_packet(b"8 new packet next-1", 9, 41);
+    new_packet(b"8 new packet next+64", 74, 41);
+    new_packet(b"8 new packet marked", 6, 200);
+    resend(b"8 resend marked", 6, 200);
+    resend(b"8 resend marked, size-1", 6, 199);
+    resend(b"8 resend marked, size+1", 6, 201);
+    resend(b"8 resend flying", 5, 1024);
+    resend(b"8 resend done", 7, 300);
+    resend(b"8 resend low-1", 4, 200);
+    resend(b"8 resend next", 10, 200);
+    resend(b"8 resend marked+64", 70, 200);
+    resend(b"8 resend marked-64", 4294967238, 200);
 }
 
 // 9: the highest bit against back, and how far back cum may be.
 fn acks() {
-    let w = make::mixed();
     let old = std::num::wrapping_sub_u32(9, REACH);
     let older = std::num::wrapping_sub_u32(8, REACH);
     let f = make::full();
-    line(b"9 cum 5, bits 1 and 3", w, calls::ack(w, 5, 10, 5, 7));
-    line(b"9 cum 5, bit 4", w, calls::ack(w, 5, 16, 5, 7));
-    line(b"9 cum 5, bits 0 and 4", w, calls::ack(w, 5, 17, 5, 7));
+    ack(b"9 cum 5, bits 1 and 3", 5, 10, 5, 7);
+    ack(b"9 cum 5, bit 4", 5, 16, 5, 7);
+    ack(b"9 cum 5, bits 0 and 4", 5, 17, 5, 7);
     line(
         b"9 cum 4, bit 63 at back 64",
         f,
@@ -193,33 +225,28 @@ fn acks() {
         f,
         calls::ack(f, 5, 1 << 63, 5, 7),
     );
-    line(b"9 cum next-1", w, calls::ack(w, 9, 0, 9, 7));
-    line(b"9 cum next-1, bit 0", w, calls::ack(w, 9, 1, 9, 7));
-    line(b"9 cum next", w, calls::ack(w, 10, 0, 10, 7));
-    line(
-        b"9 cum next+2^31",
-        w,
-        calls::ack(w, 2147483658, 0, 2147483658, 7),
-    );
-    line(b"9 back 2^30", w, calls::ack(w, old, 0, old, 7));
-    line(b"9 back 2^30+1", w, calls::ack(w, older, 0, older, 7));
+    ack(b"9 cum next-1", 9, 0, 9, 7);
+    ack(b"9 cum next-1, bit 0", 9, 1, 9, 7);
+    ack(b"9 cum next", 10, 0, 10, 7);
+    ack(b"9 cum next+2^31", 2147483658, 0, 2147483658, 7);
+    ack(b"9 back 2^30", old, 0, old, 7);
+    ack(b"9 back 2^30+1", older, 0, older, 7);
 }
 
 // 10, of a NACK and of a loss.
 fn marks() {
-    let w = make::mixed();
-    line(b"10 NACK flying", w, calls::nack(w, 8, 0, 2));
-    line(b"10 NACK marked", w, calls::nack(w, 6, 0, 2));
-    line(b"10 NACK done", w, calls::nack(w, 7, 0, 2));
-    line(b"10 NACK low-1", w, calls::nack(w, 4, 0, 2));
-    line(b"10 NACK next", w, calls::nack(w, 10, 0, 2));
-    line(b"10 NACK flying+64", w, calls::nack(w, 72, 0, 2));
-    line(b"10 loss flying", w, calls::loss(w, 9, 0));
-    line(b"10 loss marked", w, calls::loss(w, 6, 0));
-    line(b"10 loss done", w, calls::loss(w, 7, 0));
-    line(b"10 loss low-1", w, calls::loss(w, 4, 0));
-    line(b"10 loss next", w, calls::loss(w, 10, 0));
-    line(b"10 loss flying-64", w, calls::loss(w, 4294967240, 0));
+    nack(b"10 NACK flying", 8, 0, 2);
+    nack(b"10 NACK marked", 6, 0, 2);
+    nack(b"10 NACK done", 7, 0, 2);
+    nack(b"10 NACK low-1", 4, 0, 2);
+    nack(b"10 NACK next", 10, 0, 2);
+    nack(b"10 NACK flying+64", 72, 0, 2);
+    loss(b"10 loss flying", 9, 0);
+    loss(b"10 loss marked", 6, 0);
+    loss(b"10 loss done", 7, 0);
+    loss(b"10 loss low-1", 4, 0);
+    loss(b"10 loss next", 10, 0);
+    loss(b"10 loss flying-64", 4294967240, 0);
 }
 
 // 11: in-flight may reach -2^24 and not pass it. The held count is 7.

@@ -27,8 +27,8 @@ pub(crate) fn word_of(phase: Phase) {
 }
 
 // The number that a call answered; where it is a refusal, whether state and lent memory are as they were.
-pub(crate) fn report(number: u64, same: bool) {
-    also(number);
+fn report(number: u32, same: bool) {
+    also(number as u64);
     if number == 0 {
         return;
     }

@@ -159,6 +159,31 @@ fn spans() {
     six::line(b"2 next-low 2^31", with_flow(f, 5, 2147483653));
 }
 
+// The mixed world with one number changed: of a slot, of the totals, of the EV times.
+fn status(label: &[u8], slot: usize, value: u8) {
+    six::line(label, with_status(mixed(), slot, value));
+}
+
+fn size(label: &[u8], slot: usize, value: u32) {
+    six::line(label, with_size(mixed(), slot, value));
+}
+
+fn sent(label: &[u8], slot: usize, time: u64) {
+    six::line(label, with_sent(mixed(), slot, time));
+}
+
+fn resent(label: &[u8], slot: usize, value: u8) {
+    six::line(label, with_resent(mixed(), slot, value));
+}
+
+fn total(label: &[u8], flying: u32, marked: u32, marked_bytes: u64) {
+    six::line(label, with_totals(mixed(), flying, marked, marked_bytes));
+}
+
+fn ev_time(label: &[u8], ev: usize, time: u64) {
+    six::line(label, with_ev(mixed(), ev, time));
+}
+
 // A slot in low..next-1: its status, totals following.
 fn statuses() {
     let w = with_totals(mixed(), 2, 1, 200);
@@ -170,17 +195,16 @@ fn statuses() {
 }
 
 fn sizes() {
-    let w = mixed();
-    six::line(b"2 flying size 0", with_size(w, 8, 0));
-    six::line(b"2 flying size 40", with_size(w, 8, 40));
-    six::line(b"2 flying size 41", with_size(w, 8, 41));
-    six::line(b"2 flying size MTU", with_size(w, 8, 4096));
-    six::line(b"2 flying size MTU+1", with_size(w, 8, 4097));
-    six::line(b"2 flying size 2^32-1", with_size(w, 8, u32::MAX));
-    six::line(b"2 done size 40", with_size(w, 7, 40));
-    six::line(b"2 done size 41", with_size(w, 7, 41));
-    six::line(b"2 done size MTU", with_size(w, 7, 4096));
-    six::line(b"2 done size MTU+1", with_size(w, 7, 4097));
+    size(b"2 flying size 0", 8, 0);
+    size(b"2 flying size 40", 8, 40);
+    size(b"2 flying size 41", 8, 41);
+    size(b"2 flying size MTU", 8, 4096);
+    size(b"2 flying size MTU+1", 8, 4097);
+    size(b"2 flying size 2^32-1", 8, u32::MAX);
+    size(b"2 done size 40", 7, 40);
+    size(b"2 done size 41", 7, 41);
+    size(b"2 done size MTU", 7, 4096);
+    size(b"2 done size MTU+1", 7, 4097);
 }
 
 // A marked packet's size, the marked bytes following.
@@ -197,36 +221,34 @@ fn marked_sizes() {
 }
 
 fn send_times() {
-    let w = mixed();
-    six::line(b"2 flying sent at the clock", with_sent(w, 8, 1000));
-    six::line(b"2 flying sent past the clock", with_sent(w, 8, 1001));
-    six::line(b"2 flying sent at 2^64-1", with_sent(w, 8, u64::MAX));
-    six::line(b"2 marked sent at the clock", with_sent(w, 6, 1000));
-    six::line(b"2 marked sent past the clock", with_sent(w, 6, 1001));
-    six::line(b"2 done sent at the clock", with_sent(w, 7, 1000));
-    six::line(b"2 done sent past the clock", with_sent(w, 7, 1001));
-    six::line(b"2 flying resent 2", with_resent(w, 8, 2));
-    six::line(b"2 flying resent 3", with_resent(w, 8, 3));
-    six::line(b"2 flying resent 255", with_resent(w, 8, 255));
-    six::line(b"2 marked resent 2", with_resent(w, 6, 2));
-    six::line(b"2 marked resent 3", with_resent(w, 6, 3));
-    six::line(b"2 done resent 2", with_resent(w, 7, 2));
-    six::line(b"2 done resent 3", with_resent(w, 7, 3));
+    sent(b"2 flying sent at the clock", 8, 1000);
+    sent(b"2 flying sent past the clock", 8, 1001);
+    sent(b"2 flying sent at 2^64-1", 8, u64::MAX);
+    sent(b"2 marked sent at the clock", 6, 1000);
+    sent(b"2 marked sent past the clock", 6, 1001);
+    sent(b"2 done sent at the clock", 7, 1000);
+    sent(b"2 done sent past the clock", 7, 1001);
+    resent(b"2 flying resent 2", 8, 2);
+    resent(b"2 flying resent 3", 8, 3);
+    resent(b"2 flying resent 255", 8, 255);
+    resent(b"2 marked resent 2", 6, 2);
+    resent(b"2 marked resent 3", 6, 3);
+    resent(b"2 done resent 2", 7, 2);
+    resent(b"2 done resent 3", 7, 3);
 }
 
 // Another slot is not all zero: at next, before low, at the ring's ends.
 fn other_slots() {
-    let w = mixed();
-    six::line(b"2 slot of next flying", with_status(w, 10, 1));
-    six::line(b"2 slot of next marked", with_status(w, 10, 2));
-    six::line(b"2 slot of next done", with_status(w, 10, 3));
-    six::line(b"2 slot of next size 1", with_size(w, 10, 1));
-    six::line(b"2 slot of next sent 1", with_sent(w, 10, 1));
-    six::line(b"2 slot of next resent 1", with_resent(w, 10, 1));
-    six::line(b"2 slot before low status 1", with_status(w, 4, 1));
-    six::line(b"2 slot before low size 1", with_size(w, 4, 1));
-    six::line(b"2 slot 0 sent 1", with_sent(w, 0, 1));
-    six::line(b"2 slot 63 resent 1", with_resent(w, 63, 1));
+    status(b"2 slot of next flying", 10, 1);
+    status(b"2 slot of next marked", 10, 2);
+    status(b"2 slot of next done", 10, 3);
+    size(b"2 slot of next size 1", 10, 1);
+    sent(b"2 slot of next sent 1", 10, 1);
+    resent(b"2 slot of next resent 1", 10, 1);
+    status(b"2 slot before low status 1", 4, 1);
+    size(b"2 slot before low size 1", 4, 1);
+    sent(b"2 slot 0 sent 1", 0, 1);
+    resent(b"2 slot 63 resent 1", 63, 1);
     six::line(
         b"2 empty ledger, slot of low done",
         with_status(make::blank(5, 5), 5, 3),
@@ -234,28 +256,26 @@ fn other_slots() {
 }
 
 fn totals() {
-    let w = mixed();
-    six::line(b"2 flying total-1", with_totals(w, 2, 1, 200));
-    six::line(b"2 flying total+1", with_totals(w, 4, 1, 200));
-    six::line(b"2 flying total 2^32-1", with_totals(w, u32::MAX, 1, 200));
-    six::line(b"2 marked total-1", with_totals(w, 3, 0, 200));
-    six::line(b"2 marked total+1", with_totals(w, 3, 2, 200));
-    six::line(b"2 marked total 2^32-1", with_totals(w, 3, u32::MAX, 200));
-    six::line(b"2 marked bytes-1", with_totals(w, 3, 1, 199));
-    six::line(b"2 marked bytes+1", with_totals(w, 3, 1, 201));
-    six::line(b"2 marked bytes 2^64-1", with_totals(w, 3, 1, u64::MAX));
+    total(b"2 flying total-1", 2, 1, 200);
+    total(b"2 flying total+1", 4, 1, 200);
+    total(b"2 flying total 2^32-1", u32::MAX, 1, 200);
+    total(b"2 marked total-1", 3, 0, 200);
+    total(b"2 marked total+1", 3, 2, 200);
+    total(b"2 marked total 2^32-1", 3, u32::MAX, 200);
+    total(b"2 marked bytes-1", 3, 1, 199);
+    total(b"2 marked bytes+1", 3, 1, 201);
+    total(b"2 marked bytes 2^64-1", 3, 1, u64::MAX);
 }
 
 fn ev_times() {
-    let w = mixed();
     let most = (1 << 49) - 1;
-    six::line(b"2 EV 0 at 2^49-1", with_ev(w, 0, most));
-    six::line(b"2 EV 0 at 2^49", with_ev(w, 0, most + 1));
-    six::line(b"2 EV 100 at 2^49-1", with_ev(w, 100, most));
-    six::line(b"2 EV 100 at 2^49", with_ev(w, 100, most + 1));
-    six::line(b"2 EV 255 at 2^49-1", with_ev(w, 255, most));
-    six::line(b"2 EV 255 at 2^49", with_ev(w, 255, most + 1));
-    six::line(b"2 EV 255 at 2^64-1", with_ev(w, 255, u64::MAX));
+    ev_time(b"2 EV 0 at 2^49-1", 0, most);
+    ev_time(b"2 EV 0 at 2^49", 0, most + 1);
+    ev_time(b"2 EV 100 at 2^49-1", 100, most);
+    ev_time(b"2 EV 100 at 2^49", 100, most + 1);
+    ev_time(b"2 EV 255 at 2^49-1", 255, most);
+    ev_time(b"2 EV 255 at 2^49", 255, most + 1);
+    ev_time(b"2 EV 255 at 2^64-1", 255, u64::MAX);
 }
 
 // A world under each of the four names.

@@ -1,4 +1,4 @@
-// Refusal 1, and refusal 2 on lengths, of setting up: memory that held whatever it held is cleared, or where it is refused left alone.
+// Refusal 1 of setting up: memory that held whatever it held is cleared, or where it is refused left alone.
 use crate::make;
 use crate::same::same_world;
 use crate::say;
@@ -8,7 +8,7 @@ use sender::Controller;
 use window::Settings;
 
 // What a fresh state is, by document 01.
-pub(crate) fn fresh(s: Settings) -> Controller {
+fn fresh(s: Settings) -> Controller {
     let mut state = make::no_state();
     state.settings = s;
     state.flow.low = s.first_psn;
@@ -20,7 +20,7 @@ pub(crate) fn fresh(s: Settings) -> Controller {
 
 // The number; then `fresh` or `same`, where the world is what setting up must leave.
 fn started(s: Settings, after: World) {
-    say::also(after.number);
+    say::also(after.number as u64);
     let mut wanted = make::unset();
     if after.number == 0 {
         wanted = make::blank(0, 0);

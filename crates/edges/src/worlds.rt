@@ -3,9 +3,6 @@ use sender::Ack;
 use sender::Controller;
 use sender::Loss;
 use sender::Nack;
-use sender::Outcome;
-use sender::Refusal;
-use sender::Route;
 use sender::Send;
 use window::Settings;
 
@@ -16,45 +13,8 @@ pub struct World {
     pub size: [u32; 64],
     pub sent: [u64; 64],
     pub resent: [u8; 64],
-    pub number: u64,
+    pub number: u32,
     pub state: Controller,
-}
-
-// The number of a row of document 01's table.
-fn row_of(refusal: Refusal) -> u64 {
-    match refusal {
-        Refusal::Setting => 1,
-        Refusal::Unsound => 2,
-        Refusal::Time => 3,
-        Refusal::Size => 4,
-        Refusal::Backlog => 5,
-        Refusal::WindowFull => 6,
-        Refusal::RingFull => 7,
-        Refusal::WrongPsn => 8,
-        Refusal::UnsentOrOld => 9,
-        Refusal::NotFlying => 10,
-        Refusal::Sinks => 11,
-        Refusal::Bytes => 20,
-        Refusal::Count => 21,
-        Refusal::Reason => 22,
-        Refusal::Ev => 23,
-        Refusal::Trigger => 24,
-    }
-}
-
-// 0, or the refusal's number.
-pub(crate) fn number_of(outcome: Outcome) -> u64 {
-    match outcome {
-        Outcome::Accepted => 0,
-        Outcome::Refused(refusal) => row_of(refusal),
-    }
-}
-
-pub(crate) fn route_number(route: Route) -> u64 {
-    match route {
-        Route::Chosen(_) => 0,
-        Route::Refused(refusal) => row_of(refusal),
-    }
 }
 
 pub(crate) fn set_up(w: World, settings: Settings) -> World {
@@ -80,7 +40,7 @@ pub(crate) fn set_up(w: World, settings: Settings) -> World {
         sent,
         resent,
         evs,
-        number: number_of(outcome),
+        number: sender::number_of(outcome),
     }
 }
 
@@ -101,7 +61,7 @@ pub(crate) fn new_data(w: World, time: u64, bytes: u64) -> World {
         sent,
         resent,
         evs,
-        number: number_of(outcome),
+        number: sender::number_of(outcome),
     }
 }
 
@@ -130,7 +90,7 @@ pub(crate) fn send(w: World, time: u64, a: Send) -> World {
         sent,
         resent,
         evs,
-        number: number_of(outcome),
+        number: sender::number_of(outcome),
     }
 }
 
@@ -159,7 +119,7 @@ pub(crate) fn ack(w: World, time: u64, a: Ack) -> World {
         sent,
         resent,
         evs,
-        number: number_of(outcome),
+        number: sender::number_of(outcome),
     }
 }
 
@@ -180,7 +140,7 @@ pub(crate) fn nack(w: World, time: u64, a: Nack) -> World {
         sent,
         resent,
         evs,
-        number: number_of(outcome),
+        number: sender::number_of(outcome),
     }
 }
 
@@ -201,7 +161,7 @@ pub(crate) fn loss(w: World, time: u64, a: Loss) -> World {
         sent,
         resent,
         evs,
-        number: number_of(outcome),
+        number: sender::number_of(outcome),
     }
 }
 
@@ -222,6 +182,6 @@ pub(crate) fn path(w: World, time: u64) -> World {
         sent,
         resent,
         evs,
-        number: route_number(route),
+        number: sender::path_number(route),
     }
 }

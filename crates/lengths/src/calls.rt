@@ -1,0 +1,118 @@
+// Every entry point on lent slices of any lengths.
+use crate::make;
+use sender::Ack;
+use sender::Answer;
+use sender::Controller;
+use sender::Loss;
+use sender::Nack;
+use sender::Routed;
+use sender::Send;
+use window::Settings;
+
+// An entry point; the events are calls on the empty ledger that no row but 2 or 10 refuses.
+pub enum Call {
+    SetUp(Settings),
+    NewData,
+    Send,
+    Ack,
+    Nack,
+    Loss,
+    Path,
+}
+
+// What a call answered.
+pub struct Got {
+    pub number: u32,
+    pub state: Controller,
+}
+
+fn of_answer(answer: Answer) -> Got {
+    let state = answer.state;
+    let outcome = answer.outcome;
+    Got {
+        number: sender::number_of(outcome),
+        state,
+    }
+}
+
+fn of_routed(routed: Routed) -> Got {
+    let state = routed.state;
+    let route = routed.route;
+    Got {
+        number: sender::path_number(route),
+        state,
+    }
+}
+
+// A new packet of 41 bytes.
+fn a_send() -> Send {
+    Send {
+        psn: 5,
+        size: 41,
+        resend: false,
+    }
+}
+
+// An ACK of the packet before low, with the held count: nothing new.
+fn an_ack() -> Ack {
+    Ack {
+        cum: 4,
+        map: 0,
+        trigger: 4,
+        count: 7,
+        service: 0,
+        ev: 0,
+        marked: false,
+        retx: false,
+    }
+}
+
+fn a_nack() -> Nack {
+    Nack {
+        psn: 5,
+        ev: 0,
+        reason: 2,
+        marked: false,
+        retx: false,
+    }
+}
+
+pub(crate) fn answered<'a, 'b, 'c, 'd, 'e>(
+    call: Call,
+    status: &'a mut [u8],
+    size: &'b mut [u32],
+    sent: &'c mut [u64],
+    resent: &'d mut [u8],
+    evs: &'e mut [u64],
+) -> Got {
+    let time = make::CLOCK;
+    let before = make::empty();
+    match call {
+        Call::SetUp(s) => of_answer(sender::start::set_up(s, status, size, sent, resent, evs)),
+        Call::NewData => of_answer(before.new_data(status, size, sent, resent, evs, time, 1)),
+        Call::Send => of_answer(before.send(status, size, sent, resent, evs, time, a_send())),
+        Call::Ack => of_answer(before.ack(status, size, sent, resent, evs, time, an_ack())),
+        Call::Nack => of_answer(before.nack(status, size, sent, resent, evs, time, a_nack())),
+        Call::Loss => of_answer(before.loss(
+            status,
+            size,
+            sent,
+            resent,
+            evs,
+            time,
+            Loss { psn: 5, ev: 0 },
+        )),
+        Call::Path => of_routed(before.path(status, size, sent, resent, evs, time)),
+    }
+}
+
+// The state that a call must answer: where an event is accepted any will do.
+pub(crate) fn wanted(call: Call, number: u32) -> Controller {
+    let Call::SetUp(settings) = call else {
+        return make::empty();
+    };
+    if number == 0 {
+        return make::fresh(settings);
+    }
+    make::no_state()
+}

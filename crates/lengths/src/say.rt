@@ -1,0 +1,19 @@
+// What the program writes.
+pub(crate) fn text(t: &[u8]) {
+    io::write_all(libc::STDOUT_FILENO, t);
+}
+
+// A space and a number.
+pub(crate) fn also(n: u32) {
+    text(b" ");
+    io::print_decimal(libc::STDOUT_FILENO, n as u64);
+}
+
+// A refusal's verdict: whether state and lent memory are as they were.
+pub(crate) fn verdict(same: bool) {
+    if same {
+        text(b" same");
+        return;
+    }
+    text(b" CHANGED");
+}
