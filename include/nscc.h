@@ -49,7 +49,7 @@ enum nscc_refusal {
 /* The twelve settings, in this order, as nscc_set_up takes them. */
 enum nscc_setting {
     NSCC_MTU,             /* 1024..16384 bytes */
-    NSCC_MAXWND,          /* MTU..2^26 bytes */
+    NSCC_MAXWND,          /* MTU..2^26 bytes; the window's own bound is at NSCC_CWND */
     NSCC_CONFIG_BASE_RTT, /* 1..2^14 ticks */
     NSCC_TARGET_QDELAY,   /* 1..2^14 ticks */
     NSCC_FI,              /* 0..2^20 */
@@ -75,9 +75,9 @@ enum nscc_word {
     NSCC_FLYING,          /* packets */
     NSCC_MARKED,          /* packets that wait to be sent again */
     NSCC_MARKED_BYTES,
-    NSCC_IN_FLIGHT,       /* in-flight bytes + 2^24: in-flight itself may be below zero */
-    NSCC_CWND,
-    NSCC_BASE,
+    NSCC_IN_FLIGHT,       /* in-flight bytes + 2^24: in-flight itself may be below zero, and is at most MaxWnd */
+    NSCC_CWND,            /* MTU..max(MTU, MaxWnd * base / config_base_rtt) bytes, rounded down */
+    NSCC_BASE,            /* 1..config_base_rtt ticks; it only falls, and the window's bound with it */
     NSCC_AVG,             /* the delay average, in 1/1024 tick */
     NSCC_INC_BYTES,
     NSCC_RECEIVED,

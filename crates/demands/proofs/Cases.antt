@@ -12,7 +12,7 @@ use Rattle.serial.specs.Count.{aheadOf, isOld, forwardOf}
 use Rattle.window.specs.Limits.{ceilingOf}
 use Rattle.window.specs.Range.{inRange}
 use Rattle.window.specs.Held.{isHeld, freshOf}
-use Rattle.window.specs.Delays.{oneSend, sampleOf, averageOf, fedBy, feedOf, measuredOf}
+use Rattle.window.specs.Delays.{oneSend, sampleOf, averageOf, fedBy, feedOf, loweredOf, measuredOf}
 use Rattle.window.specs.Cases.{calmOf, fastOf, incBy, risenOf, factorOf, cutOf, caseOf}
 use Rattle.window.specs.Adjust.{turnedOf, adjustedOf}
 use Rattle.paths.specs.Path.{avoids, avoided, firstFree, steps, landed, choice}
@@ -31,7 +31,7 @@ use Rattle.demands.specs.Cases.{agree, same, cases, settingsE, windowOf,
 pub cases-hold : agree cases ≡ true
 unfolding agree same cases settingsE windowOf ticksOf measuredBy worldOf deliveredOf acknowledged chosen isDelivered ifSo ifLt ifEq inside firstOf minus plus
     bitOf covered backOf spanOf unsentOrOld aheadOf isOld forwardOf leadingZeros ceilingOf inRange isHeld freshOf oneSend sampleOf averageOf fedBy
-    feedOf measuredOf calmOf fastOf incBy risenOf factorOf cutOf caseOf turnedOf adjustedOf avoids avoided firstFree steps landed choice isFlying isDone
+    feedOf loweredOf measuredOf calmOf fastOf incBy risenOf factorOf cutOf caseOf turnedOf adjustedOf avoids avoided firstFree steps landed choice isFlying isDone
     isOut flyingOne markedOne markedSize sumOf coverOne coverAll doneRun inBounds sinks packetAt tabulate placeOf ageOf lay laid queueOf longOf packets
     offsetOf packetOf allTo isCapacity isRing isLive isZero slotOk headOk stands tallies coherent heldOf newlyOf ackedOf hasRoom phaseOf phaseNumber
     timesOk namedOk sound stateOf settled ackStep pathState pathStep decided onSend onAck onPath

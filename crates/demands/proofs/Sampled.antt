@@ -129,18 +129,18 @@ module _ (s : Settings) (time : ℕ) where
       so-both (Same (a .window)) (a .fired) _ _ (λ e. refl)
       (λ e. adjusted-base s (caseOf s time newly marked delay (a .window)) time ∙ case-base newly marked delay (a .window))
 
-  measured-base : (marked : Bool) (sample : Sample) (w : Window) → Same (loweredOf sample w) (measuredOf s marked sample w .window)
+  measured-base : (marked : Bool) (sample : Sample) (w : Window) → Same (loweredOf s sample w) (measuredOf s marked sample w .window)
   unfolding loweredOf measuredOf
   measured-base marked (Ticks t) w = refl
   measured-base marked Absent w = refl
 
-  counted-base : (newly : ℕ) (sample : Sample) (w : Window) → Same (loweredOf sample w) (loweredOf sample (countedOf newly w))
+  counted-base : (newly : ℕ) (sample : Sample) (w : Window) → Same (loweredOf s sample w) (loweredOf s sample (countedOf newly w))
   unfolding loweredOf countedOf
   counted-base newly (Ticks t) w = refl
   counted-base newly Absent w = refl
 
   -- an ACK
-  ack-base : (newly : ℕ) (marked : Bool) (sample : Sample) (inFlight : ℤ) (w : Window) → Same (loweredOf sample w) (ackOf s time newly marked sample inFlight w)
+  ack-base : (newly : ℕ) (marked : Bool) (sample : Sample) (inFlight : ℤ) (w : Window) → Same (loweredOf s sample w) (ackOf s time newly marked sample inFlight w)
   unfolding ackOf reactedOf
   ack-base newly marked sample inFlight w =
       let d = measuredOf s marked sample (countedOf newly w) in
@@ -158,14 +158,14 @@ module _ (s : Settings) (time : ℕ) where
       so-both (Same (a .window)) (a .fired) _ _ (λ e. refl) (λ e. refl) ∙ adapted-base s v time true true 0 inFlight
 
   -- a NACK
-  nack-base : (size reason : ℕ) (sample : Sample) (inFlight : ℤ) (w : Window) → Same (loweredOf sample w) (nackOf s time size reason sample inFlight w)
+  nack-base : (size reason : ℕ) (sample : Sample) (inFlight : ℤ) (w : Window) → Same (loweredOf s sample w) (nackOf s time size reason sample inFlight w)
   unfolding nackOf rttFed
   nack-base size reason sample inFlight w =
-      lt-both (Same (loweredOf sample w)) 1 reason _ _ (λ e. refl) (λ e. loss-base size inFlight (rttFed s (loweredOf sample w)))
+      lt-both (Same (loweredOf s sample w)) 1 reason _ _ (λ e. refl) (λ e. loss-base size inFlight (rttFed s (loweredOf s sample w)))
 
 -- a step leaves the base that a sample gives
 abbrev Lowers : Sample → World → World → Type 0
-Lowers sample w v = Same (loweredOf sample (w .state .window)) (v .state .window)
+Lowers sample w v = Same (loweredOf (w .state .settings) sample (w .state .window)) (v .state .window)
 
 module _ (w : World) (time : ℕ) where
   ack-lowers : (a : Ack) → Lowers (ackSample time a w) w (ackStep time a w)

@@ -3,7 +3,8 @@
 use mathlib.Core.Logic.{⊎-elim}
 use Rattle.sender.proofs.Refusals.{new-data-exact, send-exact, ack-exact, nack-exact, loss-exact, path-exact, permitted-new, permitted-resend}
 use Rattle.sender.proofs.Refusals as refusals
-use Rattle.demands.specs.Events.{newData, send, ack, nack, loss, path}
+use Rattle.sender.proofs.Sounds.{sound-facts}
+use Rattle.demands.specs.Events.{newData, send, ack, nack, loss, path, run}
 use Rattle.demands.specs.Demands as demand
 use Rattle.demands.proofs.Runs as runs
 use Rattle.demands.proofs.Sounded as sounded
@@ -34,6 +35,11 @@ permitted-send time a w = ⊎-elim (permitted-new time a w) (permitted-resend ti
 
 pub always-sound : demand.AlwaysSound
 always-sound = sounded.always-sound
+
+pub cwnd-between : demand.CwndBetween
+cwnd-between s r times w es u =
+    let H = sound-facts (run w es) (sounded.always-sound s r times w es u) .held in
+    (H .cwnd-low, H .cwnd-high)
 
 pub history : demand.History
 history = histories.history

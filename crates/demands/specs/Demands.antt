@@ -6,9 +6,10 @@ use mathlib.Core.Path.{_≡_}
 use mathlib.Core.Logic.{_↔_, _⊎_}
 use mathlib.Core.Bool.{true}
 use mathlib.Core.List.{List}
-use Prim.Native.Nat.{ℕ, _<_, min}
+use Prim.Native.Nat.{ℕ, _<_, _≤_, min}
 use lib.IntN.{pos, _-ℤ_}
 use Rattle.serial.specs.Psn.{psns}
+use Rattle.window.specs.Limits.{ceilingOf}
 use Rattle.window.specs.declared.Settings.{Settings}
 use Rattle.window.specs.declared.Sample.the-variants.{Ticks, Absent}
 use Rattle.ledger.specs.Ring.{Ring}
@@ -53,6 +54,11 @@ PermittedSend = (time : ℕ) (a : Send) (w : World) → PermittedNew time a w �
 -- DEMAND 2. After any list of events from an accepted set-up, refused ones among them, state and buffers pass the full test of number 2.
 abbrev pub AlwaysSound : Type 0
 AlwaysSound = (s : Settings) (r : Ring) (times : List ℕ) (w : World) (es : List Event) → SetUp s r times w → sound (run w es) ≡ true
+
+-- Request M-101. "cwnd always lies between MTU and max_wnd": after any such list
+abbrev pub CwndBetween : Type 0
+CwndBetween = (s : Settings) (r : Ring) (times : List ℕ) (w : World) (es : List Event) → SetUp s r times w
+    → let c = run w es .state in (c .settings .mtu ≤ c .window .cwnd) × (c .window .cwnd ≤ ceilingOf (c .settings) (c .window .base))
 
 -- DEMAND 2. "In-flight bytes equal sent less reported less taken out as lost, summed from set-up on"
 abbrev pub History : Type 0

@@ -178,7 +178,8 @@ pub(crate) fn blank(low: u32, next: u32) -> World {
                 marked_bytes: 0,
                 in_flight: 0,
             },
-            window: quiet_window(614400, 1),
+            // MaxWnd and config_base_rtt of E.
+            window: quiet_window(614400, 96),
             clock: CLOCK,
             cursor: 0,
             phase: Phase::Ready,

@@ -23,15 +23,17 @@ fn head(name: &[u8], value: u64) {
     say::text(b":");
 }
 
-// A setting of a handed-in state. Base is 1, and cwnd stays in its range while MaxWnd varies.
+// A window as small as the MTU and the least base stand in their ranges whatever the other settings are.
+fn smallest(w: World, mtu: u64) -> World {
+    make::with_number(make::with_number(w, 0, mtu), 1, 1)
+}
+
+// A setting of a handed-in state; the first is the MTU itself.
 pub(crate) fn setting(name: &[u8], k: usize, value: u64) {
     let w = make::with_setting(mixed(), k, value);
+    let mtu = if k == 0 { value } else { 4096 };
     head(name, value);
-    if k == 1 {
-        six::at(make::with_number(w, 0, 4096), make::CLOCK);
-        return;
-    }
-    six::at(w, make::CLOCK);
+    six::at(smallest(w, mtu), make::CLOCK);
 }
 
 // A number of the window.
@@ -52,9 +54,6 @@ fn windows() {
     number(b"cwnd", 0, 4095);
     number(b"cwnd", 0, 4096);
     above(b"cwnd", 0, 614400);
-    number(b"base", 1, 0);
-    number(b"base", 1, 1);
-    above(b"base", 1, 96);
     above(b"average", 2, 1 << 30);
     above(b"inc_bytes", 3, 1 << 60);
     above(b"received", 4, 1 << 40);
@@ -65,6 +64,42 @@ fn windows() {
     above(b"quick-adapt end", 9, (1 << 49) - 1);
     above(b"last-adjust", 10, make::CLOCK);
     above(b"last-decrease", 11, make::CLOCK);
+}
+
+fn base(value: u64) {
+    head(b"base", value);
+    six::at(
+        make::with_number(smallest(mixed(), 4096), 1, value),
+        make::CLOCK,
+    );
+}
+
+fn bases() {
+    base(0);
+    base(1);
+    base(96);
+    base(97);
+    base(u64::MAX);
+}
+
+// cwnd at max_wnd and one past it: MaxWnd and MTU, base, and max_wnd.
+fn ceiling(maxwnd: u64, mtu: u64, base: u64, most: u64) {
+    let w = make::with_setting(mixed(), 1, maxwnd);
+    let mut v = make::with_number(w, 1, base);
+    v.state.settings.mtu = mtu;
+    head(b"cwnd at max_wnd", most);
+    six::at(make::with_number(v, 0, most), make::CLOCK);
+    head(b"cwnd past max_wnd", most);
+    let past = std::num::wrapping_add_u64(most, 1);
+    six::at(make::with_number(v, 0, past), make::CLOCK);
+}
+
+// Half of MaxWnd; the least base; rounded down; the MTU.
+fn ceilings() {
+    ceiling(614400, 4096, 48, 307200);
+    ceiling(614400, 4096, 1, 6400);
+    ceiling(614401, 4096, 95, 608000);
+    ceiling(614400, 16384, 2, 16384);
 }
 
 // Modes are not tied to anything.
@@ -312,6 +347,8 @@ fn all_names() {
 
 pub(crate) fn run() {
     windows();
+    bases();
+    ceilings();
     modes();
     numbers();
     in_flights();

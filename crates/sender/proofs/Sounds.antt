@@ -184,7 +184,7 @@ module _ (w : World) (R : InRange (w .state .settings))
         flown = coheres-flown parts-coheres;
         backlog-high = coheres-facts parts-coheres .backlog;
         mtu-high = omega (arith, R .mtu-high);
-        cwnd-high = omega (arith, H .cwnd-high, ceiling-high R (w .state .window .base), R .maxwnd-high);
+        cwnd-high = omega (arith, H .cwnd-high, ceiling-high R (w .state .window .base) (H .base-high), R .maxwnd-high);
       }
 
 pub sound-coheres : (w : World) → sound w ≡ true → Coheres (ledgerOf w)

@@ -186,7 +186,7 @@ module _ {w : World} (S : SoundFacts w) where
   unfolding hasRoom
   room-under e =
       under (w .state .totals .«in_flight» +ℤ pos (w .state .settings .mtu)) (w .state .window .cwnd) (w .state .settings .maxwnd) e
-      (omega (arith, S .held .cwnd-high, ceiling-high (S .range) (w .state .window .base)))
+      (omega (arith, S .held .cwnd-high, ceiling-high (S .range) (w .state .window .base) (S .held .base-high)))
 
   -- the EV and the base of an event that changes an EV's time
   pub avoid-asks : {time ev : ℕ} → Timely time (w .state) → ev < evCount

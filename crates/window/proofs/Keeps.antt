@@ -26,7 +26,7 @@ use Rattle.window.specs.declared.Sample.{Sample}
 use Rattle.window.specs.declared.Sample.the-variants.{Ticks, Absent}
 use Rattle.window.proofs.Numbers.{share}
 use Rattle.window.proofs.Steps.{feed-under}
-use Rattle.window.proofs.Ceilings.{ceiling-low, ceiling-high, ceiling-falls}
+use Rattle.window.proofs.Ceilings.{ceiling-low, ceiling-high}
 
 -- the bounds of what is equal
 pub held-at : {s : Settings} {time : ℕ} {v w : Window} → v ≡ w → Held s time w → Held s time v
@@ -56,7 +56,7 @@ factor-high R avg = omega arith
 
 module _ {s : Settings} {time : ℕ} (R : InRange s) where
   pub cwnd-most : {w : Window} → Held s time w → w .cwnd ≤ windowMost
-  cwnd-most {w} H = omega (arith, ceiling-high R (w .base))
+  cwnd-most {w} H = omega (arith, ceiling-high R (w .base) (H .base-high))
 
   pub held-counted : {w : Window} (newly : ℕ) → Held s time w → Held s time (countedOf newly w)
   unfolding countedOf
@@ -132,22 +132,21 @@ module _ {s : Settings} {time : ℕ} (R : InRange s) where
       (λ h. lt-both (Held s time) (w .received) (s .«adjust_bytes») _ _ (λ k. H) (λ k. held-turned 0 H))
       (λ h. omega arith)
 
-  pub held-lowered : {w : Window} (sample : Sample) → Sampled sample → Held s time w → Held s time (loweredOf sample w)
+  pub held-lowered : {w : Window} (sample : Sample) → Sampled sample → Held s time w → Held s time (loweredOf s sample w)
   unfolding loweredOf
-  held-lowered {w} (Ticks t) S H =
-      omega (arith, S .low t refl, ceiling-falls R (w .cwnd) (w .base) (min (w .base) t) (omega arith) (H .cwnd-high))
+  held-lowered {w} (Ticks t) S H = omega (arith, S .low t refl, ceiling-low R (min (w .base) t))
   held-lowered Absent S H = H
 
   pub held-measured :
       {w : Window} (marked : Bool) (sample : Sample) → Sampled sample → Held s time w →
       Held s time (measuredOf s marked sample w .window)
-  unfolding measuredOf
+  unfolding measuredOf loweredOf
   held-measured {w} marked (Ticks t) S H =
       let high = S .high t refl in
       let base = min (w .base) t in
       let x = feed-under (s .«target_qdelay») base marked (t - base) sampleMost (omega arith) (omega arith) in
       let avg = fed-high (w .avg) _ (H .avg-high) x in
-      omega (arith, S .low t refl, ceiling-falls R (w .cwnd) (w .base) base (omega arith) (H .cwnd-high))
+      omega (arith, S .low t refl, ceiling-low R base)
   held-measured marked Absent S H = H
 
   pub step-measured :

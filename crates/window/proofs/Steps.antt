@@ -1,27 +1,30 @@
 -- What a step with a sample or without one comes to: the two cases of the enum, from the fact that the match leaves.
 -- Assumes nothing.
-use mathlib.Core.Path.{_≡_}
+use mathlib.Core.Path.{_≡_, refl}
 use mathlib.Core.Bool.{Bool}
 use Prim.Native.Nat.{ℕ, _-_, _*_, _≤_, min}
 use native.Mathlib.Omega.{arith}
 use Rattle.decide.specs.Branch.{so-both, lt-both}
-use Rattle.window.specs.Fields.{withBase, withAvg}
+use Rattle.window.specs.Limits.{ceilingOf}
+use Rattle.window.specs.Fields.{withCwnd, withBase, withAvg}
 use Rattle.window.specs.Delays.{averageOf, fedBy, feedOf, loweredOf, measuredOf}
 use Rattle.window.specs.declared.Settings.{Settings}
 use Rattle.window.specs.declared.Window.{Window}
 use Rattle.window.specs.declared.Sample.{Sample}
 use Rattle.window.specs.declared.Sample.the-variants.{Ticks, Absent}
 
-module _ (sample : Sample) (w : Window) where
-  pub lowered-none : sample ≡ Absent → w ≡ loweredOf sample w
+module _ (s : Settings) (sample : Sample) (w : Window) where
+  pub lowered-none : sample ≡ Absent → w ≡ loweredOf s sample w
   unfolding loweredOf
   lowered-none e = simp e
 
-  pub lowered-by : (t base : ℕ) → sample ≡ Ticks t → base ≡ min (w .base) t → withBase base w ≡ loweredOf sample w
+  pub lowered-by :
+      (t base top cwnd : ℕ) → sample ≡ Ticks t → base ≡ min (w .base) t → top ≡ ceilingOf s base → cwnd ≡ min (w .cwnd) top →
+      withCwnd cwnd (withBase base w) ≡ loweredOf s sample w
   unfolding loweredOf
-  lowered-by t base e f = simp (e, f)
+  lowered-by t base top cwnd e f g h = simp (e, h, g, f)
 
-  module _ (s : Settings) (marked : Bool) where
+  module _ (marked : Bool) where
     pub measured-none :
         (d : ℕ) → sample ≡ Absent → d ≡ averageOf (w .avg) →
         record { window = w; delay = d } ≡ measuredOf s marked sample w
@@ -29,13 +32,16 @@ module _ (sample : Sample) (w : Window) where
     measured-none d e f = simp (e, f)
 
     pub measured-by :
-        (t base x avg : ℕ) → sample ≡ Ticks t → base ≡ min (w .base) t →
-        x ≡ feedOf (s .«target_qdelay») base marked (t - base) → avg ≡ fedBy (w .avg) x →
-        record { window = withAvg avg (withBase base w); delay = t - base } ≡ measuredOf s marked sample w
+        (t : ℕ) (v : Window) (x avg : ℕ) → sample ≡ Ticks t → v ≡ loweredOf s (Ticks t) w →
+        x ≡ feedOf (s .«target_qdelay») (v .base) marked (t - v .base) → avg ≡ fedBy (w .avg) x →
+        record { window = withAvg avg v; delay = t - v .base } ≡ measuredOf s marked sample w
     unfolding measuredOf
-    measured-by t base x avg e f g h = simp (e, h, g, f)
+    measured-by t v x avg e f g h = simp (e, h, g, f)
 
-pub ruleset sampled = (lowered-none, lowered-by, measured-none, measured-by)
+-- the base that a sample leaves
+pub lowered-base : (s : Settings) (t : ℕ) (w : Window) → loweredOf s (Ticks t) w .base ≡ min (w .base) t
+unfolding loweredOf
+lowered-base s t w = refl
 
 -- what is fed is no more than both the base and the delay are
 pub feed-under :

@@ -61,8 +61,8 @@ held-facts s clock w e =
     let received = row _ 0 (w .received) tallyStop (achieved .0) in
     let inc = row _ 0 (w .«inc_bytes») incStop (received .0) in
     let avg = row _ 0 (w .avg) avgMost (inc .0) in
-    let base = row (inside (s .mtu) (w .cwnd) (ceilingOf s (w .base))) 1 (w .base) (s .«config_base_rtt») (avg .0) in
-    let cwnd = inside-tells (s .mtu) (w .cwnd) (ceilingOf s (w .base)) (base .0) in
+    let cwnd = row (inside 1 (w .base) (s .«config_base_rtt»)) (s .mtu) (w .cwnd) (ceilingOf s (w .base)) (avg .0) in
+    let base = inside-tells 1 (w .base) (s .«config_base_rtt») (cwnd .0) in
     omega arith
 
 pub held-test : (s : Settings) (clock : ℕ) (w : Window) → Held s clock w → isHeld s clock w ≡ true

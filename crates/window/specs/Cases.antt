@@ -23,7 +23,7 @@ countedOf newly w =
 unfoldable pub calmOf : Window → Window
 calmOf w = withFast false (withFiCount 0 w)
 
--- "cwnd += newly up to MaxWnd"
+-- "cwnd += newly up to MaxWnd", which is max_wnd by request M-101: "every clamp, fast mode's too, uses it"
 unfoldable pub grownOf : Settings → ℕ → Window → Window
 grownOf s newly w = withCwnd (min (w .cwnd + newly) (ceilingOf s (w .base))) w
 

@@ -5,8 +5,8 @@ use mathlib.Core.Bool.{Bool}
 use Prim.Native.Nat.{ℕ, _+_, _-_, _*_, _/_, _≤_, min}
 use lib.Dec.{eqb}
 use Rattle.decide.specs.Branch.{ifSo, ifLt}
-use Rattle.window.specs.Limits.{sampleMost, parts}
-use Rattle.window.specs.Fields.{withBase, withAvg}
+use Rattle.window.specs.Limits.{sampleMost, parts, ceilingOf}
+use Rattle.window.specs.Fields.{withCwnd, withBase, withAvg}
 use Rattle.window.specs.declared.Settings.{Settings}
 use Rattle.window.specs.declared.Window.{Window}
 use Rattle.window.specs.declared.Delayed.{Delayed}
@@ -39,18 +39,21 @@ fedBy avg x = (79 * avg + 1024 * x) / 80
 unfoldable pub feedOf : ℕ → ℕ → Bool → ℕ → ℕ
 feedOf target base marked delay = ifSo marked delay (ifLt target delay (ifLt (5 * base) delay delay (base / 4)) delay)
 
--- "base = min(base, sample)"
-unfoldable pub loweredOf : Sample → Window → Window
-loweredOf (Ticks t) w = withBase (min (w .base) t) w
-loweredOf Absent w = w
+-- "base = min(base, sample)"; request M-101: where base falls max_wnd is worked out anew, "and cwnd is clamped to it at that moment". Where it does not, cwnd
+-- stands under it already
+unfoldable pub loweredOf : Settings → Sample → Window → Window
+loweredOf s (Ticks t) w =
+    let base = min (w .base) t in
+    withCwnd (min (w .cwnd) (ceilingOf s base)) (withBase base w)
+loweredOf s Absent w = w
 
 -- "delay = sample - base", and the filter is fed. "No sample on an ACK (H): delay is the average, the filter is not fed."
 unfoldable pub measuredOf : Settings → Bool → Sample → Window → Delayed
 measuredOf s marked (Ticks t) w =
-    let base = min (w .base) t in
-    let delay = t - base in
+    let v = loweredOf s (Ticks t) w in
+    let delay = t - v .base in
     record {
-      window = withAvg (fedBy (w .avg) (feedOf (s .«target_qdelay») base marked delay)) (withBase base w);
+      window = withAvg (fedBy (w .avg) (feedOf (s .«target_qdelay») (v .base) marked delay)) v;
       delay = delay;
     }
 measuredOf s marked Absent w = record { window = w; delay = averageOf (w .avg) }

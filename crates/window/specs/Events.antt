@@ -46,4 +46,4 @@ rttFed s w = withAvg (fedBy (w .avg) (s .«config_base_rtt»)) w
 -- "NACK reasons: 0 trimmed, 1 trimmed at the last hop, 2 other. All: .. sample and base. 0 and 1 also: feed config_base_rtt, .."
 unfoldable pub nackOf : Settings → ℕ → ℕ → ℕ → Sample → ℤ → Window → Window
 nackOf s time size reason sample inFlight w =
-    ifLt 1 reason (loweredOf sample w) (lossOf s time size inFlight (rttFed s (loweredOf sample w)))
+    ifLt 1 reason (loweredOf s sample w) (lossOf s time size inFlight (rttFed s (loweredOf s sample w)))

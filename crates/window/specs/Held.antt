@@ -9,11 +9,11 @@ use Rattle.window.specs.declared.Settings.{Settings}
 use Rattle.window.specs.declared.Window.{Window}
 
 -- "Number 2 is: .. numbers outside the bounds here; cwnd outside MTU..MaxWnd; base outside 1..config_base_rtt; .. delay average over 2^30; ..
--- quick-adapt end .. of 2^49 or more; a last-adjust or last-decrease time past the clock"
+-- quick-adapt end .. of 2^49 or more; a last-adjust or last-decrease time past the clock"; by request M-101 cwnd is tested against max_wnd
 unfoldable pub isHeld : Settings → ℕ → Window → Bool
 isHeld s clock w =
-    inside (s .mtu) (w .cwnd) (ceilingOf s (w .base))
-    && inside 1 (w .base) (s .«config_base_rtt»)
+    inside 1 (w .base) (s .«config_base_rtt»)
+    && inside (s .mtu) (w .cwnd) (ceilingOf s (w .base))
     && inside 0 (w .avg) avgMost
     && inside 0 (w .«inc_bytes») incStop
     && inside 0 (w .received) tallyStop

@@ -1,6 +1,6 @@
 -- Document 01, "Numbers and their bounds": the numbers that the window's rules name.
 -- Assumes nothing.
-use Prim.Native.Nat.{ℕ, _^_}
+use Prim.Native.Nat.{ℕ, _*_, _/_, _^_, max}
 use Rattle.window.specs.declared.Settings.{Settings}
 
 -- "Settings: MTU 1,024..16,384"
@@ -66,6 +66,6 @@ incStop = 2 ^ 60
 abbrev pub newlyEnd : ℕ
 newlyEnd = 2 ^ 31
 
--- "max_wnd is MaxWnd": the ceiling that every clamp of cwnd uses, for a base round trip
+-- request M-101: "max_wnd = max(MTU, MaxWnd·base/config_base_rtt), rounded down": the ceiling that every clamp of cwnd uses, for a base round trip
 unfoldable pub ceilingOf : Settings → ℕ → ℕ
-ceilingOf s base = s .maxwnd
+ceilingOf s base = max (s .mtu) (s .maxwnd * base / s .«config_base_rtt»)

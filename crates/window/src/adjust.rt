@@ -6,11 +6,13 @@ use decide::least;
 ghost use mathlib.Core.Path.{_≡_};
 ghost use Prim.Native.Nat.{_≤_, _<_};
 ghost use Rattle.window.specs.Limits.{windowMost, gainMost, incStop};
+ghost use Rattle.window.specs.Range.{InRange};
 ghost use Rattle.window.specs.Adjust.{turnedOf, adjustedOf};
 
 // cwnd with its share of inc_bytes and an extra, up to the ceiling; inc_bytes and received start anew.
 fn turned(s: Settings, extra: u64, w: Window) -> Window
-    requires { ⌜ (0 < w .cwnd) × (w .cwnd ≤ windowMost) × (w .«inc_bytes» ≤ incStop) × (extra ≤ gainMost) ⌝ }
+    requires { ⌜ InRange s ⌝ }
+    requires { ⌜ (0 < w .cwnd) × (w .cwnd ≤ windowMost) × (w .«inc_bytes» ≤ incStop) × (extra ≤ gainMost) × (w .base ≤ s .«config_base_rtt») ⌝ }
     ensures { λ r. ⌜ r ≡ turnedOf s extra w ⌝ }
 {
     let cwnd = w.cwnd;
@@ -24,7 +26,8 @@ fn turned(s: Settings, extra: u64, w: Window) -> Window
 
 // The adjustment, where enough was received or the period has passed.
 pub(crate) fn adjusted(s: Settings, time: u64, w: Window) -> Window
-    requires { ⌜ (w .«last_adjust» ≤ time) × (0 < w .cwnd) × (w .cwnd ≤ windowMost) × (w .«inc_bytes» ≤ incStop) × (s .eta ≤ gainMost) ⌝ }
+    requires { ⌜ InRange s ⌝ }
+    requires { ⌜ (w .«last_adjust» ≤ time) × (0 < w .cwnd) × (w .cwnd ≤ windowMost) × (w .«inc_bytes» ≤ incStop) × (w .base ≤ s .«config_base_rtt») ⌝ }
     ensures { λ r. ⌜ r ≡ adjustedOf s time w ⌝ }
 {
     let last_adjust = w.last_adjust;

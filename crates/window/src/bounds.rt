@@ -1,17 +1,23 @@
 // The ranges of the settings, the bounds of the window's numbers, and the fresh window.
 use crate::Settings;
 use crate::Window;
+use decide::most;
 use decide::within;
 ghost use mathlib.Core.Path.{_≡_};
+ghost use Prim.Native.Nat.{_≤_};
 ghost use Rattle.window.specs.Limits.{ceilingOf};
-ghost use Rattle.window.specs.Range.{inRange};
+ghost use Rattle.window.specs.Range.{inRange, InRange};
 ghost use Rattle.window.specs.Held.{isHeld, freshOf};
 
-// max_wnd: the ceiling of the window at a base round trip.
+// max_wnd: the ceiling of the window at a base round trip. An inner step: in these bounds the product does not overflow.
 pub fn ceiling(s: Settings, base: u64) -> u64
+    requires { ⌜ InRange s ⌝ }
+    requires { ⌜ base ≤ s .«config_base_rtt» ⌝ }
     ensures { λ r. ⌜ r ≡ ceilingOf s base ⌝ }
 {
-    s.maxwnd
+    let maxwnd = s.maxwnd;
+    let rtt = s.config_base_rtt;
+    most(s.mtu, maxwnd * base / rtt)
 }
 
 // Whether every setting is in its range; where not, setting up is refused with 1.
@@ -32,12 +38,16 @@ pub fn in_range(s: Settings) -> bool
         & within(0, s.qa_threshold, crate::THRESHOLD_MOST)
 }
 
-// Whether the window's numbers are in their bounds at a clock: the window's part of refusal 2.
+// Whether the window's numbers are in their bounds at a clock: the window's part of refusal 2. An inner step: the settings are in range. The base is tested
+// first, as max_wnd is worked out with it.
 pub fn is_held(s: Settings, clock: u64, w: Window) -> bool
+    requires { ⌜ InRange s ⌝ }
     ensures { λ r. ⌜ r ≡ isHeld s clock w ⌝ }
 {
+    if !within(1, w.base, s.config_base_rtt) {
+        return false;
+    }
     within(s.mtu, w.cwnd, ceiling(s, w.base))
-        & within(1, w.base, s.config_base_rtt)
         & within(0, w.avg, crate::AVG_MOST)
         & within(0, w.inc_bytes, crate::INC_STOP)
         & within(0, w.received, crate::TALLY_STOP)

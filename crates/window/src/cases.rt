@@ -44,7 +44,8 @@ fn calm(w: Window) -> Window
 
 // cwnd and newly more, up to the ceiling.
 fn grown(s: Settings, newly: u64, w: Window) -> Window
-    requires { ⌜ (w .cwnd ≤ windowMost) × (newly < newlyEnd) ⌝ }
+    requires { ⌜ InRange s ⌝ }
+    requires { ⌜ (w .cwnd ≤ windowMost) × (newly < newlyEnd) × (w .base ≤ s .«config_base_rtt») ⌝ }
     ensures { λ r. ⌜ r ≡ grownOf s newly w ⌝ }
 {
     let cwnd = w.cwnd;
@@ -55,7 +56,8 @@ fn grown(s: Settings, newly: u64, w: Window) -> Window
 
 // Fast increase, near the base or not.
 fn fast(s: Settings, newly: u64, delay: u64, w: Window) -> Window
-    requires { ⌜ (w .cwnd ≤ windowMost) × (newly < newlyEnd) × (w .«fi_count» ≤ tallyStop) ⌝ }
+    requires { ⌜ InRange s ⌝ }
+    requires { ⌜ (w .cwnd ≤ windowMost) × (newly < newlyEnd) × (w .«fi_count» ≤ tallyStop) × (w .base ≤ s .«config_base_rtt») ⌝ }
     ensures { λ r. ⌜ r ≡ fastOf s newly delay w ⌝ }
 {
     let base = w.base;

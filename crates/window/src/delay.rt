@@ -3,10 +3,12 @@ use crate::Delayed;
 use crate::Sample;
 use crate::Settings;
 use crate::Window;
+use crate::bounds::ceiling;
 use decide::least;
 ghost use mathlib.Core.Path.{_≡_};
 ghost use Prim.Native.Nat.{_≤_};
 ghost use Rattle.window.specs.Limits.{delayMost, sampleMost, avgMost};
+ghost use Rattle.window.specs.Range.{InRange};
 ghost use Rattle.window.specs.Delays.{oneSend, sampleOf, averageOf, fedBy, feedOf, loweredOf, measuredOf, Sampled};
 
 // Whether a resend count and a retx flag tell which copy of the packet an answer is to.
@@ -77,22 +79,27 @@ fn feed(target: u64, base: u64, marked: bool, delay: u64) -> u64
     base / 4
 }
 
-// The base once a sample is taken.
-pub(crate) fn lowered(sample: Sample, w: Window) -> Window
-    ensures { λ r. ⌜ r ≡ loweredOf sample w ⌝ }
+// The base once a sample is taken, and cwnd under the ceiling of that base.
+pub(crate) fn lowered(s: Settings, sample: Sample, w: Window) -> Window
+    requires { ⌜ InRange s ⌝ }
+    requires { ⌜ w .base ≤ s .«config_base_rtt» ⌝ }
+    ensures { λ r. ⌜ r ≡ loweredOf s sample w ⌝ }
 {
     let Sample::Ticks(t) = sample else {
         return w;
     };
+    let base = least(w.base, t);
     let mut n = w;
-    n.base = least(w.base, t);
+    n.base = base;
+    n.cwnd = least(w.cwnd, ceiling(s, base));
     n
 }
 
 // Sample and filter of an ACK. Without a sample the delay is the average, and the filter is not fed.
 pub(crate) fn measured(s: Settings, marked: bool, sample: Sample, w: Window) -> Delayed
+    requires { ⌜ InRange s ⌝ }
     requires { ⌜ Sampled sample ⌝ }
-    requires { ⌜ (w .base ≤ delayMost) × (w .avg ≤ avgMost) ⌝ }
+    requires { ⌜ (w .base ≤ s .«config_base_rtt») × (w .avg ≤ avgMost) ⌝ }
     ensures { λ r. ⌜ r ≡ measuredOf s marked sample w ⌝ }
 {
     let Sample::Ticks(t) = sample else {
@@ -101,11 +108,11 @@ pub(crate) fn measured(s: Settings, marked: bool, sample: Sample, w: Window) -> 
             delay: average(w.avg),
         };
     };
-    let base = least(w.base, t);
+    let v = lowered(s, sample, w);
+    let base = v.base;
     let delay = t - base;
     let avg = fed(w.avg, feed(s.target_qdelay, base, marked, delay));
-    let mut n = w;
-    n.base = base;
+    let mut n = v;
     n.avg = avg;
     Delayed { window: n, delay }
 }

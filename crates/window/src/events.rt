@@ -93,7 +93,7 @@ pub fn nack(
     requires { ⌜ (size ≤ s .mtu) × (time < timeEnd) × (aboveZero «in_flight» ≤ s .maxwnd) ⌝ }
     ensures { λ r. ⌜ Kept s time (nackOf s time size reason sample «in_flight» w) r ⌝ }
 {
-    let v = lowered(sample, w);
+    let v = lowered(s, sample, w);
     if 1 < reason {
         return v;
     }

@@ -47,12 +47,14 @@ pub fn apart(log: &[u8]) -> (Settings, Vec<Event>) {
 const UNDER_WAY: u32 = 60;
 const SIZE: u32 = 1024;
 
-/// Packets under way, then `pairs` times an ACK that delivers the oldest and a new packet.
+/// Packets under way, then `pairs` times an ACK that delivers the oldest and a new packet. No round
+/// trip is shorter than the 96 ticks of E: the window stays wide enough.
 pub fn ack_and_send(pairs: u32) -> Vec<u8> {
     let mut records = start(pairs);
     for i in 0..pairs {
-        records.push(ack(i, i, i + 1));
-        records.push(send(i, UNDER_WAY + i));
+        let time = 96 + 2 * i;
+        records.push(ack(time, i, i + 1));
+        records.push(send(time, UNDER_WAY + i));
     }
     bytes_of(&records)
 }

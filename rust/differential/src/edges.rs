@@ -1,7 +1,7 @@
 //! Calls with fields at and beyond their edges, as wide as the C functions take them.
 
 use crate::call::Call;
-use crate::numbers::edge;
+use crate::numbers::{edge, least_base};
 use crate::source::{Source, View};
 use model::bounds::{BACKLOG_MAX, COUNT_END, IN_FLIGHT_MIN, PSN_REACH, TIME_END, UNIT};
 use nscc::{Ack, Nack};
@@ -194,12 +194,16 @@ impl Source {
         }
     }
 
-    /// So that the sample is -1, 0 or 1, or anything.
+    /// So that the sample is -1, 0 or 1, the least base that leaves cwnd as it is or one less, or
+    /// anything.
     fn edge_service(&mut self, view: &View, time: u64, trigger: u32) -> u32 {
         let sent = view.memory.sent[view.slot(trigger)];
-        let trip = time.saturating_sub(sent).try_into().unwrap_or(u32::MAX);
-        let short = trip.saturating_sub(1);
+        let trip: u32 = time.saturating_sub(sent).try_into().unwrap_or(u32::MAX);
+        let least = least_base(&view.state) as u32;
+        let [short, leaves, clamps] =
+            [1, least, least - 1].map(|sample| trip.saturating_sub(sample));
         let long = trip.saturating_add(1);
-        self.rng.pick(&[0, 0, short, trip, long, 50, u32::MAX])
+        let services = [0, 0, short, trip, long, leaves, clamps, 50, u32::MAX];
+        self.rng.pick(&services)
     }
 }

@@ -1,6 +1,6 @@
 //! Numbers at which rules change.
 
-use model::{Rng, Settings};
+use model::{Rng, Settings, State};
 
 /// The exponents of 01's bounds.
 const BOUNDS: [u32; 12] = [8, 10, 14, 20, 24, 26, 30, 32, 40, 48, 49, 60];
@@ -39,6 +39,17 @@ pub fn within(rng: &mut Rng, low: u64, high: u64) -> u64 {
 /// `number` or a neighbour of it.
 pub fn beside(rng: &mut Rng, number: u64) -> u64 {
     rng.pick(&[number.saturating_sub(1), number, number + 1])
+}
+
+/// The least base whose max_wnd is not below cwnd; 1 where every base's is, or where cwnd is spoilt.
+pub fn least_base(state: &State) -> u64 {
+    let settings = &state.settings;
+    let above_mtu = settings.mtu < state.cwnd && state.cwnd <= settings.max_wnd;
+    if settings.in_range() && above_mtu {
+        (state.cwnd * settings.config_base_rtt).div_ceil(settings.max_wnd)
+    } else {
+        1
+    }
 }
 
 /// A first PSN: 0, anywhere, or so near 2^32 that it soon wraps.

@@ -36,8 +36,8 @@ pub fn sound(rng: &mut Rng, capacity: usize) -> Model {
 
 fn set_window(rng: &mut Rng, state: &mut State) {
     let settings = state.settings;
-    state.cwnd = within(rng, settings.mtu, settings.max_wnd);
     state.base = within(rng, 1, settings.config_base_rtt);
+    state.cwnd = within(rng, settings.mtu, state.max_wnd());
     // Around the target, where the cut starts.
     let target = beside(rng, settings.target_qdelay << 10);
     let above = target + rng.below(1 << 18);

@@ -1,7 +1,7 @@
 //! Calls that mean something to the present state.
 
 use crate::call::Call;
-use crate::numbers::beside;
+use crate::numbers::{beside, least_base};
 use crate::profile::Profile;
 use crate::sides::Model;
 use model::bounds::{COUNT_END, SIZE_MIN, TIME_END, UNIT};
@@ -165,9 +165,13 @@ impl Source {
         let Some(psn) = view.packet(&mut self.rng, &[FLYING]) else {
             return self.new_packet(view, time);
         };
-        let resent = view.memory.resent[view.slot(psn)];
+        let slot = view.slot(psn);
+        let resent = view.memory.resent[slot];
+        // Seldom sooner than a round trip: the base never rises again, and the window needs it.
+        let soon = self.rng.one_in(8);
+        let due = view.memory.sent[slot] + if soon { 0 } else { self.trip(view) };
         Call::Nack(Nack {
-            time,
+            time: time.max(due).min(TIME_END - 1),
             psn,
             ev: self.ev(),
             reason: self.rng.below(3) as u32,
@@ -216,8 +220,7 @@ impl Source {
         let base = view.state.base;
         let settings = &view.state.settings;
         if self.rng.one_in(64) {
-            // The base falls.
-            return self.rng.between(base / 2, base);
+            return self.shorter(view);
         }
         let target = settings.target_qdelay;
         let below = self.rng.below(target);
@@ -231,6 +234,17 @@ impl Source {
             5 => below,
             6 => edge,
             _ => slow,
+        }
+    }
+
+    /// A round trip that lowers the base: mostly by little, by a tick or to where max_wnd meets cwnd.
+    fn shorter(&mut self, view: &View) -> u64 {
+        let base = view.state.base;
+        let meets = beside(&mut self.rng, least_base(&view.state));
+        match self.rng.below(8) {
+            0 => self.rng.between(base / 2, base),
+            1..=3 => meets.max(base - base / 8),
+            _ => base - 1,
         }
     }
 

@@ -1,6 +1,6 @@
 //! Something in a context spoilt.
 
-use crate::numbers::instead_of;
+use crate::numbers::{instead_of, least_base};
 use crate::sides::Model;
 use crate::sound::settle;
 use model::bounds::{
@@ -55,8 +55,8 @@ fn limits(word: Word, state: &State) -> (u64, u64) {
         Word::Held => (0, u64::from(COUNT_END) - 1),
         Word::BacklogBytes => (0, BACKLOG_MAX),
         Word::InFlight => (0, settings.max_wnd.wrapping_add(IN_FLIGHT_ADDED as u64)),
-        Word::Cwnd => (settings.mtu, settings.max_wnd),
-        Word::Base => (1, settings.config_base_rtt),
+        Word::Cwnd => (settings.mtu, most_cwnd(state)),
+        Word::Base => (least_base(state), settings.config_base_rtt),
         Word::Avg => (0, AVG_MAX),
         Word::IncBytes => (0, INC_BYTES_MAX),
         Word::Received | Word::Achieved | Word::Ignored | Word::FiCount => (0, TALLY_MAX),
@@ -68,6 +68,17 @@ fn limits(word: Word, state: &State) -> (u64, u64) {
         Word::Phase => (0, 3),
         // PSNs, and totals that have no bound of their own.
         _ => (0, u32::MAX.into()),
+    }
+}
+
+/// max_wnd, or MaxWnd where what it is made of is spoilt already.
+fn most_cwnd(state: &State) -> u64 {
+    let settings = &state.settings;
+    let base_good = (1..=settings.config_base_rtt).contains(&state.base);
+    if settings.in_range() && base_good {
+        state.max_wnd()
+    } else {
+        settings.max_wnd
     }
 }
 

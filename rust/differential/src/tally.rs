@@ -2,6 +2,7 @@
 
 use crate::call::Call;
 use crate::sides::Model;
+use crate::words::state_of;
 use nscc::{Refusal, Word, IN_FLIGHT_ADDED, WORDS};
 use std::fmt;
 
@@ -23,6 +24,8 @@ pub struct Seen {
     pub cuts: u64,
     pub quick_adapts: u64,
     pub fast_modes: u64,
+    /// cwnd was above its new ceiling.
+    pub clamps: u64,
     pub psn_wraps: u64,
     pub count_wraps: u64,
     pub below_zero: u64,
@@ -71,6 +74,7 @@ impl Seen {
         self.cuts += u64::from(changed(Word::LastDec));
         self.quick_adapts += u64::from(changed(Word::BytesToIgnore));
         self.fast_modes += u64::from(is(Word::Fast) > was(Word::Fast));
+        self.clamps += u64::from(state_of(after).is_some_and(|s| was(Word::Cwnd) > s.max_wnd()));
         self.psn_wraps += u64::from(is(Word::Next) < was(Word::Next));
         self.count_wraps += u64::from(is(Word::Held) < was(Word::Held));
         self.below_zero += u64::from(is(Word::InFlight) < IN_FLIGHT_ADDED as u64);
@@ -90,11 +94,12 @@ impl fmt::Display for Tally {
         if seen.cuts > 0 {
             write!(
                 f,
-                "; cuts {}, quick adapts {}, fast modes {}, PSN wraps {}, count wraps {}, \
-                 below zero {}, stops {}",
+                "; cuts {}, quick adapts {}, fast modes {}, clamps {}, PSN wraps {}, \
+                 count wraps {}, below zero {}, stops {}",
                 seen.cuts,
                 seen.quick_adapts,
                 seen.fast_modes,
+                seen.clamps,
                 seen.psn_wraps,
                 seen.count_wraps,
                 seen.below_zero,

@@ -47,7 +47,7 @@ fn streams() {
     all_met(&tally, &[0, 3, 5, 6, 7, 8, 9, 10, 11], 50);
     all_met(&tally, &FIELDS, 50);
     let seen = &tally.seen;
-    let rules = [seen.cuts, seen.quick_adapts, seen.fast_modes];
+    let rules = [seen.cuts, seen.quick_adapts, seen.fast_modes, seen.clamps];
     often(&tally, &rules, 100);
     often(&tally, &[seen.psn_wraps, seen.below_zero], 10);
 }
@@ -65,7 +65,7 @@ fn states() {
     all_met(&tally, &[0, 3, 5, 6, 7, 8, 9, 10, 11], 20);
     all_met(&tally, &FIELDS, 20);
     let seen = &tally.seen;
-    let rare = [seen.stops, seen.count_wraps, seen.psn_wraps];
+    let rare = [seen.stops, seen.clamps, seen.count_wraps, seen.psn_wraps];
     often(&tally, &rare, 100);
 }
 

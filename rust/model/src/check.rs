@@ -26,9 +26,9 @@ fn numbers_good(state: &State) -> bool {
         state.ignored,
         state.fi_count,
     ];
-    (IN_FLIGHT_MIN..=settings.max_wnd as i64).contains(&state.in_flight)
-        && (settings.mtu..=settings.max_wnd).contains(&state.cwnd)
-        && (1..=settings.config_base_rtt).contains(&state.base)
+    (1..=settings.config_base_rtt).contains(&state.base)
+        && (settings.mtu..=state.max_wnd()).contains(&state.cwnd)
+        && (IN_FLIGHT_MIN..=settings.max_wnd as i64).contains(&state.in_flight)
         && state.backlog <= BACKLOG_MAX
         && state.held < COUNT_END
         && state.avg <= AVG_MAX

@@ -4,6 +4,7 @@ use std::ops::RangeInclusive;
 #[derive(Clone, Copy, Debug, Default, PartialEq, Eq)]
 pub struct Settings {
     pub mtu: u64,
+    /// MaxWnd. The window's own ceiling is [`State::max_wnd`](crate::State::max_wnd).
     pub max_wnd: u64,
     pub config_base_rtt: u64,
     pub target_qdelay: u64,

@@ -85,6 +85,14 @@ impl State {
         }
     }
 
+    /// The ceiling of cwnd: MaxWnd scaled by the actual round trip, and no less than the MTU (01 as
+    /// amended by M-101). Settings and base must be in their bounds.
+    pub fn max_wnd(&self) -> u64 {
+        let settings = &self.settings;
+        let scaled = settings.max_wnd * self.base / settings.config_base_rtt;
+        scaled.max(settings.mtu)
+    }
+
     /// In-flight + MTU is at most cwnd. The MTU and cwnd must be in their bounds.
     pub(crate) fn window_open(&self) -> bool {
         self.in_flight + self.settings.mtu as i64 <= self.cwnd as i64

@@ -69,8 +69,16 @@ impl State {
         delay
     }
 
+    /// Where the base falls, the ceiling falls with it, and cwnd is clamped at once.
     pub(crate) fn lower_base(&mut self, sample: u64) {
-        self.base = self.base.min(sample);
+        if sample < self.base {
+            self.base = sample;
+            self.clamp();
+        }
+    }
+
+    fn clamp(&mut self) {
+        self.cwnd = self.cwnd.min(self.max_wnd());
     }
 
     pub(crate) fn feed(&mut self, ticks: u64) {
@@ -96,7 +104,8 @@ impl State {
             self.fast_mode = self.fi_count > self.cwnd;
         }
         if self.fast_mode {
-            self.cwnd = (self.cwnd + newly).min(self.settings.max_wnd);
+            self.cwnd += newly;
+            self.clamp();
         }
     }
 
@@ -139,7 +148,7 @@ impl State {
             self.last_adjust = now;
             self.cwnd += self.settings.eta;
         }
-        self.cwnd = self.cwnd.min(self.settings.max_wnd);
+        self.clamp();
         self.inc_bytes = 0;
         self.received = 0;
     }

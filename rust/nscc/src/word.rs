@@ -24,9 +24,11 @@ pub enum Word {
     Flying,
     Marked,
     MarkedBytes,
-    /// In-flight + [`IN_FLIGHT_ADDED`].
+    /// In-flight + [`IN_FLIGHT_ADDED`]; in-flight is at most MaxWnd.
     InFlight,
+    /// MTU..max(MTU, MaxWnd * base / config_base_rtt), rounded down.
     Cwnd,
+    /// It only falls, and the bound of cwnd with it.
     Base,
     Avg,
     IncBytes,

@@ -59,7 +59,7 @@ fn resent() -> Vector {
             ack(400, 1, 32), // delay 4
             loss(500, 2).ev(9),
             resend(510, 2, 4096),
-            ack(600, 2, 48).retx(), // for the second copy: 90, the new base
+            ack(600, 2, 48).retx(), // for the second copy: 90, the new base, and the window falls
             send(610, 3, 4096),
             ack(710, 3, 64), // delay 10
             send(800, 4, 4096),

@@ -3,6 +3,7 @@
 
 mod basics;
 mod build;
+mod ceiling;
 mod class;
 mod ledger;
 mod long;
@@ -34,6 +35,7 @@ pub fn bundled() -> Vec<Vector> {
         ledger::logs(),
         samples::logs(),
         window::logs(),
+        ceiling::logs(),
         malformed::logs(),
         long::logs(),
     ]

@@ -46,8 +46,8 @@ fn samples() -> Vector {
         ack(132, 2, 80).trigger(1), // gone
         ack(132, 3, 96).trigger(6u32.wrapping_sub(1024)), // the slot of 6
         ack(132, 3, 112).map(0b100).trigger(6), // marked: delay 36
-        ack(132, 5, 128).service(131), // a sample of 1
-        ack(132, 7, 144),          // delay 131
+        ack(132, 5, 128).service(131), // a sample of 1: the ceiling is then 6,400
+        ack(132, 7, 144),          // delay 131, and no room to grow
     ]);
     named("samples", log)
 }
@@ -75,6 +75,7 @@ fn nack_samples() -> Vector {
     let slow = |settings: &mut Settings| {
         telling(settings);
         settings.config_base_rtt = 8_000;
+        settings.max_wnd = 1 << 26; // so that a low base leaves room to grow
     };
     let mut log = vec![e_but(slow), data(0, 16_384)];
     log.extend(sends(0, 0..4, 4096));

@@ -22,11 +22,16 @@ pub(super) fn logs() -> Vec<Vector> {
     ]
 }
 
-/// No quick adapt and no adjustment: cwnd shows fast mode and cuts alone.
-fn quiet(settings: &mut Settings) {
-    settings.quick_adapt_off = true;
+/// No adjustment: a log comes to neither the bytes nor the period.
+pub(super) fn unadjusted(settings: &mut Settings) {
     settings.adjust_bytes = 1 << 26;
     settings.adjust_period = 1 << 20;
+}
+
+/// No quick adapt and no adjustment: cwnd shows fast mode, cuts and clamps alone.
+pub(super) fn quiet(settings: &mut Settings) {
+    unadjusted(settings);
+    settings.quick_adapt_off = true;
 }
 
 /// Fast mode: on once fi_count is above cwnd; off by a delay not near, by M and by the target.
@@ -40,7 +45,7 @@ fn fast_mode() -> Vector {
         delayed(200, 0, 12, 2_386), // near: grows
         delayed(200, 1, 13, 2_387), // not near: off
         ack(200, 1, 2_389),         // no growth
-        ack(200, 1, 4_774),         // on, up to MaxWnd
+        ack(200, 1, 4_774),         // on, up to the ceiling
         loss(200, 6),
         ack(200, 1, 4_775).marked(), // off
         ack(200, 1, 4_776),
@@ -56,7 +61,7 @@ fn fast_mode() -> Vector {
     named("fast-mode", log)
 }
 
-/// The adjustment: by bytes, by the period, by both, and up to MaxWnd.
+/// The adjustment: by bytes, by the period, by both, and up to the ceiling.
 fn adjustment() -> Vector {
     named(
         "adjustment",
@@ -73,7 +78,7 @@ fn adjustment() -> Vector {
             ack(96, NONE, 255), // the period
             ack(191, NONE, 256),
             ack(192, NONE, 384),   // both
-            ack(288, NONE, 1_600), // up to MaxWnd
+            ack(288, NONE, 1_600), // up to the ceiling
         ],
     )
 }
@@ -129,8 +134,8 @@ fn quick_adapt() -> Vector {
         delayed(1_336, 3, 288, 0).marked(), // the threshold
         loss(1_503, 7),
         delayed(1_504, 4, 289, 2_399).marked(), // achieved is cwnd
-        ack(1_672, 5, 4_798).service(1_622).marked(), // fires; the base is then 50
-        ack(1_794, 6, 4_798).service(1_455).marked(), // fires: delay 289
+        ack(1_672, 5, 3_648).service(1_622).marked(), // fires; the base is then 50
+        ack(1_794, 6, 3_648).service(1_455).marked(), // fires: delay 289
         path(1_794),
     ]);
     named("quick-adapt", log)

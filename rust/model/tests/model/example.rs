@@ -101,13 +101,13 @@ fn all_state_names_and_a_negative_in_flight() {
         send(2, 4096, 1),
         new_data(3, 100),
         send(3, 100, 2),
-        ack(4, 0, 48),
-        send(5, 100, 2),
-        loss(6, 1),
+        ack(97, 0, 48),
+        send(98, 100, 2),
+        loss(99, 1),
     ]
     .concat();
-    // Record 7 reports 12,288 of the 8,192 bytes sent. The loss of record 9 takes 4,096 more from
-    // in-flight, and as much from cwnd.
+    // Record 7 reports 12,288 of the 8,192 bytes sent; its sample is 96, so the ceiling stays. The
+    // loss of record 9 takes 4,096 more from in-flight, and as much from cwnd.
     let lines = "1 0 0 8192 0 0 0 IDLE\n\
                  2 0 0 8192 0 0 8192 READY\n\
                  3 0 4096 8192 1 0 4096 READY\n\

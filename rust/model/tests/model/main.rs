@@ -1,6 +1,7 @@
 //! Tests of the model against document 01. Expected numbers are worked out by hand or by a second,
 //! naive way of counting.
 
+mod ceiling;
 mod demand3;
 mod example;
 mod ledger;

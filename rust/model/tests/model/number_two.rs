@@ -158,9 +158,18 @@ fn window_numbers() {
             r.state.cwnd = 4_096;
             r.state.name = Name::Active;
         }),
-        ("cwnd of MaxWnd", |r| r.state.cwnd = 614_400),
-        ("base of 1", |r| r.state.base = 1),
+        ("cwnd of max_wnd", |r| r.state.cwnd = 576_000),
+        ("cwnd of MaxWnd", |r| {
+            r.state.base = 96;
+            r.state.cwnd = 614_400;
+        }),
+        ("base of 1", |r| {
+            r.state.base = 1;
+            r.state.cwnd = 6_400;
+            r.state.name = Name::Active;
+        }),
         ("base of config_base_rtt", |r| r.state.base = 96),
+        ("the lowest base for this cwnd", |r| r.state.base = 47),
         ("average of 2^30", |r| r.state.avg = 1 << 30),
         ("inc_bytes at its stop", |r| r.state.inc_bytes = 1 << 60),
         ("received at its stop", |r| r.state.received = 1 << 40),
@@ -180,9 +189,20 @@ fn window_numbers() {
             r.state.cwnd = 4_095;
             r.state.name = Name::Active;
         }),
-        ("cwnd over MaxWnd", |r| r.state.cwnd = 614_401),
+        ("cwnd over max_wnd", |r| r.state.cwnd = 576_001),
+        ("cwnd over MaxWnd", |r| {
+            r.state.base = 96;
+            r.state.cwnd = 614_401;
+        }),
+        ("cwnd over max_wnd at a base of 1", |r| {
+            r.state.base = 1;
+            r.state.cwnd = 6_401;
+            r.state.name = Name::Active;
+        }),
         ("cwnd at its widest", |r| r.state.cwnd = u64::MAX),
         ("base of 0", |r| r.state.base = 0),
+        ("base too low for this cwnd", |r| r.state.base = 46),
+        ("base at its widest", |r| r.state.base = u64::MAX),
         ("base over config_base_rtt", |r| r.state.base = 97),
         ("average over 2^30", |r| r.state.avg = (1 << 30) + 1),
         ("inc_bytes over its stop", |r| {
@@ -200,6 +220,27 @@ fn window_numbers() {
         }),
         ("bytes_to_ignore", |r| r.state.bytes_to_ignore = 614_401),
     ]);
+}
+
+#[test]
+fn cwnd_up_to_a_max_wnd_that_is_rounded_down_or_the_mtu() {
+    for (max_wnd, base, most) in [
+        (614_399, 95, 607_999), // and a 96th
+        (614_399, 1, 6_399),    // and 95 of them
+        (8_192, 49, 4_181),
+        (8_192, 48, 4_096),
+        (8_192, 47, 4_096), // 4,010 is below the MTU
+        (4_096, 96, 4_096),
+    ] {
+        let mut rig = Rig::e();
+        rig.state.settings.max_wnd = max_wnd;
+        rig.state.base = base;
+        rig.state.cwnd = most;
+        assert!(rig.holds(), "{most} of {max_wnd} at {base}");
+        rig.state.cwnd = most + 1;
+        assert!(!rig.holds(), "over {most} of {max_wnd} at {base}");
+        rig.refuse(2, path(NOW));
+    }
 }
 
 #[test]

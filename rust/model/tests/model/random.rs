@@ -125,6 +125,13 @@ impl Naive {
     }
 }
 
+/// cwnd lies between MTU and max_wnd: the latter without its division.
+fn check_window(state: &State) {
+    let settings = &state.settings;
+    let scaled = state.cwnd * settings.config_base_rtt <= settings.max_wnd * state.base;
+    assert!(state.cwnd == settings.mtu || (state.cwnd > settings.mtu && scaled));
+}
+
 /// What a log did, for tests that the logs are worth something.
 #[derive(Default)]
 struct Seen {
@@ -136,6 +143,8 @@ struct Seen {
     cuts: u32,
     fired: u32,
     fast: u32,
+    /// The window was above its new ceiling.
+    clamped: u32,
     wraps: u32,
     negative: u32,
 }
@@ -164,6 +173,7 @@ impl Seen {
         self.cuts += u32::from(after.last_dec != before.last_dec);
         self.fired += u32::from(after.bytes_to_ignore != before.bytes_to_ignore);
         self.fast += u32::from(after.fast_mode && !before.fast_mode);
+        self.clamped += u32::from(before.cwnd > after.max_wnd());
         self.wraps += u32::from(after.low < before.low);
         self.negative += u32::from(after.in_flight < 0);
     }
@@ -199,6 +209,7 @@ fn follow(log: &[u8], seen: &mut Seen) {
             assert_eq!(rig, before);
         }
         naive.check(&rig.state, &rig.memory);
+        check_window(&rig.state);
         seen.note(&event, outcome.number, &before.state, &rig.state);
     }
 }
@@ -219,7 +230,7 @@ fn realistic_logs() {
         "{:?}",
         seen.names
     );
-    let rules = [seen.cuts, seen.fired, seen.fast, seen.wraps];
+    let rules = [seen.cuts, seen.fired, seen.fast, seen.clamped, seen.wraps];
     assert!(rules.iter().all(|&times| times > 10), "{rules:?}");
     // A sender that keeps to the rules is seldom refused.
     let refused: u32 = seen.answers[1..].iter().sum();
@@ -259,7 +270,7 @@ fn hostile_logs() {
         "{:?}",
         seen.names
     );
-    assert!(seen.wraps > 3 && seen.negative > 100);
+    assert!(seen.clamped > 10 && seen.wraps > 3 && seen.negative > 100);
 }
 
 #[test]

@@ -102,6 +102,7 @@ fn what_the_filter_is_fed() {
 fn a_quarter_of_the_base_rounds_down() {
     let mut rig = packet(FLYING, 195, 0);
     rig.state.base = 95;
+    rig.state.cwnd = 300_000;
     // x = 23 for a delay of 100.
     assert_eq!(rig.after(ack_of_5()).state.avg, 294);
 }
@@ -145,6 +146,7 @@ fn a_nack_samples_its_own_packet_for_every_reason() {
 fn a_trimmed_nack_feeds_config_base_rtt() {
     let mut rig = packet(FLYING, 60, 0);
     rig.state.base = 80;
+    rig.state.cwnd = 300_000;
     // 1,024 * 96 / 80, neither the base nor a quarter of it.
     for (reason, avg) in [(0, 1_228), (1, 1_228), (2, 0)] {
         assert_eq!(rig.after(nack(NOW, 5, reason)).state.avg, avg);

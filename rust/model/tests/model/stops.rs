@@ -88,9 +88,11 @@ fn inc_bytes() {
 
 #[test]
 fn the_largest_growth_of_all() {
-    // alpha, target and the reported bytes at their greatest, from a full inc_bytes.
+    // alpha, target and the reported bytes at their greatest, from a full inc_bytes. The sample of 1
+    // is no fall from this base.
     let mut settings = e();
     settings.max_wnd = 1 << 26;
+    settings.config_base_rtt = 1;
     settings.alpha = 1 << 14;
     settings.target_qdelay = 1 << 14;
     settings.adjust_bytes = 1 << 26;

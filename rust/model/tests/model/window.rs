@@ -81,6 +81,7 @@ fn not_near_leaves_the_mode() {
 fn near_uses_the_whole_part_of_an_eighth_of_the_base() {
     let mut rig = delayed(13);
     rig.state.base = 95;
+    rig.state.cwnd = 300_000;
     // Delay 14 against base 95, whose eighth is 11.
     rig.state.fast_mode = true;
     assert!(!after(rig.clone(), ack_of_1(0, false)).fast_mode);

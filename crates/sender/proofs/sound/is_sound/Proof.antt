@@ -1,6 +1,9 @@
 -- `is_sound` makes the tests of `sound` in their order: by the laws of proofs/Sounds on its tests. The name is asked for once the first three hold,
 -- which bound what it is computed from.
+use mathlib.Core.Path.{sym, _∙_}
 use borrow.Author.Needs.{needs}
+use borrow.Author.Tests.{not-false}
+use Rattle.window.proofs.Tests.{range-facts}
 use Rattle.ledger.specs.Ring.{ring}
 use Rattle.sender.specs.World.{World, world}
 use Rattle.sender.proofs.Sounds.{not-range, not-held, not-coherent, tests-bounded, tests-left}
@@ -20,7 +23,7 @@ returns : tie.Need-returns
 returns c = not-range (given (c .before)) _ (c .before .in-range .ensures) (c .if1 .taken)
 
 is-held-requires : tie.Need-is-held-requires
-is-held-requires c κs = search needs
+is-held-requires c κs = range-facts _ (sym (c .before .in-range .ensures) ∙ not-false _ (c .if1 .left))
 
 returns-2 : tie.Need-returns-2
 returns-2 c =

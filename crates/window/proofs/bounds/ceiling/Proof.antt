@@ -1,12 +1,23 @@
--- `ceiling` answers max_wnd, by its definition.
-use mathlib.Core.Path.{refl}
+-- `ceiling` answers max_wnd, by its definition; the product on the way fits.
+use native.Mathlib.Omega.{arith}
+use borrow.Author.Needs.{needs}
 use Rattle.window.specs.Limits.{ceilingOf}
+use Rattle.window.proofs.Ceilings.{ceiling-fits}
 use Rattle.window.proofs.bounds.ceiling.Statement.{statement}
 use Rattle.window.proofs.bounds.ceiling.Tie as tie
 
+mul-most : tie.Need-mul-most
+mul-most c = omega (arith, ceiling-fits (c .pre .0) (c .args .base) (c .pre .1))
+
+div-most : tie.Need-div-most
+div-most c = search needs
+
+most-requires : tie.Need-most-requires
+most-requires c κs = search needs
+
 returns : tie.Need-returns
 unfolding ceilingOf
-returns c = refl
+returns c = c .most .ensures
 
 pub ceiling-spec : {M : Type 1} → statement M
-ceiling-spec = tie.close (tie.spec returns)
+ceiling-spec = tie.close (tie.spec mul-most div-most most-requires returns)

@@ -32,7 +32,7 @@ returns-2 c =
 fast-requires : tie.Need-fast-requires
 fast-requires c κs =
     let q = c .before .before .pre in
-    omega (arith, cwnd-most (q .0) (q .1 .0))
+    (q .0, omega (arith, cwnd-most (q .0) (q .1 .0)))
 
 risen-requires : tie.Need-risen-requires
 risen-requires c κs =

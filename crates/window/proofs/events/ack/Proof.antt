@@ -15,7 +15,7 @@ measured-requires : tie.Need-measured-requires
 measured-requires c κs =
     let q = c .before .pre in
     let C = held-at (c .counted .ensures) (held-counted (q .0) _ (q .1 .0)) in
-    (q .1 .1 .0, omega arith)
+    (q .0, (q .1 .1 .0, omega arith))
 
 adapted-requires : tie.Need-adapted-requires
 adapted-requires c κs =
@@ -49,7 +49,7 @@ adjusted-requires c κs =
     let adapts = rw (toZ-ofZ (m .before .before .fits .in-flight)) at (c .before .before .before .adapted .ensures) in
     let A = ack-adapted (q .0) _ (q .1 .1 .1 .1) (q .1 .1 .1 .2) _ _ _ (m .before .counted .ensures) (m .measured .ensures) adapts (q .1 .1 .0) (q .1 .0) in
     let K = step-case (q .0) _ _ _ (c .respond .ensures) A in
-    omega (arith, cwnd-most (q .0) K)
+    (q .0, omega (arith, cwnd-most (q .0) K))
 
 returns-2 : tie.Need-returns-2
 unfolding ackOf reactedOf respondedOf
