@@ -6,15 +6,19 @@ use crate::say;
 use crate::worlds::World;
 use sender::Phase;
 
-fn verdict(w: World) {
-    if same_world(mixed(), w) {
+fn told(a: World, b: World) {
+    if same_world(a, b) {
         say::text(b" same");
         return;
     }
     say::text(b" CHANGED");
 }
 
-// In-flight, which is compared by itself, and words at both ends and in between.
+fn verdict(w: World) {
+    told(mixed(), w);
+}
+
+// In-flight, and words at both ends and in between. In-flight is compared by itself too: two that lie below its range have the same word.
 fn state() {
     let w = mixed();
     let mut clock = w;
@@ -25,6 +29,10 @@ fn state() {
     verdict(make::with_backlog(w, 8191));
     verdict(clock);
     verdict(make::with_phase(w, Phase::Idle));
+    told(
+        make::with_in_flight(w, i64::MIN),
+        make::with_in_flight(w, -16777217),
+    );
     say::text(b"\n");
 }
 
