@@ -40,6 +40,10 @@ module _ (cursor : ℕ) (evs : List ℕ) (inside : cursor < length evs) where
       ap (λ (x : ℕ). getD (from cursor evs) x 0) e ∙ getD-append-add (drop cursor evs) (take cursor evs) j 0 ∙ getD-take cursor evs j 0 (omega arith)
       ∙ ap (λ (x : ℕ). getD evs x 0) (once-round (cursor + k) (length evs) (omega arith) (omega arith)))
 
+  -- the two parts that are lent are that order
+  parts : take (length evs - cursor) (drop cursor evs) ++ take (cursor - 0) evs ≡ from cursor evs
+  parts = rw (take-all (length evs - cursor) (drop cursor evs) (le-of-eq (length-drop cursor evs)), sub-zero)
+
   -- how many EVs the choice passes, in that order
   module _ (time : ℕ) where
     pub steps-inside : steps time (from cursor evs) < length evs
@@ -57,9 +61,12 @@ module _ (cursor : ℕ) (evs : List ℕ) (inside : cursor < length evs) where
         let first : firstFree time (from cursor evs) ≡ 0 = rw (drop-cons evs cursor 0) (stops time (getD evs cursor 0) (drop (suc cursor) evs ++ take cursor evs) free) in
         by-cases (decLt (length evs) (2 * avoided time evs)) over-half (λ few. omega (arith, half-or-less (omega arith)))
 
-    -- the search over the two parts that are lent
+    -- the round over the two parts that are lent
     pub free-parts : (s : ℕ) → s ≡ firstFree time (take (length evs - cursor) (drop cursor evs) ++ take (cursor - 0) evs) → s ≡ firstFree time (from cursor evs)
-    free-parts s e = e ∙ rw (take-all (length evs - cursor) (drop cursor evs) (le-of-eq (length-drop cursor evs)), sub-zero)
+    free-parts s e = e ∙ ap (firstFree time) parts
+
+    pub avoided-parts : (m : ℕ) → m ≡ avoided time (take (length evs - cursor) (drop cursor evs) ++ take (cursor - 0) evs) → m ≡ avoided time evs
+    avoided-parts m e = e ∙ ap (avoided time) parts ∙ avoided-from time
 
     -- what so many steps make of the choice
     pub lands-on : (s : ℕ) → s ≡ steps time (from cursor evs) → landed cursor s (length evs) ≡ choice time cursor evs

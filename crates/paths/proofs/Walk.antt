@@ -1,15 +1,15 @@
 -- How the avoided count and the first free EV go, entry by entry and part by part: by induction over the times.
 -- Assumes nothing.
-use mathlib.Core.Path.{_≡_, refl, sym}
+use mathlib.Core.Path.{_≡_, refl, sym, ap, _∙_}
 use mathlib.Core.List.{List, [], _∷_, _++_}
 use mathlib.Core.Logic.{by-cases}
-use Prim.Native.Nat.{ℕ, zero, suc, _+_, _*_, _≤_, _<_}
-use native.Mathlib.Nat.{not-suc-le-zero}
+use Prim.Native.Nat.{ℕ, zero, suc, _+_, _-_, _*_, _≤_, _<_}
+use native.Mathlib.Nat.{not-suc-le-zero, le-of-eq, zero-add}
 use native.Mathlib.Decide.{decLt}
 use native.Mathlib.Numerals.{add-one}
 use native.Mathlib.Omega.{arith}
-use lib.ListN.{length, drop, getD, length-append, drop-of-length-le}
-use lib.Seq.{drop-cons}
+use lib.ListN.{length, take, drop, getD, length-append, length-drop, drop-of-length-le}
+use lib.Seq.{drop-cons, take-all}
 use Rattle.decide.specs.Branch.{lt-yes, lt-no, lt-both}
 use Rattle.paths.specs.Path.{avoids, avoided, firstFree, steps}
 
@@ -120,7 +120,23 @@ module _ (time : ℕ) where
       (λ many. omega (arith, stays evs many))
       (λ few. omega (arith, goes evs (omega arith), free-le-avoided evs))
 
-  -- the same over two parts, as the walks go over them
+  -- ---- one walk: every EV that is passed is avoided, and the count goes on from the first free one
+
+  pub avoided-past : (evs : List ℕ) → firstFree time evs + avoided time (drop (firstFree time evs) evs) ≡ avoided time evs
+  unfolding firstFree avoided avoids
+  avoided-past [] = refl
+  avoided-past (until ∷ evs) =
+      by-cases (decLt time until)
+      (λ h. rw (passes until evs h) (omega (arith, lt-yes {A = ℕ} time until 1 1 0 h refl, avoided-past evs)))
+      (λ h. rw (stops until evs (omega arith)) (zero-add _))
+
+  -- the same of the rest as it is lent on
+  pub avoided-lent : (evs : List ℕ) (k m : ℕ) → k ≡ firstFree time evs → m ≡ avoided time (take (length evs - k) (drop k evs)) → k + m ≡ avoided time evs
+  avoided-lent evs k m first rest =
+      let all : m ≡ avoided time (drop k evs) = rest ∙ ap (avoided time) (take-all (length evs - k) (drop k evs) (le-of-eq (length-drop k evs))) in
+      rw (all, first) (avoided-past evs)
+
+  -- the same over two parts, as the walk goes over them
   module _ (tail head : List ℕ) where
     pub free-tail : firstFree time tail < length tail → firstFree time tail ≡ firstFree time (tail ++ head)
     free-tail h = sym (free-before tail head h)
@@ -129,3 +145,7 @@ module _ (time : ℕ) where
     free-head h =
         let whole : firstFree time tail ≡ length tail = omega (arith, free-le-avoided tail, avoided-le tail) in
         omega (arith, free-after tail head whole)
+
+    -- a part that is passed whole counts whole
+    pub avoided-head : length tail ≤ firstFree time tail → firstFree time tail + avoided time head ≡ avoided time (tail ++ head)
+    avoided-head h = omega (arith, free-le-avoided tail, avoided-le tail, avoided-append tail head)

@@ -12,6 +12,12 @@ pub struct Choice {
     pub cursor: usize,
 }
 
+// What one round of the EVs from the cursor on tells: how many are passed before the first that is not avoided, and how many are avoided in all.
+struct Round {
+    passed: usize,
+    avoided: usize,
+}
+
 // Sets the time of an EV. An inner step: its caller proves that there is such an EV.
 pub fn avoid_until(evs: &mut [u64], ev: usize, until: u64)
     requires { ⌜ ev < length (now evs) ⌝ }
@@ -65,17 +71,23 @@ fn wrap(x: usize, n: usize) -> usize
     x - n
 }
 
-// The place of the first EV that is not avoided, over two parts: `tail` are the EVs from the cursor on, `head` those before it.
-fn first_free_of(tail: &[u64], head: &[u64], time: u64) -> usize
+// One round, over two parts: `tail` are the EVs from the cursor on, `head` those before it. Every EV that is passed is avoided, so the count goes on from the
+// first free one (request M-102): no EV is looked at for both.
+fn go_round(tail: &[u64], head: &[u64], time: u64) -> Round
     requires { ⌜ length (now tail) + length (now head) < 2 ^ 60 ⌝ }
-    ensures { λ r. ⌜ r ≡ firstFree time (now (tail .entry) ++ now (head .entry)) ⌝ }
+    ensures { λ r. ⌜ (r .passed ≡ firstFree time (now (tail .entry) ++ now (head .entry))) × (r .avoided ≡ avoided time (now (tail .entry) ++ now (head .entry))) ⌝ }
 {
     let k = first_free(tail, time);
     if k < tail.len() {
-        return k;
+        let avoided = k + count_avoided(&tail[k..], time) + count_avoided(head, time);
+        return Round { passed: k, avoided };
     }
     let j = first_free(head, time);
-    k + j
+    let avoided = k + j + count_avoided(&head[j..], time);
+    Round {
+        passed: k + j,
+        avoided,
+    }
 }
 
 // The EV that lies s steps from the cursor, and the cursor after it, of n EVs.
@@ -98,9 +110,9 @@ pub fn choose(evs: &[u64], cursor: usize, time: u64) -> Choice
     if evs[cursor] <= time {
         return land(cursor, 0, n);
     }
-    if n < 2 * count_avoided(evs, time) {
+    let round = go_round(&evs[cursor..], &evs[0..cursor], time);
+    if n < 2 * round.avoided {
         return land(cursor, 0, n);
     }
-    let s = first_free_of(&evs[cursor..], &evs[0..cursor], time);
-    land(cursor, s, n)
+    land(cursor, round.passed, n)
 }

@@ -1,8 +1,9 @@
--- `choose` is the next path: the cursor where its EV is free or more than half are avoided, else by the search from the cursor on.
+-- `choose` is the next path: the cursor where its EV is free or more than half are avoided, else as many steps on as the round passes.
 use mathlib.Core.Path.{_∙_}
 use native.Mathlib.Omega.{arith}
 use borrow.Author.Needs.{needs}
-use Rattle.paths.proofs.Circle.{steps-inside, cursor-free, over-half, half-or-less, free-parts, lands-on}
+use Rattle.paths.proofs.Walk.{avoided-le}
+use Rattle.paths.proofs.Circle.{steps-inside, cursor-free, over-half, half-or-less, free-parts, avoided-parts, lands-on}
 use Rattle.paths.proofs.choose.Statement.{statement}
 use Rattle.paths.proofs.choose.Tie as tie
 
@@ -23,46 +24,53 @@ returns c =
     let time = start .args .time in
     c .land .ensures ∙ lands-on cursor evs (start .pre) time 0 (cursor-free cursor evs (start .pre) time (omega arith))
 
-count-avoided-requires : tie.Need-count-avoided-requires
-count-avoided-requires c κs = search needs
+mul-go-round : tie.Need-mul-go-round
+mul-go-round c = search needs
+
+sub-go-round : tie.Need-sub-go-round
+sub-go-round c = search needs
+
+part-go-round-start : tie.Need-part-go-round-start
+part-go-round-start c = search needs
+
+part-go-round-end : tie.Need-part-go-round-end
+part-go-round-end c = search needs
+
+sub-go-round-2 : tie.Need-sub-go-round-2
+sub-go-round-2 c = search needs
+
+part-go-round-start-2 : tie.Need-part-go-round-start-2
+part-go-round-start-2 c = search needs
+
+part-go-round-end-2 : tie.Need-part-go-round-end-2
+part-go-round-end-2 c = search needs
+
+go-round-requires : tie.Need-go-round-requires
+go-round-requires c κs = search needs
 
 mul-if2 : tie.Need-mul-if2
-mul-if2 c = search needs
+mul-if2 c =
+    let start = c .before .before .before .before .before .before .before in
+    let cursor = start .args .cursor in
+    let evs = start .args .evs .now in
+    let time = start .args .time in
+    let round = c .before .go-round in
+    let bound = avoided-le time evs in
+    let counted = avoided-parts cursor evs (start .pre) time (round .result .avoided) (round .ensures .1) in
+    search needs
 
 land-requires-2 : tie.Need-land-requires-2
 land-requires-2 c κs = search needs
 
 returns-2 : tie.Need-returns-2
 returns-2 c =
-    let start = c .before .before .before .before .before .before in
+    let start = c .before .before .before .before .before .before .before .before .before in
     let cursor = start .args .cursor in
     let evs = start .args .evs .now in
     let time = start .args .time in
+    let round = c .before .before .before .go-round in
+    let counted = avoided-parts cursor evs (start .pre) time (round .result .avoided) (round .ensures .1) in
     c .land2 .ensures ∙ lands-on cursor evs (start .pre) time 0 (over-half cursor evs (start .pre) time (omega arith))
-
-mul-first-free-of : tie.Need-mul-first-free-of
-mul-first-free-of c = search needs
-
-sub-first-free-of : tie.Need-sub-first-free-of
-sub-first-free-of c = search needs
-
-part-first-free-of-start : tie.Need-part-first-free-of-start
-part-first-free-of-start c = search needs
-
-part-first-free-of-end : tie.Need-part-first-free-of-end
-part-first-free-of-end c = search needs
-
-sub-first-free-of-2 : tie.Need-sub-first-free-of-2
-sub-first-free-of-2 c = search needs
-
-part-first-free-of-start-2 : tie.Need-part-first-free-of-start-2
-part-first-free-of-start-2 c = search needs
-
-part-first-free-of-end-2 : tie.Need-part-first-free-of-end-2
-part-first-free-of-end-2 c = search needs
-
-first-free-of-requires : tie.Need-first-free-of-requires
-first-free-of-requires c κs = search needs
 
 land-requires-3 : tie.Need-land-requires-3
 land-requires-3 c κs =
@@ -70,11 +78,13 @@ land-requires-3 c κs =
     let cursor = start .args .cursor in
     let evs = start .args .evs .now in
     let time = start .args .time in
+    let round = c .before .before .go-round in
+    let counted = avoided-parts cursor evs (start .pre) time (round .result .avoided) (round .ensures .1) in
     omega (
       arith,
       steps-inside cursor evs (start .pre) time,
       half-or-less cursor evs (start .pre) time (omega arith),
-      free-parts cursor evs (start .pre) time (c .first-free-of .result) (c .first-free-of .ensures),
+      free-parts cursor evs (start .pre) time (round .result .passed) (round .ensures .0),
     )
 
 returns-3 : tie.Need-returns-3
@@ -83,10 +93,11 @@ returns-3 c =
     let cursor = start .args .cursor in
     let evs = start .args .evs .now in
     let time = start .args .time in
-    let s = c .before .first-free-of .result in
+    let round = c .before .before .before .go-round in
+    let counted = avoided-parts cursor evs (start .pre) time (round .result .avoided) (round .ensures .1) in
     c .land3 .ensures
-    ∙ lands-on cursor evs (start .pre) time s
-    (free-parts cursor evs (start .pre) time s (c .before .first-free-of .ensures) ∙ half-or-less cursor evs (start .pre) time (omega arith))
+    ∙ lands-on cursor evs (start .pre) time (round .result .passed)
+    (free-parts cursor evs (start .pre) time (round .result .passed) (round .ensures .0) ∙ half-or-less cursor evs (start .pre) time (omega arith))
 
 pub choose-spec : {M : Type 1} → statement M
 choose-spec =
@@ -96,17 +107,16 @@ choose-spec =
     shared-slice-read-if1
     land-requires
     returns
-    count-avoided-requires
+    mul-go-round
+    sub-go-round
+    part-go-round-start
+    part-go-round-end
+    sub-go-round-2
+    part-go-round-start-2
+    part-go-round-end-2
+    go-round-requires
     mul-if2
     land-requires-2
     returns-2
-    mul-first-free-of
-    sub-first-free-of
-    part-first-free-of-start
-    part-first-free-of-end
-    sub-first-free-of-2
-    part-first-free-of-start-2
-    part-first-free-of-end-2
-    first-free-of-requires
     land-requires-3
     returns-3)
