@@ -1,5 +1,5 @@
 /*
- * A card's first steps with nscc.h: the requirements' worked example by calls, then a packet that is trimmed, sent again and acknowledged.
+ * A card's first steps with nscc.h: the requirements' worked example by calls, then a packet that is trimmed, sent again and acknowledged twice.
  *
  *     gcc -std=c99 -Wall -Wextra -Werror -Iinclude examples/card.c target/staticlib/libexports.a
  *
@@ -33,6 +33,12 @@ static const uint64_t settings[NSCC_SETTINGS] = {4096, 614400, 96, 72, 4096, 102
 
 static const char *const phases[] = {"IDLE", "PENDING", "READY", "ACTIVE"};
 
+/* In the order of enum nscc_sample. */
+static const char *const samples[] = {"refused", "a sample", "a sample cut to 2^20", "packet gone", "ambiguous resend", "not positive"};
+
+/* How often each came: too few samples, and the window lives on old news. */
+static unsigned sampled[sizeof samples / sizeof samples[0]];
+
 /* In-flight is held with an offset, since it may be below zero. */
 static long long in_flight(const struct card *card)
 {
@@ -45,6 +51,15 @@ static void show(const char *call, uint32_t answer, const struct card *card)
     printf("%s %u %lld %llu %llu %llu %llu %s\n", call, (unsigned)answer, in_flight(card), (unsigned long long)state[NSCC_CWND],
            (unsigned long long)state[NSCC_FLYING], (unsigned long long)state[NSCC_MARKED], (unsigned long long)state[NSCC_BACKLOG_BYTES],
            phases[state[NSCC_PHASE]]);
+}
+
+/* The answer of an ACK or a NACK says above its number whether there was a sample, or why not. */
+static void show_sample(const char *call, uint64_t answer, const struct card *card)
+{
+    uint32_t sample = (uint32_t)(answer >> 32);
+    show(call, (uint32_t)answer, card);
+    printf("%s: %s\n", call, samples[sample]);
+    sampled[sample]++;
 }
 
 /* A send of a PSN that is not next. The refusal must leave the whole context as it was. */
@@ -82,19 +97,23 @@ int main(void)
     show("new-data", nscc_new_data(LENT(&card), 0, 8192), &card);
     show("send-0", nscc_send(LENT(&card), 10, 0, 4096, false), &card);
     refused_send(&card);
-    show("ack-0", nscc_ack(LENT(&card), 110, 0, 0, 0, 16, 4, 0, false, false), &card);
+    show_sample("ack-0", nscc_ack(LENT(&card), 110, 0, 0, 0, 16, 4, 0, false, false), &card);
 
     /* PSN 1 goes out on the next path, and is trimmed there: its EV is avoided for a while. */
     uint32_t ev = next_path(&card, 120);
     show("send-1", nscc_send(LENT(&card), 130, 1, 4096, false), &card);
-    show("nack-1", nscc_nack(LENT(&card), 230, 1, ev, 0, false, false), &card);
+    show_sample("nack-1", nscc_nack(LENT(&card), 230, 1, ev, 0, false, false), &card);
     printf("EV %u is avoided until %llu\n", (unsigned)ev, (unsigned long long)card.evs[ev]);
 
-    /* Sent again on another path. Its ACK has the retx flag, so it gives a sample. */
+    /* Sent again on another path. Its ACK has the retx flag, so it gives a sample; a copy of that ACK finds the packet gone and moves no average. */
     ev = next_path(&card, 235);
     show("resend-1", nscc_send(LENT(&card), 240, 1, 4096, true), &card);
-    show("ack-1", nscc_ack(LENT(&card), 340, 1, 0, 1, 32, 4, ev, false, true), &card);
+    show_sample("ack-1", nscc_ack(LENT(&card), 340, 1, 0, 1, 32, 4, ev, false, true), &card);
+    show_sample("copy", nscc_ack(LENT(&card), 341, 1, 0, 1, 32, 4, ev, false, true), &card);
     printf("base %llu, average %llu/1024 ticks\n", (unsigned long long)card.state[NSCC_BASE], (unsigned long long)card.state[NSCC_AVG]);
+
+    printf("samples %u, cut %u, gone %u, ambiguous %u, not positive %u\n", sampled[NSCC_SAMPLE_TAKEN], sampled[NSCC_SAMPLE_CUT], sampled[NSCC_SAMPLE_GONE],
+           sampled[NSCC_SAMPLE_AMBIGUOUS], sampled[NSCC_SAMPLE_NOT_POSITIVE]);
 
     /* Firmware that hands in insane numbers is told so. */
     card.state[NSCC_CWND] = 0;

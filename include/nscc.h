@@ -4,9 +4,9 @@
  * One context is a state of NSCC_WORDS words, a ring of four arrays and NSCC_EVS times, all of them the caller's memory. Nothing is allocated, nothing is kept
  * between calls, no function blocks; each may be called from any thread as long as no two calls share memory.
  *
- * Every function answers for every number that is handed in. The answer is 0, or the number of a refusal (nscc_refusal), and a refusal leaves every lent
- * word and byte as it was; what a const points to holds the same at the end as at the start, whatever is answered. That is proved. What no proof can see
- * is asked of the caller:
+ * Every function answers for every number that is handed in. The answer is 0, or the number of a refusal (nscc_refusal); an answer of 64 bits has it in the
+ * low 32, and what else there is to say above them. A refusal leaves every lent word and byte as it was; what a const points to holds the same at the end as
+ * at the start, whatever is answered. That is proved. What no proof can see is asked of the caller:
  *   - each pointer is followed by the length, in elements, of the memory that it points to, and that memory may be read (const) or read and written;
  *   - no two arrays of one call overlap;
  *   - a pointer is not null, also where its length is 0, and is aligned for its type.
@@ -44,6 +44,19 @@ enum nscc_refusal {
     NSCC_BAD_REASON = 22,  /* a NACK's reason over 2 */
     NSCC_BAD_EV = 23,      /* an EV over 255 */
     NSCC_BAD_TRIGGER = 24  /* an ACK that does not cover its trigger */
+};
+
+/*
+ * What an accepted ACK or NACK says of its packet's round trip: a sample, or the first of these that applies of why there is none. A gone packet is one that
+ * is neither flying nor marked before the call; a resend is ambiguous unless the packet was sent once and retx is clear, or twice and retx is set.
+ */
+enum nscc_sample {
+    NSCC_SAMPLE_UNTOLD = 0,      /* no accepted ACK or NACK */
+    NSCC_SAMPLE_TAKEN = 1,       /* a sample of at most 2^20 ticks */
+    NSCC_SAMPLE_CUT = 2,         /* a longer one, cut to 2^20 */
+    NSCC_SAMPLE_GONE = 3,        /* none: the packet is gone */
+    NSCC_SAMPLE_AMBIGUOUS = 4,   /* none: an ambiguous resend */
+    NSCC_SAMPLE_NOT_POSITIVE = 5 /* none: time - send time - service is under 1 */
 };
 
 /* The twelve settings, in this order, as nscc_set_up takes them. */
@@ -120,14 +133,21 @@ uint32_t nscc_send(uint64_t *state, size_t state_len, uint8_t *status, size_t st
                    uint64_t *sent, size_t sent_len, uint8_t *resent, size_t resent_len, const uint64_t *evs, size_t evs_len,
                    uint64_t time, uint32_t psn, uint32_t bytes, bool resend);
 
-/* An ACK: 2, 3, 21, 23, 24, 9, 11. cum covers every PSN up to itself, bit i of map covers cum + 1 + i; marked is the M flag. */
-uint32_t nscc_ack(uint64_t *state, size_t state_len, uint8_t *status, size_t status_len, uint32_t *size, size_t size_len,
+/*
+ * An ACK: the number (2, 3, 21, 23, 24, 9, 11) in the low 32 bits of the answer; above them what the trigger's sample is (nscc_sample), 0 where it is refused.
+ * cum covers every PSN up to itself, bit i of map covers cum + 1 + i; marked is the M flag.
+ */
+uint64_t nscc_ack(uint64_t *state, size_t state_len, uint8_t *status, size_t status_len, uint32_t *size, size_t size_len,
                   uint64_t *sent, size_t sent_len, uint8_t *resent, size_t resent_len, uint64_t *evs, size_t evs_len,
                   uint64_t time, uint32_t cum, uint64_t map, uint32_t trigger, uint32_t count, uint32_t service, uint32_t ev,
                   bool marked, bool retx);
 
-/* A NACK: 2, 3, 22, 23, 10, 11. reason is 0 trimmed, 1 trimmed at the last hop, 2 other. Sizes, send times and resend counts are only read. */
-uint32_t nscc_nack(uint64_t *state, size_t state_len, uint8_t *status, size_t status_len, const uint32_t *size, size_t size_len,
+/*
+ * A NACK: the number (2, 3, 22, 23, 10, 11) in the low 32 bits of the answer; above them what its packet's sample is (nscc_sample), 0 where it is refused;
+ * NSCC_SAMPLE_GONE is not among them, since the packet flies. reason is 0 trimmed, 1 trimmed at the last hop, 2 other. Sizes, send times and resend counts
+ * are only read.
+ */
+uint64_t nscc_nack(uint64_t *state, size_t state_len, uint8_t *status, size_t status_len, const uint32_t *size, size_t size_len,
                    const uint64_t *sent, size_t sent_len, const uint8_t *resent, size_t resent_len, uint64_t *evs, size_t evs_len,
                    uint64_t time, uint32_t psn, uint32_t ev, uint32_t reason, bool marked, bool retx);
 
@@ -153,8 +173,8 @@ enum nscc_place {
 /*
  * Replays a log's bytes from a place on, until the answers' room is full, the log ends or replay stops; call again, with room for at least one answer, until
  * NSCC_ANSWERED is 0. Answers 0, or 2 with nothing changed: a wrong length of place or state, NSCC_STOPPED over 1, more records done than NSCC_AT, or a state
- * and buffers that don't hold together. An answer is the record's number of refusal in its low 32 bits, and above them the EV of an accepted path choice; the
- * room behind the answers given is left as it was.
+ * and buffers that don't hold together. An answer is the record's number of refusal in its low 32 bits, and above them the EV of an accepted path choice, or
+ * what the sample of an accepted ACK or NACK is (nscc_sample), and 0 for every other record; the room behind the answers given is left as it was.
  * The first record sets the context up: the state's words are looked at only between an accepted settings record and a stop. A first record that is refused
  * with 1 leaves the words of a state of zeros.
  */

@@ -111,7 +111,7 @@ pub(crate) fn ack(w: World, time: u64, a: Ack) -> World {
         a,
     );
     let state = answer.state;
-    let outcome = answer.outcome;
+    let feedback = answer.feedback;
     World {
         state,
         status,
@@ -119,7 +119,7 @@ pub(crate) fn ack(w: World, time: u64, a: Ack) -> World {
         sent,
         resent,
         evs,
-        number: sender::number_of(outcome),
+        number: sender::feedback_number(feedback),
     }
 }
 
@@ -132,7 +132,7 @@ pub(crate) fn nack(w: World, time: u64, a: Nack) -> World {
     let mut evs = w.evs;
     let answer = before.nack(&mut status, &size, &sent, &resent, &mut evs, time, a);
     let state = answer.state;
-    let outcome = answer.outcome;
+    let feedback = answer.feedback;
     World {
         state,
         status,
@@ -140,7 +140,7 @@ pub(crate) fn nack(w: World, time: u64, a: Nack) -> World {
         sent,
         resent,
         evs,
-        number: sender::number_of(outcome),
+        number: sender::feedback_number(feedback),
     }
 }
 

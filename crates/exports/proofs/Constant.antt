@@ -23,7 +23,7 @@ use Rattle.sender.specs.declared.Loss.{Loss}
 use Rattle.sender.proofs.Sounds.{sound-facts, sound-coheres}
 use Rattle.sender.proofs.Stepping.{Markable, nack-facts, loss-facts, mark-flies}
 use Rattle.words.specs.Layout.{stateFrom, wordsOk}
-use Rattle.exports.specs.Calls.{Called, onWords, onPathWords}
+use Rattle.exports.specs.Calls.{Called, pathBeside, nackBeside, onWords, onBesideWords}
 
 -- ---- an event keeps what its step keeps
 
@@ -120,16 +120,16 @@ module _ (ws : List ℕ) (r : Ring) (t : List ℕ) (time : ℕ) where
   unfolding onWords
   send-const a = so-both (λ (x : Called). x .times ≡ t) (wordsOk ws) _ _ (λ _. send-times time given a) (λ _. refl)
 
-  pub nack-const : (a : Nack) → a .psn < psns → Fields (onWords ws r t (onNack time a) .slots) r
-  unfolding onWords
+  pub nack-const : (a : Nack) → a .psn < psns → Fields (onBesideWords ws r t (nackBeside time a) .slots) r
+  unfolding onBesideWords
   nack-const a fits = so-both (λ (x : Called). Fields (x .slots) r) (wordsOk ws) _ _ (λ _. nack-fields time given a fits) (λ _. fields-here r)
 
   pub loss-const : (a : Loss) → a .psn < psns → Fields (onWords ws r t (onLoss time a) .slots) r
   unfolding onWords
   loss-const a fits = so-both (λ (x : Called). Fields (x .slots) r) (wordsOk ws) _ _ (λ _. loss-fields time given a fits) (λ _. fields-here r)
 
-  pub path-const : let x = onPathWords ws r t (onPath time) in (x .slots ≡ r) × (x .times ≡ t)
-  unfolding onPathWords
+  pub path-const : let x = onBesideWords ws r t (pathBeside time) in (x .slots ≡ r) × (x .times ≡ t)
+  unfolding onBesideWords
   path-const =
       so-both (λ (x : Called). (x .slots ≡ r) × (x .times ≡ t)) (wordsOk ws) _ _
       (λ _. (path-slots time given, path-times time given))

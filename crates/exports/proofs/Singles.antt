@@ -1,34 +1,37 @@
--- A call is a batch of one event: its word is the event's number, with a path choice's EV above 32 bits. Assumes nothing.
+-- A call is a batch of one event: its word is the event's number, with a path choice's EV, or the kind of an ACK's or a NACK's sample, above 32 bits.
+-- Assumes nothing.
 use mathlib.Core.Path.{_≡_, refl, sym, ap, _∙_}
 use mathlib.Core.Bool.{Bool, true, false}
 use mathlib.Core.List.{List}
+use mathlib.Core.Option.{Option, none, some}
 use Prim.Native.Nat.{ℕ, _+_, _*_, _^_, _%_, _/_, _≤_}
 use native.Mathlib.Omega.{arith}
 use Rattle.decide.specs.Branch.{ifSo, ifEq, so-yes, so-no, so-both, eq-no, eq-both}
 use Rattle.decide.specs.Rows.{Row, firstOf}
 use Rattle.decide.specs.Test.{inside}
+use Rattle.window.specs.declared.Sampling.{Sampling}
 use Rattle.ledger.specs.Ring.{Ring}
 use Rattle.sender.specs.Numbers.{inTable}
 use Rattle.sender.specs.World.{World, world, Answered, Routing}
 use Rattle.sender.specs.Sound.{sound}
 use Rattle.sender.specs.Rows.{withSound, newDataRows, sendAllRows, ackAllRows, nackAllRows, lossAllRows, pathRows}
-use Rattle.sender.specs.Steps.{pathStep}
-use Rattle.sender.specs.Events.{decided, onNewData, onSend, onAck, onNack, onLoss, onPath}
+use Rattle.sender.specs.Steps.{ackSampling, ackStep, nackSampling, nackStep, pathStep}
+use Rattle.sender.specs.Events.{decided, onNewData, onSend, onAck, says, onNack, onLoss, onPath}
 use Rattle.sender.specs.declared.Send.{Send}
 use Rattle.sender.specs.declared.Ack.{Ack}
 use Rattle.sender.specs.declared.Nack.{Nack}
 use Rattle.sender.specs.declared.Loss.{Loss}
 use Rattle.sender.proofs.Rowing.{numbered, first-most, send-all-numbered, answer, taken, untaken, entry-unsound}
-use Rattle.replay.specs.Answers.{stated, routedBy, shownPath, onLater}
-use Rattle.replay.specs.Batches.{Saying, worded, onceOf}
+use Rattle.replay.specs.Answers.{stated, shownSays, heardBy, routedBy, shownPath, onLater}
+use Rattle.replay.specs.Batches.{aboveOf, Saying, worded, onceOf}
 use Rattle.replay.specs.declared.Shown.{Shown}
 use Rattle.replay.specs.declared.Shown.the-variants.{State, Path}
 use Rattle.replay.specs.declared.records.Event.{Event}
 use Rattle.replay.specs.declared.records.Event.the-variants as event
 use Rattle.words.specs.Layout.{stateFrom, wordsOk}
-use Rattle.exports.specs.Calls.{Called, called, wordsAfter, packed, packedWord, pathWord, packedPath, onWords, onEventWords, onPathWords}
+use Rattle.exports.specs.Calls.{Called, called, wordsAfter, packed, packedWord, Beside, pathBeside, kindIn, ackBeside, nackBeside, besideWord, onWords, onEventWords, onBesideWords}
 
--- a number stands in the low 32 bits, an EV above them
+-- a number stands in the low 32 bits, another above them
 pub word-parts : (ev n : ℕ) → n ≤ 24 → ((2 ^ 32 * ev + n) % 2 ^ 32 ≡ n) × ((2 ^ 32 * ev + n) / 2 ^ 32 ≡ ev)
 word-parts ev n h = (omega arith, omega arith)
 
@@ -87,17 +90,24 @@ module _ (time : ℕ) (w : World) where
   unfolding onSend onLater
   send-single a = single-by (event.Send time a) w (sendAllRows time a (w .state) (w .slots)) _ (send-all-numbered time a (w .state) (w .slots)) refl
 
-  pub ack-single : (a : Ack) → Single (event.Ack time a) w (onAck time a w)
-  unfolding onAck onLater numbered inTable inside
-  ack-single a = single-by (event.Ack time a) w (ackAllRows time a (w .state)) _ refl refl
-
-  pub nack-single : (a : Nack) → Single (event.Nack time a) w (onNack time a w)
-  unfolding onNack onLater numbered inTable inside
-  nack-single a = single-by (event.Nack time a) w (nackAllRows time a (w .state) (w .slots)) _ refl refl
-
   pub loss-single : (a : Loss) → Single (event.Loss time a) w (onLoss time a w)
   unfolding onLoss onLater numbered inTable inside
   loss-single a = single-by (event.Loss time a) w (lossAllRows time a (w .state) (w .slots)) _ refl refl
+
+-- ---- an event whose answer has a second number
+
+-- the event's answer is what one event is answered, its word of both numbers, and the first is one of the table's
+pub record Double (e : Event) (w : World) (x : Beside) : Type 0 where
+  pub is : onceOf e w ≡ said (besideWord x) (x .after)
+  pub most : x .number ≤ 24
+
+-- from its word where state and buffers hold together, and from 2 alone where they don't
+double-said : (e : Event) (w : World) (x : Beside) → worded (onLater e w) ≡ said (besideWord x) (x .after)
+    → (sound w ≡ false → record { number = 2; above = 0; after = w } ≡ x) → (s : Bool) → sound w ≡ s → onceOf e w ≡ said (besideWord x) (x .after)
+unfolding onceOf
+double-said e w x f g true h = sym (so-yes (sound w) (worded (onLater e w)) (worded (onLater e w)) (said 2 w) h refl) ∙ f
+double-said e w x f g false h =
+    sym (so-no (sound w) (said 2 w) (worded (onLater e w)) (said 2 w) h refl) ∙ ap (λ (y : Beside). said (besideWord y) (y .after)) (g h)
 
 -- ---- a path choice
 
@@ -116,11 +126,11 @@ unfolding shownPath
 shown-no n ev h = sym (eq-no n 0 State (Path ev) State h refl)
 
 -- its word has the EV where it was accepted; a refused one has the EV 0
-path-worded : (time : ℕ) (w : World) → worded (routedBy (onPath time w)) ≡ said (pathWord (onPath time w)) (onPath time w .after)
+path-worded : (time : ℕ) (w : World) → worded (routedBy (onPath time w)) ≡ said (besideWord (pathBeside time w)) (onPath time w .after)
 unfolding onPath
 path-worded time w =
     let n = firstOf (withSound w (pathRows time (w .state))) in
-    eq-both (λ (a : Routing). worded (routedBy a) ≡ said (pathWord a) (a .after)) n 0 (taken time w) (untaken n w)
+    eq-both (λ (a : Routing). worded (routedBy a) ≡ said (2 ^ 32 * a .ev + a .number) (a .after)) n 0 (taken time w) (untaken n w)
     (λ _. ap (λ (s : Shown). worded (record { number = 0; shown = s; after = pathStep time w })) (shown-yes (taken time w .ev)))
     (λ no. ap (λ (s : Shown). worded (record { number = n; shown = s; after = w })) (shown-no n 0 no))
 
@@ -128,13 +138,53 @@ path-unsound : (time : ℕ) (w : World) → sound w ≡ false → untaken 2 w �
 unfolding onPath
 path-unsound time w h = entry-unsound w (pathRows time (w .state)) (taken time w) (λ n. untaken n w) (untaken 2 w) h refl
 
-path-single : (time : ℕ) (w : World) (s : Bool) → sound w ≡ s → onceOf (event.Path time) w ≡ said (pathWord (onPath time w)) (onPath time w .after)
-unfolding onceOf onLater
-path-single time w true h =
-    sym (so-yes (sound w) (worded (routedBy (onPath time w))) (worded (routedBy (onPath time w))) (said 2 w) h refl) ∙ path-worded time w
-path-single time w false h =
-    sym (so-no (sound w) (said 2 w) (worded (routedBy (onPath time w))) (said 2 w) h refl)
-    ∙ ap (λ (a : Routing). said (pathWord a) (a .after)) (path-unsound time w h)
+pub path-double : (time : ℕ) (w : World) → Double (event.Path time) w (pathBeside time w)
+unfolding onLater
+path-double time w =
+    record {
+      is =
+          double-said (event.Path time) w (pathBeside time w) (path-worded time w)
+          (λ h. ap (λ (a : Routing). record { number = a .number; above = a .ev; after = a .after }) (path-unsound time w h)) (sound w) refl;
+      most = path-most time w;
+    }
+
+-- ---- an ACK or a NACK
+
+-- what its line shows tells the kind of its sample
+kind-shown : (says : Option Sampling) → aboveOf (shownSays says) ≡ kindIn says
+unfolding shownSays kindIn
+kind-shown none = refl
+kind-shown (some sampling) = refl
+
+module _ (e : Event) (w : World) (xs : List Row) (after : World) (sampling : Sampling) where
+  abbrev sensed : Answered
+  sensed = decided (firstOf (withSound w xs)) w after
+
+  abbrev beside : Answered → Beside
+  beside a = record { number = a .number; above = kindIn (says (a .number) sampling); after = a .after }
+
+  heard-unsound : sound w ≡ false → record { number = 2; above = 0; after = w } ≡ beside sensed
+  unfolding says kindIn ifEq
+  heard-unsound h = ap beside (judged-unsound e w xs after h)
+
+  heard-double : numbered xs ≡ true → onLater e w ≡ heardBy (says (sensed .number) sampling) sensed → Double e w (beside sensed)
+  heard-double k q =
+      record {
+        is =
+            double-said e w (beside sensed)
+            (ap worded q ∙ ap (λ (n : ℕ). said (2 ^ 32 * n + sensed .number) (sensed .after)) (kind-shown (says (sensed .number) sampling)))
+            heard-unsound (sound w) refl;
+        most = judged-most e w xs after k;
+      }
+
+module _ (time : ℕ) (w : World) where
+  pub ack-double : (a : Ack) → Double (event.Ack time a) w (ackBeside time a w)
+  unfolding onAck onLater numbered inTable inside
+  ack-double a = heard-double (event.Ack time a) w (ackAllRows time a (w .state)) (ackStep time a w) (ackSampling time a w) refl refl
+
+  pub nack-double : (a : Nack) → Double (event.Nack time a) w (nackBeside time a w)
+  unfolding onNack onLater numbered inTable inside
+  nack-double a = heard-double (event.Nack time a) w (nackAllRows time a (w .state) (w .slots)) (nackStep time a w) (nackSampling time a w) refl refl
 
 -- ---- over lent words
 
@@ -154,11 +204,11 @@ module _ (ws : List ℕ) (r : Ring) (t : List ℕ) where
       rw (q ∙ words-on e on single)
       (so-both (λ (x : Called). x .number ≤ 24) (wordsOk ws) _ _ (λ _. single (world (stateFrom ws) r t) .most) (λ _. omega arith))
 
-  pub path-words-on : (time : ℕ) → onEventWords (event.Path time) ws r t ≡ onPathWords ws r t (onPath time)
-  unfolding onEventWords onPathWords
-  path-words-on time =
+  pub beside-words-on : (e : Event) (on : World → Beside) → ((w : World) → Double e w (on w)) → onEventWords e ws r t ≡ onBesideWords ws r t on
+  unfolding onEventWords onBesideWords
+  beside-words-on e on double =
       let w = world (stateFrom ws) r t in
-      let a = onPath time w in
+      let a = on w in
       ap (λ (c : Called). ifSo (wordsOk ws) c (called 2 ws r t))
-      (ap (packedWord ws) (path-single time w (sound w) refl)
-      ∙ ap (λ (n : ℕ). called (pathWord a) (wordsAfter n ws (a .after .state)) (a .after .slots) (a .after .times)) (word-parts (a .ev) (a .number) (path-most time w) .0))
+      (ap (packedWord ws) (double w .is)
+      ∙ ap (λ (n : ℕ). called (besideWord a) (wordsAfter n ws (a .after .state)) (a .after .slots) (a .after .times)) (word-parts (a .above) (a .number) (double w .most) .0))

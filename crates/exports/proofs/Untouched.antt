@@ -1,6 +1,6 @@
 -- A REFUSED CALL LEAVES EVERYTHING THAT IT WAS LENT AS IT WAS: the state's words, the ring, the EV times; for any event that does so to its state
 -- (`refused-words`), so for each of the sender's, for a path choice and for setting up; for a replay its place and its answers too (`replay-untouched`).
--- A replay refuses words that are no state's where it looks at them (`replay-no-state`). And a path choice's word tells both its number and its EV (`path-word`).
+-- A replay refuses words that are no state's where it looks at them (`replay-no-state`). And a word of two numbers tells both (`path-word`, `ack-word`, `nack-word`).
 -- Assumes nothing.
 use mathlib.Core.Path.{_≡_, refl, sym, ap, _∙_}
 use mathlib.Core.Bool.{Bool, true, false, _&&_}
@@ -10,29 +10,26 @@ use native.Mathlib.Omega.{arith}
 use lib.Dec.{leb}
 use borrow.Author.Tests.{ne-eqb}
 use Rattle.decide.specs.Branch.{ifEq, so-no, eq-no, eq-both, so-both}
-use Rattle.decide.specs.Rows.{firstOf}
 use Rattle.decide.specs.Test.{inside}
 use Rattle.window.specs.Range.{inRange}
 use Rattle.ledger.specs.Ring.{Ring}
-use Rattle.sender.specs.World.{World, world, Answered, Routing}
+use Rattle.sender.specs.World.{World, world, Answered}
 use Rattle.sender.specs.Sound.{sound}
-use Rattle.sender.specs.Rows.{withSound, pathRows}
-use Rattle.sender.specs.Events.{onNewData, onSend, onAck, onNack, onLoss, onPath}
+use Rattle.sender.specs.Events.{onNewData, onSend, onLoss}
 use Rattle.sender.specs.Start.{noSettings, freshState, onSetUp}
 use Rattle.sender.specs.declared.Controller.{Controller}
 use Rattle.sender.specs.declared.Send.{Send}
 use Rattle.sender.specs.declared.Ack.{Ack}
 use Rattle.sender.specs.declared.Nack.{Nack}
 use Rattle.sender.specs.declared.Loss.{Loss}
-use Rattle.sender.proofs.Rowing.{numbered, first-most}
 use Rattle.sender.proofs.Refusals.{new-data-same, send-same, ack-same, nack-same, loss-same, path-same, set-up-same}
 use Rattle.replay.specs.Answers.{soundAfter}
 use Rattle.replay.specs.Places.{logged, holds}
 use Rattle.replay.specs.Batches.{Batching, filled, batchOf}
 use Rattle.words.specs.Layout.{word, flag, settingsFrom, stateFrom, wordsOk, unpacked}
 use Rattle.words.specs.declared.Unpacked.{Unpacked}
-use Rattle.exports.specs.Calls.{Called, called, wordsAfter, pathWord, onWords, onPathWords, onSetUpWords}
-use Rattle.exports.proofs.Singles.{word-parts, path-most}
+use Rattle.exports.specs.Calls.{Called, called, wordsAfter, Beside, pathBeside, ackBeside, nackBeside, besideWord, onWords, onBesideWords, onSetUpWords}
+use Rattle.exports.proofs.Singles.{word-parts, path-double, ack-double, nack-double}
 use Rattle.exports.specs.Batch.{placeFrom, lentOk, Replayed, replayCalled, placeThen, wordsThen, handed, onReplayWords}
 
 pub record Untouched (x : Called) (ws : List ℕ) (r : Ring) (t : List ℕ) : Type 0 where
@@ -40,12 +37,21 @@ pub record Untouched (x : Called) (ws : List ℕ) (r : Ring) (t : List ℕ) : Ty
   pub slots-same : x .slots ≡ r
   pub times-same : x .times ≡ t
 
--- ---- a path choice's word
+-- ---- a word of two numbers
 
-pub path-word :
-    (time : ℕ) (w : World) →
-    (pathWord (onPath time w) % 2 ^ 32 ≡ onPath time w .number) × (pathWord (onPath time w) / 2 ^ 32 ≡ onPath time w .ev)
-path-word time w = word-parts (onPath time w .ev) (onPath time w .number) (path-most time w)
+-- the first stands in the low 32 bits, the second above them
+abbrev pub Parted : Beside → Type 0
+Parted a = (besideWord a % 2 ^ 32 ≡ a .number) × (besideWord a / 2 ^ 32 ≡ a .above)
+
+module _ (time : ℕ) (w : World) where
+  pub path-word : Parted (pathBeside time w)
+  path-word = word-parts _ _ (path-double time w .most)
+
+  pub ack-word : (a : Ack) → Parted (ackBeside time a w)
+  ack-word a = word-parts _ _ (ack-double time w a .most)
+
+  pub nack-word : (a : Nack) → Parted (nackBeside time a w)
+  nack-word a = word-parts _ _ (nack-double time w a .most)
 
 -- ---- refused calls
 
@@ -78,6 +84,23 @@ module _ (ws : List ℕ) (r : Ring) (t : List ℕ) where
       (λ _ h. refused-after (event w .number) (event w .number) (event w .after) (w .state) h (same w h))
       (λ _ _. refused-here 2)
 
+  -- the number of a call whose answer has a second one stands in the low 32 bits of its word
+  abbrev pub SparedBeside : Called → Type 0
+  SparedBeside x = (x .number % 2 ^ 32 ≡ 0 → ⊥) → Untouched x ws r t
+
+  pub refused-beside :
+      (event : World → Beside) → ((w : World) → Parted (event w)) → ((w : World) → (event w .number ≡ 0 → ⊥) → event w .after ≡ w) →
+      SparedBeside (onBesideWords ws r t event)
+  unfolding onBesideWords
+  refused-beside event parted same =
+      let w = world (stateFrom ws) r t in
+      let a = event w in
+      so-both SparedBeside (wordsOk ws) _ _
+      (λ _ h.
+      let refused : a .number ≡ 0 → ⊥ = λ z. h (parted w .0 ∙ z) in
+      refused-after (a .number) (besideWord a) (a .after) (w .state) refused (same w refused))
+      (λ _ _. refused-here 2)
+
   module _ (time : ℕ) where
     pub new-data-untouched : (bytes : ℕ) → Spared (onWords ws r t (onNewData time bytes))
     new-data-untouched bytes = refused-words (onNewData time bytes) (λ w. new-data-same time w bytes)
@@ -85,27 +108,17 @@ module _ (ws : List ℕ) (r : Ring) (t : List ℕ) where
     pub send-untouched : (a : Send) → Spared (onWords ws r t (onSend time a))
     send-untouched a = refused-words (onSend time a) (λ w. send-same time w a)
 
-    pub ack-untouched : (a : Ack) → Spared (onWords ws r t (onAck time a))
-    ack-untouched a = refused-words (onAck time a) (λ w. ack-same time w a)
-
-    pub nack-untouched : (a : Nack) → Spared (onWords ws r t (onNack time a))
-    nack-untouched a = refused-words (onNack time a) (λ w. nack-same time w a)
-
     pub loss-untouched : (a : Loss) → Spared (onWords ws r t (onLoss time a))
     loss-untouched a = refused-words (onLoss time a) (λ w. loss-same time w a)
 
-    -- a path choice's number stands in the low 32 bits of its word
-    pub path-untouched :
-        (onPathWords ws r t (onPath time) .number % 2 ^ 32 ≡ 0 → ⊥) → Untouched (onPathWords ws r t (onPath time)) ws r t
-    unfolding onPathWords
-    path-untouched =
-        let w = world (stateFrom ws) r t in
-        let a = onPath time w in
-        so-both (λ (x : Called). (x .number % 2 ^ 32 ≡ 0 → ⊥) → Untouched x ws r t) (wordsOk ws) _ _
-        (λ _ h.
-        let refused : a .number ≡ 0 → ⊥ = λ z. h (path-word time w .0 ∙ z) in
-        refused-after (a .number) (pathWord a) (a .after) (w .state) refused (path-same time w refused .0))
-        (λ _ _. refused-here 2)
+    pub ack-untouched : (a : Ack) → SparedBeside (onBesideWords ws r t (ackBeside time a))
+    ack-untouched a = refused-beside (ackBeside time a) (λ w. ack-word time w a) (λ w. ack-same time w a)
+
+    pub nack-untouched : (a : Nack) → SparedBeside (onBesideWords ws r t (nackBeside time a))
+    nack-untouched a = refused-beside (nackBeside time a) (λ w. nack-word time w a) (λ w. nack-same time w a)
+
+    pub path-untouched : SparedBeside (onBesideWords ws r t (pathBeside time))
+    path-untouched = refused-beside (pathBeside time) (path-word time) (λ w h. path-same time w h .0)
 
   pub set-up-untouched : (ns : List ℕ) (psn : ℕ) (off : Bool) → Spared (onSetUpWords ns psn off ws r t)
   unfolding onSetUpWords

@@ -2,20 +2,23 @@
 -- Assumes nothing.
 use mathlib.Core.Bool.{Bool}
 use mathlib.Core.List.{List}
+use mathlib.Core.Option.{Option, none, some}
 use Prim.Native.Nat.{ℕ, _+_, _*_, _^_, _%_}
 use lib.Dec.{eqb}
 use lib.ListN.{length}
 use Rattle.decide.specs.Branch.{ifSo, ifEq}
 use Rattle.window.specs.Range.{inRange}
+use Rattle.window.specs.declared.Sampling.{Sampling}
 use Rattle.ledger.specs.Ring.{Ring}
-use Rattle.sender.specs.World.{World, world, Answered, Routing}
+use Rattle.sender.specs.World.{World, world, Answered}
 use Rattle.sender.specs.Start.{onSetUp}
+use Rattle.sender.specs.Events.{onAck, ackSays, onNack, nackSays, onPath}
 use Rattle.sender.specs.declared.Controller.{Controller}
 use Rattle.sender.specs.declared.Send.{Send}
 use Rattle.sender.specs.declared.Ack.{Ack}
 use Rattle.sender.specs.declared.Nack.{Nack}
 use Rattle.sender.specs.declared.Loss.{Loss}
-use Rattle.replay.specs.Batches.{Saying, onceOf}
+use Rattle.replay.specs.Batches.{kindOf, Saying, onceOf}
 use Rattle.replay.specs.declared.records.Event.{Event}
 use Rattle.words.specs.Layout.{wordCount, settingsCount, stateWords, settingsFrom, stateFrom, wordsOk}
 
@@ -55,7 +58,7 @@ packed ws a =
 unfoldable pub onWords : List ℕ → Ring → List ℕ → (World → Answered) → Called
 onWords ws r t event = ifSo (wordsOk ws) (packed ws (event (world (stateFrom ws) r t))) (called 2 ws r t)
 
--- any event's answer as a word: the number, and the EV above its 32 bits
+-- any event's answer as a word: the number, and the EV or the kind of a sample above its 32 bits
 abbrev pub packedWord : List ℕ → Saying → Called
 packedWord ws x =
     called (x .word) (wordsAfter (x .word % 2 ^ 32) ws (x .after .state)) (x .after .slots) (x .after .times)
@@ -63,15 +66,37 @@ packedWord ws x =
 unfoldable pub onEventWords : Event → List ℕ → Ring → List ℕ → Called
 onEventWords e ws r t = ifSo (wordsOk ws) (packedWord ws (onceOf e (world (stateFrom ws) r t))) (called 2 ws r t)
 
--- a path choice's answer: the number, and the EV above its 32 bits
-abbrev pub pathWord : Routing → ℕ
-pathWord a = 2 ^ 32 * a .ev + a .number
+-- ---- answers that have a second number
 
-abbrev pub packedPath : List ℕ → Routing → Called
-packedPath ws a = called (pathWord a) (wordsAfter (a .number) ws (a .after .state)) (a .after .slots) (a .after .times)
+-- the number, what stands above its 32 bits, and the world afterwards
+pub record Beside : Type 0 where
+  pub number : ℕ
+  pub above : ℕ
+  pub after : World
 
-unfoldable pub onPathWords : List ℕ → Ring → List ℕ → (World → Routing) → Called
-onPathWords ws r t event = ifSo (wordsOk ws) (packedPath ws (event (world (stateFrom ws) r t))) (called 2 ws r t)
+-- a path choice: the EV, 0 where it is refused
+abbrev pub pathBeside : ℕ → World → Beside
+pathBeside time w = let a = onPath time w in record { number = a .number; above = a .ev; after = a .after }
+
+-- an ACK and a NACK: the kind of the sample, by request M-103; 0 where it is refused
+unfoldable pub kindIn : Option Sampling → ℕ
+kindIn none = 0
+kindIn (some sampling) = kindOf sampling
+
+abbrev pub ackBeside : ℕ → Ack → World → Beside
+ackBeside time x w = let a = onAck time x w in record { number = a .number; above = kindIn (ackSays time x w); after = a .after }
+
+abbrev pub nackBeside : ℕ → Nack → World → Beside
+nackBeside time x w = let a = onNack time x w in record { number = a .number; above = kindIn (nackSays time x w); after = a .after }
+
+abbrev pub besideWord : Beside → ℕ
+besideWord a = 2 ^ 32 * a .above + a .number
+
+abbrev pub packedBeside : List ℕ → Beside → Called
+packedBeside ws a = called (besideWord a) (wordsAfter (a .number) ws (a .after .state)) (a .after .slots) (a .after .times)
+
+unfoldable pub onBesideWords : List ℕ → Ring → List ℕ → (World → Beside) → Called
+onBesideWords ws r t event = ifSo (wordsOk ws) (packedBeside ws (event (world (stateFrom ws) r t))) (called 2 ws r t)
 
 -- setting up: 1, then 2 on lengths. Settings that are not twelve numbers can't be read: 2
 unfoldable pub onSetUpWords : List ℕ → ℕ → Bool → List ℕ → Ring → List ℕ → Called

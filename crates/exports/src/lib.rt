@@ -14,9 +14,9 @@ use words::WORDS;
 ghost use mathlib.Core.Path.{_≡_};
 ghost use lib.ListN.{length};
 ghost use Rattle.ledger.specs.Ring.{ring};
-ghost use Rattle.sender.specs.Events.{onNewData, onSend, onAck, onNack, onLoss, onPath};
+ghost use Rattle.sender.specs.Events.{onNewData, onSend, onLoss};
 ghost use Rattle.words.specs.Layout.{wordCount};
-ghost use Rattle.exports.specs.Calls.{called, wordsAfter, onEventWords, onWords, onPathWords, onSetUpWords, sendBy, ackBy, nackBy, lossBy};
+ghost use Rattle.exports.specs.Calls.{called, wordsAfter, onEventWords, onWords, ackBeside, nackBeside, pathBeside, onBesideWords, onSetUpWords, sendBy, ackBy, nackBy, lossBy};
 
 // "A setting is outside its range."
 const SETTING: u32 = 1;
@@ -24,8 +24,8 @@ const SETTING: u32 = 1;
 // "State or buffers don't hold together": also words that are no state's.
 const UNSOUND: u32 = 2;
 
-// Above these 32 bits of an answer stands the EV.
-const EV_PLACE: u64 = 1 << 32;
+// Above these 32 bits of an answer stands the EV, or the kind of a sample.
+const ABOVE: u64 = 1 << 32;
 
 // Stores the state's words where the event was accepted.
 fn keep(state: &mut [u64], number: u64, after: Controller)
@@ -37,7 +37,7 @@ fn keep(state: &mut [u64], number: u64, after: Controller)
     }
 }
 
-// An event on the state that the words are: the number, and above its 32 bits the EV.
+// An event on the state that the words are: the number, and above its 32 bits the EV or the kind of a sample.
 fn take<'a, 'b, 'c, 'd, 'e, 'f>(
     event: Event,
     state: &'a mut [u64],
@@ -57,7 +57,7 @@ fn take<'a, 'b, 'c, 'd, 'e, 'f>(
     let said = replay::once(event, before, status, size, sent, resent, evs);
     let word = said.word;
     let after = said.state;
-    keep(state, word % EV_PLACE, after);
+    keep(state, word % ABOVE, after);
     word
 }
 
@@ -143,7 +143,7 @@ pub extern "C" fn nscc_send(
     take(Event::Send(time, a), state, status, size, sent, resent, evs) as u32
 }
 
-// An ACK.
+// An ACK: the number, and above its 32 bits the kind of its sample.
 #[no_mangle]
 pub extern "C" fn nscc_ack(
     state: &mut [u64],
@@ -161,8 +161,8 @@ pub extern "C" fn nscc_ack(
     ev: u32,
     marked: bool,
     retx: bool,
-) -> u32
-    ensures { λ r. ⌜ called r (now (state .exit)) (ring (now (status .exit)) (now (size .exit)) (now (sent .exit)) (now (resent .exit))) (now (evs .exit)) ≡ onWords (now (state .entry)) (ring (now (status .entry)) (now (size .entry)) (now (sent .entry)) (now (resent .entry))) (now (evs .entry)) (onAck time (ackBy cum map trigger count service ev marked retx)) ⌝ }
+) -> u64
+    ensures { λ r. ⌜ called r (now (state .exit)) (ring (now (status .exit)) (now (size .exit)) (now (sent .exit)) (now (resent .exit))) (now (evs .exit)) ≡ onBesideWords (now (state .entry)) (ring (now (status .entry)) (now (size .entry)) (now (sent .entry)) (now (resent .entry))) (now (evs .entry)) (ackBeside time (ackBy cum map trigger count service ev marked retx)) ⌝ }
 {
     let a = Ack {
         cum,
@@ -174,10 +174,10 @@ pub extern "C" fn nscc_ack(
         marked,
         retx,
     };
-    take(Event::Ack(time, a), state, status, size, sent, resent, evs) as u32
+    take(Event::Ack(time, a), state, status, size, sent, resent, evs)
 }
 
-// A NACK.
+// A NACK: the same.
 #[no_mangle]
 pub extern "C" fn nscc_nack(
     state: &mut [u64],
@@ -192,8 +192,8 @@ pub extern "C" fn nscc_nack(
     reason: u32,
     marked: bool,
     retx: bool,
-) -> u32
-    ensures { λ r. ⌜ called r (now (state .exit)) (ring (now (status .exit)) (now (size .exit)) (now (sent .exit)) (now (resent .exit))) (now (evs .exit)) ≡ onWords (now (state .entry)) (ring (now (status .entry)) (now (size .entry)) (now (sent .entry)) (now (resent .entry))) (now (evs .entry)) (onNack time (nackBy psn ev reason marked retx)) ⌝ }
+) -> u64
+    ensures { λ r. ⌜ called r (now (state .exit)) (ring (now (status .exit)) (now (size .exit)) (now (sent .exit)) (now (resent .exit))) (now (evs .exit)) ≡ onBesideWords (now (state .entry)) (ring (now (status .entry)) (now (size .entry)) (now (sent .entry)) (now (resent .entry))) (now (evs .entry)) (nackBeside time (nackBy psn ev reason marked retx)) ⌝ }
 {
     let a = Nack {
         psn,
@@ -202,7 +202,7 @@ pub extern "C" fn nscc_nack(
         marked,
         retx,
     };
-    take(Event::Nack(time, a), state, status, size, sent, resent, evs) as u32
+    take(Event::Nack(time, a), state, status, size, sent, resent, evs)
 }
 
 // A loss.
@@ -242,7 +242,7 @@ pub extern "C" fn nscc_path(
     evs: &mut [u64],
     time: u64,
 ) -> u64
-    ensures { λ r. ⌜ called r (now (state .exit)) (ring (now (status .exit)) (now (size .exit)) (now (sent .exit)) (now (resent .exit))) (now (evs .exit)) ≡ onPathWords (now (state .entry)) (ring (now (status .entry)) (now (size .entry)) (now (sent .entry)) (now (resent .entry))) (now (evs .entry)) (onPath time) ⌝ }
+    ensures { λ r. ⌜ called r (now (state .exit)) (ring (now (status .exit)) (now (size .exit)) (now (sent .exit)) (now (resent .exit))) (now (evs .exit)) ≡ onBesideWords (now (state .entry)) (ring (now (status .entry)) (now (size .entry)) (now (sent .entry)) (now (resent .entry))) (now (evs .entry)) (pathBeside time) ⌝ }
 {
     take(Event::Path(time), state, status, size, sent, resent, evs)
 }

@@ -3,6 +3,7 @@ use crate::make;
 use sender::Ack;
 use sender::Answer;
 use sender::Controller;
+use sender::Heard;
 use sender::Loss;
 use sender::Nack;
 use sender::Routed;
@@ -31,6 +32,15 @@ fn of_answer(answer: Answer) -> Got {
     let outcome = answer.outcome;
     Got {
         number: sender::number_of(outcome),
+        state,
+    }
+}
+
+fn of_heard(heard: Heard) -> Got {
+    let state = heard.state;
+    let feedback = heard.feedback;
+    Got {
+        number: sender::feedback_number(feedback),
         state,
     }
 }
@@ -91,8 +101,8 @@ pub(crate) fn answered<'a, 'b, 'c, 'd, 'e>(
         Call::SetUp(s) => of_answer(sender::start::set_up(s, status, size, sent, resent, evs)),
         Call::NewData => of_answer(before.new_data(status, size, sent, resent, evs, time, 1)),
         Call::Send => of_answer(before.send(status, size, sent, resent, evs, time, a_send())),
-        Call::Ack => of_answer(before.ack(status, size, sent, resent, evs, time, an_ack())),
-        Call::Nack => of_answer(before.nack(status, size, sent, resent, evs, time, a_nack())),
+        Call::Ack => of_heard(before.ack(status, size, sent, resent, evs, time, an_ack())),
+        Call::Nack => of_heard(before.nack(status, size, sent, resent, evs, time, a_nack())),
         Call::Loss => of_answer(before.loss(
             status,
             size,

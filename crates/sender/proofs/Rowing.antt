@@ -5,6 +5,7 @@ use mathlib.Core.Path.{_≡_, refl, sym, ap, ap₂, _∙_}
 use mathlib.Core.Bool.{Bool, true, false, not, _&&_, _||_}
 use mathlib.Core.List.{List, [], _∷_, _++_}
 use mathlib.Core.Logic.{by-cases}
+use mathlib.Core.Option.{Option, none, some}
 use Prim.Native.Nat.{ℕ, _+_, _-_, _≤_, _<_}
 use native.Mathlib.Nat.{le-antisymm}
 use native.Mathlib.Decide.{decLt}
@@ -14,6 +15,7 @@ use borrow.Author.Tests.{ltb-true, ltb-false, lt-ltb, le-ltb, not-true}
 use Rattle.decide.specs.Branch.{ifSo, ifEq, eq-yes, eq-no, eq-both}
 use Rattle.decide.specs.Test.{inside, both, whole, inside-tells}
 use Rattle.decide.specs.Rows.{Row, row, firstOf, first-here, first-later}
+use Rattle.window.specs.declared.Sampling.{Sampling}
 use Rattle.ledger.specs.Ring.{Ring, capOf}
 use Rattle.ledger.specs.Rows.{sendRows, newRows, resendRows}
 use Rattle.ledger.specs.declared.Flow.{Flow}
@@ -26,7 +28,7 @@ use Rattle.sender.specs.Bounds.{roomAfter}
 use Rattle.sender.specs.Sound.{sound}
 use Rattle.sender.specs.Rows.{withSound, sendAllRows, pathRows}
 use Rattle.sender.specs.Steps.{routeOf, pathStep}
-use Rattle.sender.specs.Events.{decided}
+use Rattle.sender.specs.Events.{decided, says}
 use Rattle.sender.specs.declared.Controller.{Controller}
 use Rattle.sender.specs.declared.Send.{Send}
 
@@ -273,3 +275,17 @@ module _ (w : World) (xs : List Row) (after : World) (m : ℕ) (s : Controller) 
     answer-accepted ez c r t ea es em =
         entry-accepted w xs (answer 0 after) (λ n. answer n w) e n en (answered m s r t) ez
         (ap₂ (λ k c. answered k c r t) em es ∙ ap (answer 0) ea)
+
+-- ---- what an ACK or a NACK says of its sample: nothing where its number is not 0
+
+module _ {number : ℕ} {c : Controller} {r : Ring} {times : List ℕ} {a : Answered} (e : answered number c r times ≡ a) where
+  told : number ≡ a .number
+  told = ap (λ (x : Answered). x .number) e
+
+  pub says-nothing : (q : Sampling) {s : Option Sampling} → (number ≡ 0 → ⊥) → s ≡ none → s ≡ says (a .number) q
+  unfolding says
+  says-nothing q {s} h n = eq-no (a .number) 0 s (some q) none (λ z. h (told ∙ z)) n
+
+  pub says-sample : (q : Sampling) {s : Option Sampling} → number ≡ 0 → s ≡ some q → s ≡ says (a .number) q
+  unfolding says
+  says-sample q {s} z n = eq-yes (a .number) 0 s (some q) none (sym told ∙ z) n

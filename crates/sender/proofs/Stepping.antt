@@ -19,13 +19,14 @@ use Rattle.serial.specs.Psn.{covered}
 use Rattle.serial.specs.Count.{counts}
 use Rattle.window.specs.Range.{InRange}
 use Rattle.window.specs.Held.{Held}
-use Rattle.window.specs.Delays.{sampleOf, Sampled}
+use Rattle.window.specs.Delays.{sampleOf, samplingOf, sampleIn, Sampled}
 use Rattle.window.specs.Quick.{aboveZero}
 use Rattle.window.specs.Events.{ackOf, nackOf, lossOf}
 use Rattle.window.specs.declared.Settings.{Settings}
 use Rattle.window.specs.declared.Window.{Window}
 use Rattle.window.specs.declared.Sample.{Sample}
-use Rattle.window.proofs.Tests.{held-later, sample-held}
+use Rattle.window.specs.declared.Sampling.{Sampling}
+use Rattle.window.proofs.Tests.{held-later, sample-held, same-sample}
 use Rattle.window.proofs.Keeps.{cwnd-most}
 use Rattle.window.proofs.Ceilings.{ceiling-high}
 use Rattle.paths.specs.Path.{choice}
@@ -50,7 +51,7 @@ use Rattle.sender.specs.Limits.{timeEnd, evCount, reasonMost}
 use Rattle.sender.specs.World.{World, world, ledgerOf}
 use Rattle.sender.specs.Named.{hasRoom}
 use Rattle.sender.specs.Rows.{timeRow, newDataRows, sendAllRows, ackAllRows, nackAllRows, lossAllRows}
-use Rattle.sender.specs.Steps.{stateOf, settled, avoidedIn, ackSample, ackStep, nackSample, nackStep, lossStep}
+use Rattle.sender.specs.Steps.{stateOf, settled, avoidedIn, ackSample, ackSampling, ackStep, nackSample, nackSampling, nackStep, lossStep}
 use Rattle.sender.specs.declared.Controller.{Controller}
 use Rattle.sender.specs.declared.Send.{Send}
 use Rattle.sender.specs.declared.Ack.{Ack}
@@ -313,10 +314,26 @@ module _ (time : ℕ) (w : World) {x : Packet} {z : ℤ} {u : Window} {evs : Lis
       (ap (λ (l : Ledger). lossOf (c .settings) time (packetOf (c .flow) (w .slots) (a .psn) .size) (l .totals .«in_flight») (c .window)) el))
       ee ed
 
--- a sample that the code read
-pub sampled-at : {p : Sample} (out : Bool) (resent : ℕ) (retx : Bool) (time sent service : ℕ) → p ≡ sampleOf out resent retx time sent service
-    → Sampled p
-sampled-at out resent retx time sent service e = rw e (sample-held out resent retx time sent service)
+-- what the step says is the definition's
+module _ (time : ℕ) (w : World) {x : Packet} {q : Sampling} where
+  pub ack-says : (a : Ack) → x ≡ packetOf (w .state .flow) (w .slots) (a .trigger)
+      → q ≡ samplingOf (isOut x) (x .resent) (a .retx) time (x .sent) (a .service) → q ≡ ackSampling time a w
+  unfolding ackSampling
+  ack-says a ex e = rw (e, ex)
+
+  pub nack-says : (a : Nack) → x ≡ packetOf (w .state .flow) (w .slots) (a .psn)
+      → q ≡ samplingOf (isOut x) (x .resent) (a .retx) time (x .sent) 0 → q ≡ nackSampling time a w
+  unfolding nackSampling
+  nack-says a ex e = rw (e, ex)
+
+-- a sample that the code read: what the step says, and what the window's rules use of it
+module _ (out : Bool) (resent : ℕ) (retx : Bool) (time sent service : ℕ) {p : Sample} {q : Sampling}
+    (ep : p ≡ sampleIn q) (eq : q ≡ samplingOf out resent retx time sent service) where
+  pub sample-at : p ≡ sampleOf out resent retx time sent service
+  sample-at = ep ∙ ap sampleIn eq ∙ same-sample out resent retx time sent service
+
+  pub sampled-at : Sampled p
+  sampled-at = rw sample-at (sample-held out resent retx time sent service)
 
 -- ---- a path choice stays among the EVs
 

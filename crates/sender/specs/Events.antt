@@ -1,11 +1,13 @@
 -- Each event: the number of the first row that applies and the world as it was, or 0 and the world after the step.
 -- Assumes nothing.
+use mathlib.Core.Option.{Option, none, some}
 use Prim.Native.Nat.{ℕ}
 use Rattle.decide.specs.Branch.{ifEq}
 use Rattle.decide.specs.Rows.{firstOf}
+use Rattle.window.specs.declared.Sampling.{Sampling}
 use Rattle.sender.specs.World.{World, Answered, Routing}
 use Rattle.sender.specs.Rows.{withSound, newDataRows, sendAllRows, ackAllRows, nackAllRows, lossAllRows, pathRows}
-use Rattle.sender.specs.Steps.{newDataStep, sendStep, ackStep, nackStep, lossStep, pathStep, routeOf}
+use Rattle.sender.specs.Steps.{newDataStep, sendStep, ackSampling, ackStep, nackSampling, nackStep, lossStep, pathStep, routeOf}
 use Rattle.sender.specs.declared.Send.{Send}
 use Rattle.sender.specs.declared.Ack.{Ack}
 use Rattle.sender.specs.declared.Nack.{Nack}
@@ -24,8 +26,18 @@ onSend time a w = decided (firstOf (withSound w (sendAllRows time a (w .state) (
 unfoldable pub onAck : ℕ → Ack → World → Answered
 onAck time a w = decided (firstOf (withSound w (ackAllRows time a (w .state)))) w (ackStep time a w)
 
+-- request M-103: what an answer of this number says of the sample. "Refused records .. get no letter."
+unfoldable pub says : ℕ → Sampling → Option Sampling
+says number sampling = ifEq number 0 (some sampling) none
+
+abbrev pub ackSays : ℕ → Ack → World → Option Sampling
+ackSays time a w = says (onAck time a w .number) (ackSampling time a w)
+
 unfoldable pub onNack : ℕ → Nack → World → Answered
 onNack time a w = decided (firstOf (withSound w (nackAllRows time a (w .state) (w .slots)))) w (nackStep time a w)
+
+abbrev pub nackSays : ℕ → Nack → World → Option Sampling
+nackSays time a w = says (onNack time a w .number) (nackSampling time a w)
 
 unfoldable pub onLoss : ℕ → Loss → World → Answered
 onLoss time a w = decided (firstOf (withSound w (lossAllRows time a (w .state) (w .slots)))) w (lossStep time a w)

@@ -6,11 +6,12 @@ use mathlib.Core.List.{List}
 use Prim.Native.Nat.{ℕ, _+_}
 use lib.Dec.{eqb}
 use Rattle.decide.specs.Branch.{ifSo}
-use Rattle.window.specs.Delays.{sampleOf}
+use Rattle.window.specs.Delays.{sampleOf, samplingOf}
 use Rattle.window.specs.Events.{ackOf, nackOf, lossOf}
 use Rattle.window.specs.declared.Settings.{Settings}
 use Rattle.window.specs.declared.Window.{Window}
 use Rattle.window.specs.declared.Sample.{Sample}
+use Rattle.window.specs.declared.Sampling.{Sampling}
 use Rattle.paths.specs.Path.{withTime, choice}
 use Rattle.paths.specs.declared.Choice.{Choice}
 use Rattle.ledger.specs.Packets.{isOut}
@@ -65,6 +66,12 @@ ackSample time a w =
     let x = packetOf (w .state .flow) (w .slots) (a .trigger) in
     sampleOf (isOut x) (x .resent) (a .retx) time (x .sent) (a .service)
 
+-- request M-103: what it says of that sample
+unfoldable pub ackSampling : ℕ → Ack → World → Sampling
+ackSampling time a w =
+    let x = packetOf (w .state .flow) (w .slots) (a .trigger) in
+    samplingOf (isOut x) (x .resent) (a .retx) time (x .sent) (a .service)
+
 -- "Marked ACK": that EV is avoided
 unfoldable pub ackStep : ℕ → Ack → World → World
 ackStep time a w =
@@ -79,6 +86,11 @@ unfoldable pub nackSample : ℕ → Nack → World → Sample
 nackSample time a w =
     let x = packetOf (w .state .flow) (w .slots) (a .psn) in
     sampleOf (isOut x) (x .resent) (a .retx) time (x .sent) 0
+
+unfoldable pub nackSampling : ℕ → Nack → World → Sampling
+nackSampling time a w =
+    let x = packetOf (w .state .flow) (w .slots) (a .psn) in
+    samplingOf (isOut x) (x .resent) (a .retx) time (x .sent) 0
 
 -- "marked NACK, NACK reason 0": that EV is avoided
 unfoldable pub nackStep : ℕ → Nack → World → World

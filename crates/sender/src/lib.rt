@@ -8,16 +8,19 @@ pub mod start;
 pub mod steps;
 
 use crate::sound::is_sound;
+use crate::steps::Sensed;
 use ledger::Flow;
 use ledger::Totals;
+use window::Sampling;
 use window::Settings;
 use window::Window;
 ghost use mathlib.Core.Path.{_≡_};
 ghost use mathlib.Core.Bool.{true};
+ghost use mathlib.Core.Option.{none, some};
 ghost use Rattle.ledger.specs.Ring.{ring};
-ghost use Rattle.sender.specs.Numbers.{rowOf, inTable, numberOf, pathNumber, pathEv};
+ghost use Rattle.sender.specs.Numbers.{rowOf, inTable, numberOf, feedbackNumber, saysOf, pathNumber, pathEv};
 ghost use Rattle.sender.specs.World.{world, answered, routed};
-ghost use Rattle.sender.specs.Events.{onNewData, onSend, onAck, onNack, onLoss, onPath};
+ghost use Rattle.sender.specs.Events.{onNewData, onSend, onAck, ackSays, onNack, nackSays, onLoss, onPath};
 
 // "Time is in ticks of 128 ns, below 2^48."
 pub const TIME_END: u64 = 1 << 48;
@@ -76,6 +79,17 @@ pub enum Outcome {
 pub struct Answer {
     pub state: Controller,
     pub outcome: Outcome,
+}
+
+// What an ACK or a NACK answers: what the sample step says (request M-103), or the refusal.
+pub enum Feedback {
+    Accepted(Sampling),
+    Refused(Refusal),
+}
+
+pub struct Heard {
+    pub state: Controller,
+    pub feedback: Feedback,
 }
 
 // What a path choice answers: the EV, or the refusal.
@@ -179,6 +193,16 @@ pub fn number_of(outcome: Outcome) -> u32
     }
 }
 
+// The number of an ACK's or a NACK's answer: 0 for accepted.
+pub fn feedback_number(feedback: Feedback) -> u32
+    ensures { λ r. ⌜ r ≡ feedbackNumber feedback ⌝ }
+{
+    match feedback {
+        Feedback::Accepted(_) => 0,
+        Feedback::Refused(r) => row_of(r),
+    }
+}
+
 // The number of a path choice: 0 for a chosen EV.
 pub fn path_number(route: Route) -> u32
     ensures { λ r. ⌜ r ≡ pathNumber route ⌝ }
@@ -207,6 +231,29 @@ pub(crate) fn accepted(state: Controller) -> Answer
     Answer {
         state,
         outcome: Outcome::Accepted,
+    }
+}
+
+// The same of an ACK or a NACK: no word on a sample.
+pub(crate) fn feedback_refused(state: Controller, number: u32) -> Heard
+    requires { ⌜ inTable number ≡ true ⌝ }
+    ensures { λ r. ⌜ (r .state ≡ state) × (feedbackNumber (r .feedback) ≡ number) × (saysOf (r .feedback) ≡ none) ⌝ }
+{
+    Heard {
+        state,
+        feedback: Feedback::Refused(refusal_of(number)),
+    }
+}
+
+// An ACK or a NACK that was accepted, with what the sample step says.
+pub(crate) fn feedback_accepted(sensed: Sensed) -> Heard
+    ensures { λ r. ⌜ (r .state ≡ sensed .state) × (feedbackNumber (r .feedback) ≡ 0) × (saysOf (r .feedback) ≡ some (sensed .sampling)) ⌝ }
+{
+    let state = sensed.state;
+    let sampling = sensed.sampling;
+    Heard {
+        state,
+        feedback: Feedback::Accepted(sampling),
     }
 }
 
@@ -259,11 +306,12 @@ impl Controller {
         evs: &'e mut [u64],
         time: u64,
         a: Ack,
-    ) -> Answer
-        ensures { λ r. ⌜ answered (numberOf (r .outcome)) (r .state) (ring (now (status .exit)) (now (size .exit)) (now (sent .exit)) (now (resent .exit))) (now (evs .exit)) ≡ onAck time a (world self (ring (now (status .entry)) (now (size .entry)) (now (sent .entry)) (now (resent .entry))) (now (evs .entry))) ⌝ }
+    ) -> Heard
+        ensures { λ r. ⌜ answered (feedbackNumber (r .feedback)) (r .state) (ring (now (status .exit)) (now (size .exit)) (now (sent .exit)) (now (resent .exit))) (now (evs .exit)) ≡ onAck time a (world self (ring (now (status .entry)) (now (size .entry)) (now (sent .entry)) (now (resent .entry))) (now (evs .entry))) ⌝ }
+        ensures { λ r. ⌜ saysOf (r .feedback) ≡ ackSays time a (world self (ring (now (status .entry)) (now (size .entry)) (now (sent .entry)) (now (resent .entry))) (now (evs .entry))) ⌝ }
     {
         if !is_sound(self, status, size, sent, resent, evs) {
-            return refused(self, judge::UNSOUND);
+            return feedback_refused(self, judge::UNSOUND);
         }
         rely::ack(self, status, size, sent, resent, evs, time, a)
     }
@@ -278,11 +326,12 @@ impl Controller {
         evs: &'c mut [u64],
         time: u64,
         a: Nack,
-    ) -> Answer
-        ensures { λ r. ⌜ answered (numberOf (r .outcome)) (r .state) (ring (now (status .exit)) (now (size .entry)) (now (sent .entry)) (now (resent .entry))) (now (evs .exit)) ≡ onNack time a (world self (ring (now (status .entry)) (now (size .entry)) (now (sent .entry)) (now (resent .entry))) (now (evs .entry))) ⌝ }
+    ) -> Heard
+        ensures { λ r. ⌜ answered (feedbackNumber (r .feedback)) (r .state) (ring (now (status .exit)) (now (size .entry)) (now (sent .entry)) (now (resent .entry))) (now (evs .exit)) ≡ onNack time a (world self (ring (now (status .entry)) (now (size .entry)) (now (sent .entry)) (now (resent .entry))) (now (evs .entry))) ⌝ }
+        ensures { λ r. ⌜ saysOf (r .feedback) ≡ nackSays time a (world self (ring (now (status .entry)) (now (size .entry)) (now (sent .entry)) (now (resent .entry))) (now (evs .entry))) ⌝ }
     {
         if !is_sound(self, status, size, sent, resent, evs) {
-            return refused(self, judge::UNSOUND);
+            return feedback_refused(self, judge::UNSOUND);
         }
         rely::nack(self, status, size, sent, resent, evs, time, a)
     }

@@ -3,6 +3,7 @@
 use crate::Ack;
 use crate::Answer;
 use crate::Controller;
+use crate::Heard;
 use crate::Loss;
 use crate::Nack;
 use crate::Refusal;
@@ -10,16 +11,18 @@ use crate::Route;
 use crate::Routed;
 use crate::Send;
 use crate::accepted;
+use crate::feedback_accepted;
+use crate::feedback_refused;
 use crate::judge;
 use crate::refused;
 use crate::steps;
 ghost use mathlib.Core.Path.{_≡_};
 ghost use mathlib.Core.Bool.{true};
 ghost use Rattle.ledger.specs.Ring.{ring};
-ghost use Rattle.sender.specs.Numbers.{numberOf, pathNumber, pathEv};
+ghost use Rattle.sender.specs.Numbers.{numberOf, feedbackNumber, saysOf, pathNumber, pathEv};
 ghost use Rattle.sender.specs.World.{world, answered, routed};
 ghost use Rattle.sender.specs.Sound.{sound};
-ghost use Rattle.sender.specs.Events.{onNewData, onSend, onAck, onNack, onLoss, onPath};
+ghost use Rattle.sender.specs.Events.{onNewData, onSend, onAck, ackSays, onNack, nackSays, onLoss, onPath};
 
 // New data in the backlog. The ring and the EV times are lent for what is required of them.
 pub fn new_data<'a>(
@@ -73,15 +76,16 @@ pub fn ack<'a, 'b, 'c, 'd, 'e>(
     evs: &'e mut [u64],
     time: u64,
     a: Ack,
-) -> Answer
+) -> Heard
     requires { ⌜ sound (world c (ring (now status) (now size) (now sent) (now resent)) (now evs)) ≡ true ⌝ }
-    ensures { λ r. ⌜ answered (numberOf (r .outcome)) (r .state) (ring (now (status .exit)) (now (size .exit)) (now (sent .exit)) (now (resent .exit))) (now (evs .exit)) ≡ onAck time a (world c (ring (now (status .entry)) (now (size .entry)) (now (sent .entry)) (now (resent .entry))) (now (evs .entry))) ⌝ }
+    ensures { λ r. ⌜ answered (feedbackNumber (r .feedback)) (r .state) (ring (now (status .exit)) (now (size .exit)) (now (sent .exit)) (now (resent .exit))) (now (evs .exit)) ≡ onAck time a (world c (ring (now (status .entry)) (now (size .entry)) (now (sent .entry)) (now (resent .entry))) (now (evs .entry))) ⌝ }
+    ensures { λ r. ⌜ saysOf (r .feedback) ≡ ackSays time a (world c (ring (now (status .entry)) (now (size .entry)) (now (sent .entry)) (now (resent .entry))) (now (evs .entry))) ⌝ }
 {
     let number = judge::judge_ack(c, time, a);
     if number != 0 {
-        return refused(c, number);
+        return feedback_refused(c, number);
     }
-    accepted(steps::ack(c, status, size, sent, resent, evs, time, a))
+    feedback_accepted(steps::ack(c, status, size, sent, resent, evs, time, a))
 }
 
 // A NACK.
@@ -94,15 +98,16 @@ pub fn nack<'a, 'b, 'c>(
     evs: &'c mut [u64],
     time: u64,
     a: Nack,
-) -> Answer
+) -> Heard
     requires { ⌜ sound (world c (ring (now status) (now size) (now sent) (now resent)) (now evs)) ≡ true ⌝ }
-    ensures { λ r. ⌜ answered (numberOf (r .outcome)) (r .state) (ring (now (status .exit)) (now (size .entry)) (now (sent .entry)) (now (resent .entry))) (now (evs .exit)) ≡ onNack time a (world c (ring (now (status .entry)) (now (size .entry)) (now (sent .entry)) (now (resent .entry))) (now (evs .entry))) ⌝ }
+    ensures { λ r. ⌜ answered (feedbackNumber (r .feedback)) (r .state) (ring (now (status .exit)) (now (size .entry)) (now (sent .entry)) (now (resent .entry))) (now (evs .exit)) ≡ onNack time a (world c (ring (now (status .entry)) (now (size .entry)) (now (sent .entry)) (now (resent .entry))) (now (evs .entry))) ⌝ }
+    ensures { λ r. ⌜ saysOf (r .feedback) ≡ nackSays time a (world c (ring (now (status .entry)) (now (size .entry)) (now (sent .entry)) (now (resent .entry))) (now (evs .entry))) ⌝ }
 {
     let number = judge::judge_nack(c, status, size, sent, resent, time, a);
     if number != 0 {
-        return refused(c, number);
+        return feedback_refused(c, number);
     }
-    accepted(steps::nack(c, status, size, sent, resent, evs, time, a))
+    feedback_accepted(steps::nack(c, status, size, sent, resent, evs, time, a))
 }
 
 // A loss.

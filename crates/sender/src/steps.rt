@@ -8,13 +8,14 @@ use crate::Send;
 use crate::naming::state_of;
 use ledger::Books;
 use ledger::Packet;
-use window::Sample;
+use window::Sampling;
+use window::delay::sample_in;
 ghost use mathlib.Core.Path.{_≡_};
 ghost use mathlib.Core.Bool.{true};
 ghost use Prim.Native.Nat.{_<_, _≤_, _^_};
 ghost use lib.ListN.{length};
 ghost use Rattle.decide.specs.Rows.{firstOf};
-ghost use Rattle.window.specs.Delays.{sampleOf};
+ghost use Rattle.window.specs.Delays.{samplingOf};
 ghost use Rattle.ledger.specs.Packets.{isOut};
 ghost use Rattle.ledger.specs.Ring.{ring};
 ghost use Rattle.sender.specs.World.{world};
@@ -23,7 +24,7 @@ ghost use Rattle.sender.specs.Rows.{newDataRows, sendAllRows, ackAllRows
 ghost use Rattle.paths.specs.Path.{choice};
 ghost use Rattle.sender.specs.Limits.{evCount};
 ghost use Rattle.sender.specs.Bounds.{Bounded};
-ghost use Rattle.sender.specs.Steps.{avoidedIn, newDataState, sendStep, ackStep, nackStep, lossStep, pathState};
+ghost use Rattle.sender.specs.Steps.{avoidedIn, newDataState, sendStep, ackSampling, ackStep, nackSampling, nackStep, lossStep, pathState};
 
 // A path choice: the state, and the EV.
 pub struct Stepped {
@@ -31,12 +32,18 @@ pub struct Stepped {
     pub ev: u32,
 }
 
-// The sample of a packet as it stands.
-fn sampled(x: Packet, retx: bool, time: u64, service: u64) -> Sample
-    ensures { λ r. ⌜ r ≡ sampleOf (isOut x) (x .resent) retx time (x .sent) service ⌝ }
+// An ACK or a NACK: the state, and what the sample step says.
+pub struct Sensed {
+    pub state: Controller,
+    pub sampling: Sampling,
+}
+
+// What the sample step says of a packet as it stands.
+fn sampled(x: Packet, retx: bool, time: u64, service: u64) -> Sampling
+    ensures { λ r. ⌜ r ≡ samplingOf (isOut x) (x .resent) retx time (x .sent) service ⌝ }
 {
     let outstanding = (x.status == ledger::FLYING) | (x.status == ledger::MARKED);
-    window::delay::sample(outstanding, x.resent as u64, retx, time, x.sent, service)
+    window::delay::sampling(outstanding, x.resent as u64, retx, time, x.sent, service)
 }
 
 // Where feedback says so, an EV is avoided until now and the base.
@@ -100,10 +107,11 @@ pub fn ack<'a, 'b, 'c, 'd, 'e>(
     evs: &'e mut [u64],
     time: u64,
     a: Ack,
-) -> Controller
+) -> Sensed
     requires { ⌜ sound (world c (ring (now status) (now size) (now sent) (now resent)) (now evs)) ≡ true ⌝ }
     requires { ⌜ firstOf (ackAllRows time a c) ≡ 0 ⌝ }
-    ensures { λ r. ⌜ world r (ring (now (status .exit)) (now (size .exit)) (now (sent .exit)) (now (resent .exit))) (now (evs .exit)) ≡ ackStep time a (world c (ring (now (status .entry)) (now (size .entry)) (now (sent .entry)) (now (resent .entry))) (now (evs .entry))) ⌝ }
+    ensures { λ r. ⌜ world (r .state) (ring (now (status .exit)) (now (size .exit)) (now (sent .exit)) (now (resent .exit))) (now (evs .exit)) ≡ ackStep time a (world c (ring (now (status .entry)) (now (size .entry)) (now (sent .entry)) (now (resent .entry))) (now (evs .entry))) ⌝ }
+    ensures { λ r. ⌜ r .sampling ≡ ackSampling time a (world c (ring (now (status .entry)) (now (size .entry)) (now (sent .entry)) (now (resent .entry))) (now (evs .entry))) ⌝ }
 {
     let settings = c.settings;
     let flow = c.flow;
@@ -112,7 +120,8 @@ pub fn ack<'a, 'b, 'c, 'd, 'e>(
     let base = window.base;
     let newly = ledger::judge::newly(a.count, flow.held);
     let x = ledger::slots::find(flow, status, size, sent, resent, a.trigger);
-    let sample = sampled(x, a.retx, time, a.service as u64);
+    let sampling = sampled(x, a.retx, time, a.service as u64);
+    let sample = sample_in(sampling);
     let after = ledger::deliver::ack(
         a.cum,
         a.map,
@@ -127,7 +136,8 @@ pub fn ack<'a, 'b, 'c, 'd, 'e>(
     let t = after.totals;
     let w = window::events::ack(settings, time, newly, a.marked, sample, t.in_flight, window);
     avoid(a.marked, a.ev, time, base, evs);
-    state_of(settings, f, t, w, time, c.cursor)
+    let state = state_of(settings, f, t, w, time, c.cursor);
+    Sensed { state, sampling }
 }
 
 // A NACK.
@@ -140,10 +150,11 @@ pub fn nack<'a, 'b, 'c>(
     evs: &'c mut [u64],
     time: u64,
     a: Nack,
-) -> Controller
+) -> Sensed
     requires { ⌜ sound (world c (ring (now status) (now size) (now sent) (now resent)) (now evs)) ≡ true ⌝ }
     requires { ⌜ firstOf (nackAllRows time a c (ring (now status) (now size) (now sent) (now resent))) ≡ 0 ⌝ }
-    ensures { λ r. ⌜ world r (ring (now (status .exit)) (now (size .entry)) (now (sent .entry)) (now (resent .entry))) (now (evs .exit)) ≡ nackStep time a (world c (ring (now (status .entry)) (now (size .entry)) (now (sent .entry)) (now (resent .entry))) (now (evs .entry))) ⌝ }
+    ensures { λ r. ⌜ world (r .state) (ring (now (status .exit)) (now (size .entry)) (now (sent .entry)) (now (resent .entry))) (now (evs .exit)) ≡ nackStep time a (world c (ring (now (status .entry)) (now (size .entry)) (now (sent .entry)) (now (resent .entry))) (now (evs .entry))) ⌝ }
+    ensures { λ r. ⌜ r .sampling ≡ nackSampling time a (world c (ring (now (status .entry)) (now (size .entry)) (now (sent .entry)) (now (resent .entry))) (now (evs .entry))) ⌝ }
 {
     let settings = c.settings;
     let flow = c.flow;
@@ -151,7 +162,8 @@ pub fn nack<'a, 'b, 'c>(
     let window = c.window;
     let base = window.base;
     let x = ledger::slots::find(flow, status, size, sent, resent, a.psn);
-    let sample = sampled(x, a.retx, time, 0);
+    let sampling = sampled(x, a.retx, time, 0);
+    let sample = sample_in(sampling);
     let after = ledger::mark::mark(a.psn, Books { flow, totals }, status, size, sent, resent);
     let f = after.flow;
     let t = after.totals;
@@ -165,7 +177,8 @@ pub fn nack<'a, 'b, 'c>(
         window,
     );
     avoid(a.marked | (a.reason == 0), a.ev, time, base, evs);
-    state_of(settings, f, t, w, time, c.cursor)
+    let state = state_of(settings, f, t, w, time, c.cursor);
+    Sensed { state, sampling }
 }
 
 // A loss.

@@ -1,6 +1,6 @@
 -- The tests of refusals 1 and 2 hold exactly where the facts do; the fresh window is held; a sample exists exactly as document 01 has it.
 -- Assumes nothing.
-use mathlib.Core.Path.{_≡_, sym, ap}
+use mathlib.Core.Path.{_≡_, refl, sym, ap}
 use mathlib.Core.Bool.{Bool, true, false, _&&_}
 use mathlib.Core.Logic.{_⊎_, inl, inr}
 use Prim.Native.Nat.{ℕ, _+_, _-_, _≤_, _<_, min}
@@ -8,17 +8,18 @@ use lib.Dec.{eqb}
 use borrow.Author.Tests.{eqb-true, eq-eqb}
 use borrow.Author.Needs.{needs}
 use native.Mathlib.Omega.{arith}
-use Rattle.decide.specs.Branch.{so-both, lt-both, so-yes, so-no, lt-yes}
+use Rattle.decide.specs.Branch.{so-both, lt-both, so-yes, so-no, lt-yes, lt-no}
 use Rattle.decide.specs.Test.{inside, both, whole, inside-tells, inside-yes}
 use Rattle.window.specs.Limits.{mtuLeast, mtuMost, windowMost, delayMost, gainMost, alphaMost, parts, periodMost, thresholdMost}
 use Rattle.window.specs.Limits.{sampleMost, avgMost, incStop, tallyStop, laterEnd, ceilingOf}
 use Rattle.window.specs.Range.{inRange, InRange}
 use Rattle.window.specs.Held.{isHeld, Held, freshOf}
-use Rattle.window.specs.Delays.{oneSend, sampleOf, Sampled}
+use Rattle.window.specs.Delays.{oneSend, sampleOf, cutOf, samplingOf, sampleIn, Sampled}
 use Rattle.window.specs.declared.Settings.{Settings}
 use Rattle.window.specs.declared.Window.{Window}
 use Rattle.window.specs.declared.Sample.{Sample}
 use Rattle.window.specs.declared.Sample.the-variants.{Ticks, Absent}
+use Rattle.window.specs.declared.Sampling.{Sampling}
 use Rattle.window.proofs.Ceilings.{ceiling-fresh}
 
 -- the last row of a list of ranges, and the rows before it
@@ -142,3 +143,21 @@ module _ (outstanding : Bool) (resent : ℕ) (retx : Bool) (time sent service : 
         low = λ t e. let x = exists-sample t e in omega (arith, x .0 .late, x .1);
         high = λ t e. let x = exists-sample t e in omega (arith, x .1);
       }
+
+  -- request M-103 leaves the window's rules the sample that they had
+  pub same-sample : sampleIn (samplingOf outstanding resent retx time sent service) ≡ sampleOf outstanding resent retx time sent service
+  unfolding samplingOf sampleOf sampleIn cutOf
+  same-sample =
+      let P : Sampling → Type 0 = λ p. sampleIn p ≡ sampleOf outstanding resent retx time sent service in
+      so-both P outstanding _ _
+      (λ known.
+      so-both P (oneSend resent retx) _ _
+      (λ copy.
+      lt-both P (sent + service) time _ _
+      (λ late.
+      lt-both P sampleMost (time - (sent + service)) _ _
+      (λ above. so-yes _ _ _ _ known (so-yes _ _ _ _ copy (lt-yes _ _ _ _ _ late (ap Ticks (omega arith)))))
+      (λ above. so-yes _ _ _ _ known (so-yes _ _ _ _ copy (lt-yes _ _ _ _ _ late (ap Ticks (omega arith))))))
+      (λ late. so-yes _ _ _ _ known (so-yes _ _ _ _ copy (lt-no _ _ _ _ _ late refl))))
+      (λ copy. so-yes _ _ _ _ known (so-no _ _ _ _ copy refl)))
+      (λ known. so-no _ _ _ _ known refl)

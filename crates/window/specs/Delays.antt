@@ -12,6 +12,8 @@ use Rattle.window.specs.declared.Window.{Window}
 use Rattle.window.specs.declared.Delayed.{Delayed}
 use Rattle.window.specs.declared.Sample.{Sample}
 use Rattle.window.specs.declared.Sample.the-variants.{Ticks, Absent}
+use Rattle.window.specs.declared.Sampling.{Sampling}
+use Rattle.window.specs.declared.Sampling.the-variants.{Taken, Cut, Gone, Ambiguous, NotPositive}
 
 -- "its resend count is 0 with the retx flag clear, or 1 with it set"
 unfoldable pub oneSend : ℕ → Bool → Bool
@@ -26,6 +28,26 @@ sampleOf outstanding resent retx time sent service =
     (ifLt (sent + service) time (Ticks (min (time - (sent + service)) sampleMost)) Absent)
     Absent)
     Absent
+
+-- request M-103: "a sample, a sample cut to 2^20, packet gone, ambiguous resend, not positive; tested in the order gone, ambiguous, not positive"
+unfoldable pub cutOf : ℕ → Sampling
+cutOf ticks = ifLt sampleMost ticks Cut (Taken ticks)
+
+unfoldable pub samplingOf : Bool → ℕ → Bool → ℕ → ℕ → ℕ → Sampling
+samplingOf outstanding resent retx time sent service =
+    ifSo outstanding
+    (ifSo (oneSend resent retx)
+    (ifLt (sent + service) time (cutOf (time - (sent + service))) NotPositive)
+    Ambiguous)
+    Gone
+
+-- what the window's rules use of it: 01's sample (`same-sample`), so "Window rules are unchanged"
+unfoldable pub sampleIn : Sampling → Sample
+sampleIn (Taken t) = Ticks t
+sampleIn Cut = Ticks sampleMost
+sampleIn Gone = Absent
+sampleIn Ambiguous = Absent
+sampleIn NotPositive = Absent
 
 -- the average, read in whole ticks: "held in 1/1,024 tick, read by dividing by 1,024"
 unfoldable pub averageOf : ℕ → ℕ

@@ -1,6 +1,7 @@
 // Samples and delay.
 use crate::Delayed;
 use crate::Sample;
+use crate::Sampling;
 use crate::Settings;
 use crate::Window;
 use crate::bounds::ceiling;
@@ -9,7 +10,7 @@ ghost use mathlib.Core.Path.{_≡_};
 ghost use Prim.Native.Nat.{_≤_};
 ghost use Rattle.window.specs.Limits.{delayMost, sampleMost, avgMost};
 ghost use Rattle.window.specs.Range.{InRange};
-ghost use Rattle.window.specs.Delays.{oneSend, sampleOf, averageOf, fedBy, feedOf, loweredOf, measuredOf, Sampled};
+ghost use Rattle.window.specs.Delays.{oneSend, cutOf, samplingOf, sampleIn, averageOf, fedBy, feedOf, loweredOf, measuredOf, Sampled};
 
 // Whether a resend count and a retx flag tell which copy of the packet an answer is to.
 fn one_send(resent: u64, retx: bool) -> bool
@@ -21,30 +22,53 @@ fn one_send(resent: u64, retx: bool) -> bool
     resent == 0
 }
 
-// The round-trip sample of an ACK, or of a NACK with service 0. `outstanding`: the packet is flying or marked.
-pub fn sample(
+// A sample of so many ticks, cut where it is above 2^20.
+fn cut(ticks: u64) -> Sampling
+    ensures { λ r. ⌜ r ≡ cutOf ticks ⌝ }
+{
+    if crate::SAMPLE_MOST < ticks {
+        return Sampling::Cut;
+    }
+    Sampling::Taken(ticks)
+}
+
+// The round-trip sample of an ACK, or of a NACK with service 0, or why there is none. `outstanding`: the packet is flying or marked.
+pub fn sampling(
     outstanding: bool,
     resent: u64,
     retx: bool,
     time: u64,
     sent: u64,
     service: u64,
-) -> Sample
-    ensures { λ r. ⌜ r ≡ sampleOf outstanding resent retx time sent service ⌝ }
+) -> Sampling
+    ensures { λ r. ⌜ r ≡ samplingOf outstanding resent retx time sent service ⌝ }
 {
     if !outstanding {
-        return Sample::Absent;
+        return Sampling::Gone;
     }
     if !one_send(resent, retx) {
-        return Sample::Absent;
+        return Sampling::Ambiguous;
     }
     if time <= sent {
-        return Sample::Absent;
+        return Sampling::NotPositive;
     }
     if time - sent <= service {
-        return Sample::Absent;
+        return Sampling::NotPositive;
     }
-    Sample::Ticks(least(time - sent - service, crate::SAMPLE_MOST))
+    cut(time - sent - service)
+}
+
+// What the window's rules use of it.
+pub fn sample_in(sampling: Sampling) -> Sample
+    ensures { λ r. ⌜ r ≡ sampleIn sampling ⌝ }
+{
+    match sampling {
+        Sampling::Taken(t) => Sample::Ticks(t),
+        Sampling::Cut => Sample::Ticks(crate::SAMPLE_MOST),
+        Sampling::Gone => Sample::Absent,
+        Sampling::Ambiguous => Sample::Absent,
+        Sampling::NotPositive => Sample::Absent,
+    }
 }
 
 // The average in whole ticks.

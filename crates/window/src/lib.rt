@@ -83,6 +83,20 @@ pub enum Sample {
     Absent,
 }
 
+// What the sample step says, by request M-103. The last three, in the order in which they are tested, say why there is no sample.
+pub enum Sampling {
+    // A sample of so many ticks.
+    Taken(u64),
+    // A sample above 2^20, cut to it.
+    Cut,
+    // The packet is neither flying nor marked.
+    Gone,
+    // A resend: it can't be told which copy of the packet is answered.
+    Ambiguous,
+    // What is left of the round trip without service is not positive.
+    NotPositive,
+}
+
 // A window once the sample is taken and the filter fed, and the delay that the rules go on with.
 pub struct Delayed {
     pub window: Window,

@@ -1,10 +1,10 @@
 //! Calls from outside, which test number 2 in full.
 
 use crate::logs;
-use crate::sides::{assert_alike, packed, set_up, set_up_model, set_up_ours, Model};
+use crate::sides::{assert_alike, set_up, set_up_model, set_up_ours, Model};
 use crate::table::Table;
 use crate::timing::{race, Clock, Times};
-use differential::Call;
+use differential::{answer_of, Call};
 use model::{number_two, Event, NewData, Send, Settings};
 use nscc::Context;
 use std::hint::black_box;
@@ -54,7 +54,9 @@ fn calls(settings: &Settings, events: &[Event], capacity: usize) -> Times {
             set_up_model(&mut model, settings);
             let Model { state, memory } = &mut model;
             let mut lent = memory.lend();
-            in_laps(clock, events, |event| packed(state.take(&mut lent, event)));
+            in_laps(clock, events, |event| {
+                answer_of(state.take(&mut lent, event))
+            });
         },
     )
 }
@@ -65,7 +67,7 @@ fn take(context: &mut Context, model: &mut Model, events: &[Event]) -> u64 {
     for event in events {
         let outcome = model.state.take(&mut model.memory.lend(), event);
         last = Call::of(event).ask(&mut context.lend());
-        assert_eq!(last, packed(outcome), "{event:?}");
+        assert_eq!(last, answer_of(outcome), "{event:?}");
     }
     last
 }

@@ -1,9 +1,10 @@
 //! Replays without text. The model's never tests number 2: setting up gives what it asks.
 
 use crate::logs;
-use crate::sides::{assert_alike, packed, Model};
+use crate::sides::{assert_alike, Model};
 use crate::table::Table;
 use crate::timing::{race, Clock, Times};
+use differential::answer_of;
 use model::replay::{Replay, CAPACITY};
 use nscc::{Context, Place};
 
@@ -122,7 +123,7 @@ fn replay_model(
     in_laps(clock, answers, room, |part| {
         for answer in part.iter_mut() {
             let outcome = replay.step().expect("a sound log");
-            *answer = packed(outcome.expect("a record"));
+            *answer = answer_of(outcome.expect("a record"));
         }
         part.len()
     });

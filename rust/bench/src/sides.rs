@@ -1,7 +1,7 @@
 //! What both sides do and leave.
 
 use differential::words_of;
-use model::{Memory, Outcome, Settings, State};
+use model::{Memory, Settings, State};
 use nscc::Context;
 
 /// The model's context with its memory.
@@ -38,11 +38,6 @@ pub fn set_up_model(model: &mut Model, settings: &Settings) {
     let (number, state) = State::set_up(settings, &mut model.memory.lend());
     assert_eq!(number, 0);
     model.state = state;
-}
-
-/// The model's outcome in one word, as the library packs it.
-pub fn packed(outcome: Outcome) -> u64 {
-    u64::from(outcome.number) | u64::from(outcome.ev.unwrap_or(0)) << 32
 }
 
 /// Fails unless both sides are left alike.

@@ -1,6 +1,6 @@
-use model::{Event, Loss, NewData, Outcome, Send};
+use model::{Event, Loss, NewData, Outcome, Sampling, Send};
 use nscc::raw::Lent;
-use nscc::{Ack, Nack};
+use nscc::{Ack, Nack, Sample};
 
 /// A call of a C function, with fields as wide as the function takes them.
 #[derive(Clone, Debug, PartialEq, Eq)]
@@ -41,7 +41,7 @@ impl Call {
         }
     }
 
-    /// Calls the C function: the number in the low 32 bits, an EV above them.
+    /// Calls the C function: the number in the low 32 bits, an EV or a sample's number above them.
     pub fn ask(&self, lent: &mut Lent) -> u64 {
         let number = match self {
             Call::SetUp {
@@ -56,8 +56,8 @@ impl Call {
                 bytes,
                 resend,
             } => lent.send(*time, *psn, *bytes, *resend),
-            Call::Ack(ack) => lent.ack(ack),
-            Call::Nack(nack) => lent.nack(nack),
+            Call::Ack(ack) => return lent.ack(ack),
+            Call::Nack(nack) => return lent.nack(nack),
             Call::Loss { time, psn, ev } => lent.loss(*time, *psn, *ev),
             Call::Path { time } => return lent.path(*time),
         };
@@ -162,5 +162,19 @@ fn narrow_ev(ev: u32) -> u16 {
 
 /// The model's outcome as the C functions answer it.
 pub fn answer_of(outcome: Outcome) -> u64 {
-    u64::from(outcome.number) | u64::from(outcome.ev.unwrap_or(0)) << 32
+    let sample = outcome
+        .sampling
+        .map(|sampling| sample_of(sampling).number());
+    let above = outcome.ev.or(sample).unwrap_or(0);
+    u64::from(outcome.number) | u64::from(above) << 32
+}
+
+fn sample_of(sampling: Sampling) -> Sample {
+    match sampling {
+        Sampling::Taken(_) => Sample::Taken,
+        Sampling::Cut => Sample::Cut,
+        Sampling::Gone => Sample::Gone,
+        Sampling::Ambiguous => Sample::Ambiguous,
+        Sampling::NotPositive => Sample::NotPositive,
+    }
 }

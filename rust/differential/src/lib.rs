@@ -18,7 +18,7 @@ mod spoil;
 mod tally;
 mod words;
 
-pub use call::Call;
+pub use call::{answer_of, Call};
 pub use kinds::text::{program, too_long};
 pub use kinds::Kind;
 pub use profile::GOOD;

@@ -1,20 +1,22 @@
 //! A list of calls from a start on, compared after every call.
 
-use crate::call::Call;
+use crate::call::{answer_of, Call};
 use crate::shorten::thin;
 use crate::sides::{Model, Ours};
 use crate::tally::Tally;
+use model::Outcome;
 use std::fmt::Write;
 
 /// Both sides answer the call; then all that was lent is compared.
-fn compare_call(ours: &mut Ours, model: &mut Model, call: &Call) -> Result<u64, String> {
+fn compare_call(ours: &mut Ours, model: &mut Model, call: &Call) -> Result<Outcome, String> {
     let our_answer = call.ask(&mut ours.lend());
-    let answer = model.answer(call);
+    let outcome = model.answer(call);
+    let answer = answer_of(outcome);
     if our_answer != answer {
         return Err(format!("answered {our_answer:#x}, the model {answer:#x}"));
     }
     ours.compare(model)?;
-    Ok(answer)
+    Ok(outcome)
 }
 
 /// Calls made so far from a start.
@@ -35,15 +37,15 @@ impl Session {
         }
     }
 
-    /// The answer, or what differs with the shortest list of calls that shows it.
-    pub fn call(&mut self, call: Call, tally: &mut Tally) -> Result<u64, String> {
+    /// What both answer, or what differs with the shortest list of calls that shows it.
+    pub fn call(&mut self, call: Call, tally: &mut Tally) -> Result<Outcome, String> {
         self.calls.push(call);
         let call = &self.calls[self.calls.len() - 1];
         let before = Tally::before(call, &self.model);
         match compare_call(&mut self.ours, &mut self.model, call) {
-            Ok(answer) => {
-                tally.note(answer, &before, &self.model);
-                Ok(answer)
+            Ok(outcome) => {
+                tally.note(outcome, &before, &self.model);
+                Ok(outcome)
             }
             Err(difference) => Err(self.report(&difference)),
         }

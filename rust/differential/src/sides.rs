@@ -1,13 +1,12 @@
 //! The two sides of a comparison: the model's, and the memory that the C functions are lent.
 
-use crate::call::{answer_of, Call};
+use crate::call::Call;
 use crate::words::{state_of, words_of};
-use model::{Memory, Settings, State};
+use model::{Memory, Outcome, Refusal, Settings, State};
 use nscc::raw::Lent;
 use nscc::{Word, WORDS};
 
-const UNSOUND: u64 = 2;
-const SETTING: u64 = 1;
+const UNSOUND: u8 = Refusal::NotTogether as u8;
 
 /// A context as the model has it, with the state in words, so that any words can be handed in.
 #[derive(Clone, Debug, PartialEq, Eq)]
@@ -39,21 +38,21 @@ impl Model {
         state.is_some_and(|state| model::number_two(&state, &self.memory.lend()))
     }
 
-    pub fn answer(&mut self, call: &Call) -> u64 {
+    pub fn answer(&mut self, call: &Call) -> Outcome {
         let Some(event) = call.event() else {
-            return self.set_up(call);
+            return self.set_up(call).into();
         };
         let Some(mut state) = self.state() else {
-            return UNSOUND;
+            return UNSOUND.into();
         };
         let outcome = state.take(&mut self.memory.lend(), &event);
         self.set_state(&state);
-        answer_of(outcome)
+        outcome
     }
 
     /// The state's words are written, not read. A refusal leaves them as they were: the state of
     /// zeros that 01 speaks of is what the model answers beside the number.
-    fn set_up(&mut self, call: &Call) -> u64 {
+    fn set_up(&mut self, call: &Call) -> u8 {
         let Call::SetUp {
             settings,
             first_psn,
@@ -67,7 +66,7 @@ impl Model {
         };
         let settings = Settings::from_numbers(numbers, *first_psn, *quick_adapt_off);
         if !settings.in_range() {
-            return SETTING;
+            return Refusal::Setting.number();
         }
         if self.words.len() != WORDS {
             return UNSOUND;
@@ -76,7 +75,7 @@ impl Model {
         if number == 0 {
             self.set_state(&state);
         }
-        number.into()
+        number
     }
 }
 

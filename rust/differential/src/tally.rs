@@ -3,11 +3,15 @@
 use crate::call::Call;
 use crate::sides::Model;
 use crate::words::state_of;
+use model::{Outcome, Sampling};
 use nscc::{Refusal, Word, IN_FLIGHT_ADDED, WORDS};
 use std::fmt;
 
 /// Room for every number of an answer.
 const NUMBERS: usize = Refusal::Trigger as usize + 1;
+
+/// The letters of M-103.
+pub const LETTERS: [char; 5] = ['s', 'c', 'g', 'a', 'n'];
 
 #[derive(Clone, Debug, Default)]
 pub struct Tally {
@@ -15,6 +19,8 @@ pub struct Tally {
     pub cases: u64,
     /// Answers by number.
     pub answers: [u64; NUMBERS],
+    /// What accepted ACKs and NACKs said of their samples, in the order of [`LETTERS`].
+    pub samples: [u64; LETTERS.len()],
     pub seen: Seen,
 }
 
@@ -44,17 +50,26 @@ impl Tally {
         }
     }
 
-    pub fn note(&mut self, answer: u64, before: &Before, after: &Model) {
-        self.count(answer);
-        if answer as u32 == 0 {
+    pub fn note(&mut self, outcome: Outcome, before: &Before, after: &Model) {
+        self.count(outcome);
+        if outcome.number == 0 {
             if let Some(before) = before {
                 self.seen.note(before, &after.words);
             }
         }
     }
 
-    pub fn count(&mut self, answer: u64) {
-        self.answers[answer as u32 as usize] += 1;
+    pub fn count(&mut self, outcome: Outcome) {
+        self.tell(outcome.number, outcome.sampling.map(Sampling::letter));
+    }
+
+    /// An answer by its number and letter.
+    pub fn tell(&mut self, number: u8, letter: Option<char>) {
+        self.answers[usize::from(number)] += 1;
+        let told = LETTERS.into_iter().zip(&mut self.samples);
+        for (_, times) in told.filter(|(each, _)| Some(*each) == letter) {
+            *times += 1;
+        }
     }
 
     pub fn calls(&self) -> u64 {
@@ -88,6 +103,11 @@ impl fmt::Display for Tally {
         for (number, times) in self.answers.iter().enumerate() {
             if *times > 0 {
                 write!(f, " {number}:{times}")?;
+            }
+        }
+        for (letter, times) in LETTERS.iter().zip(self.samples) {
+            if times > 0 {
+                write!(f, " {letter}:{times}")?;
             }
         }
         let seen = &self.seen;

@@ -1,23 +1,24 @@
 //! What `examples/card.c` is to print, worked out by the model.
 
-use differential::{Call, Model};
+use differential::{answer_of, Call, Model};
 use model::gen::E;
-use model::Settings;
-use nscc::{Ack, Nack};
+use model::{Outcome, Settings};
+use nscc::{sampled, Ack, Nack, Sample};
 use std::fmt::Write;
 
 struct Card {
     model: Model,
+    samples: Vec<Sample>,
     text: String,
 }
 
 impl Card {
-    fn show(&mut self, name: &str, call: Call) -> u64 {
-        let answer = self.model.answer(&call);
+    fn show(&mut self, name: &str, call: Call) -> Outcome {
+        let outcome = self.model.answer(&call);
         let state = self.model.state().expect("words of a state");
         self.line(&format!(
             "{name} {} {} {} {} {} {} {}",
-            answer as u32,
+            outcome.number,
             state.in_flight,
             state.cwnd,
             state.flying,
@@ -25,7 +26,15 @@ impl Card {
             state.backlog,
             state.name
         ));
-        answer
+        outcome
+    }
+
+    /// An ACK or a NACK, which must be accepted.
+    fn show_sample(&mut self, name: &str, call: Call) {
+        let answer = answer_of(self.show(name, call));
+        let sample = sampled(answer).expect("accepted");
+        self.line(&format!("{name}: {sample}"));
+        self.samples.push(sample);
     }
 
     fn line(&mut self, line: &str) {
@@ -57,13 +66,14 @@ impl Card {
             marked: false,
             retx,
         };
-        self.show(name, Call::Ack(ack));
+        self.show_sample(name, Call::Ack(ack));
     }
 
     fn path(&mut self, time: u64) -> u32 {
-        let ev = (self.show("path", Call::Path { time }) >> 32) as u32;
+        let outcome = self.show("path", Call::Path { time });
+        let ev = outcome.ev.expect("accepted");
         self.line(&format!("EV {ev}"));
-        ev
+        ev.into()
     }
 }
 
@@ -81,7 +91,7 @@ fn worked(card: &mut Card) {
     card.ack("ack-0", 110, 0, 16, 0, false);
 }
 
-/// A packet that is trimmed, sent again and acknowledged.
+/// A packet that is trimmed, sent again and acknowledged twice.
 fn trimmed(card: &mut Card) {
     let ev = card.path(120);
     card.send("send-1", 130, 1, false);
@@ -93,18 +103,29 @@ fn trimmed(card: &mut Card) {
         marked: false,
         retx: false,
     };
-    card.show("nack-1", Call::Nack(nack));
+    card.show_sample("nack-1", Call::Nack(nack));
     let until = card.model.memory.ev_times[ev as usize];
     card.line(&format!("EV {ev} is avoided until {until}"));
     let ev = card.path(235);
     card.send("resend-1", 240, 1, true);
     card.ack("ack-1", 340, 1, 32, ev, true);
+    card.ack("copy", 341, 1, 32, ev, true);
+}
+
+/// How often each came.
+fn count(card: &mut Card) {
+    let times = |sample| card.samples.iter().filter(|&&s| s == sample).count();
+    let [taken, cut, gone, ambiguous, not_positive] = Sample::ALL.map(times);
+    card.line(&format!(
+        "samples {taken}, cut {cut}, gone {gone}, ambiguous {ambiguous}, not positive {not_positive}"
+    ));
 }
 
 #[test]
 fn card() {
     let mut card = Card {
         model: Model::empty(64),
+        samples: Vec::new(),
         text: String::new(),
     };
     card.line("call ans inflight cwnd flying waiting backlog state");
@@ -113,11 +134,12 @@ fn card() {
     let mut state = card.model.state().expect("words of a state");
     let (base, avg) = (state.base, state.avg);
     card.line(&format!("base {base}, average {avg}/1024 ticks"));
+    count(&mut card);
     state.cwnd = 0;
     card.model.set_state(&state);
     let (time, bytes) = (341, 1);
-    let answer = card.model.answer(&Call::NewData { time, bytes });
-    card.line(&format!("a window of 0: {answer}"));
+    let refused = card.model.answer(&Call::NewData { time, bytes });
+    card.line(&format!("a window of 0: {}", refused.number));
 
     let file = concat!(env!("CARGO_MANIFEST_DIR"), "/../../examples/card.out");
     let expected = std::fs::read_to_string(file).expect("examples/card.out");

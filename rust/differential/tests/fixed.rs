@@ -50,6 +50,7 @@ fn streams() {
     let rules = [seen.cuts, seen.quick_adapts, seen.fast_modes, seen.clamps];
     often(&tally, &rules, 100);
     often(&tally, &[seen.psn_wraps, seen.below_zero], 10);
+    often(&tally, &tally.samples, 100);
 }
 
 #[test]
@@ -57,6 +58,7 @@ fn logs() {
     let tally = run(Kind::Logs, 800);
     all_met(&tally, &[0, 3, 5, 6, 8, 9, 10, 11], 20);
     all_met(&tally, &FIELDS, 20);
+    often(&tally, &tally.samples, 100);
 }
 
 #[test]
@@ -67,6 +69,7 @@ fn states() {
     let seen = &tally.seen;
     let rare = [seen.stops, seen.clamps, seen.count_wraps, seen.psn_wraps];
     often(&tally, &rare, 100);
+    often(&tally, &tally.samples, 100);
 }
 
 #[test]
@@ -74,6 +77,7 @@ fn spoilt() {
     let tally = run(Kind::Spoilt, 2_000);
     all_met(&tally, &[0, 2, 3], 100);
     all_met(&tally, &FIELDS, 100);
+    often(&tally, &tally.samples, 20);
 }
 
 #[test]
@@ -81,6 +85,7 @@ fn replay() {
     let tally = run(Kind::Replay, 2_400);
     all_met(&tally, &[0, 1, 3, 5, 6, 8, 9, 10, 11, 12], 5);
     all_met(&tally, &FIELDS, 5);
+    often(&tally, &tally.samples, 100);
 }
 
 #[test]
@@ -88,6 +93,7 @@ fn text() {
     let tally = run(Kind::Text, 2_400);
     all_met(&tally, &[0, 1, 3, 5, 6, 8, 9, 10, 11, 12], 5);
     all_met(&tally, &FIELDS, 5);
+    often(&tally, &tally.samples, 100);
 }
 
 #[test]

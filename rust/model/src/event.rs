@@ -9,6 +9,7 @@ use crate::check::number_two;
 use crate::ledger::covers;
 use crate::lent::{Lent, FLYING, MARKED};
 use crate::refusal::{number, Refusal};
+use crate::sampling::Sampling;
 use crate::settings::Settings;
 use crate::state::State;
 
@@ -109,20 +110,27 @@ impl From<Loss> for Event {
     }
 }
 
-/// What an event answers: 0 or the refusal number, and the EV of an accepted path choice.
+/// What an event answers: 0 or the refusal number, the EV of an accepted path choice, and what an
+/// accepted ACK or NACK says of its sample (M-103).
 #[derive(Clone, Copy, Debug, PartialEq, Eq)]
 pub struct Outcome {
     pub number: u8,
     pub ev: Option<u8>,
+    pub sampling: Option<Sampling>,
 }
 
 impl From<u8> for Outcome {
     fn from(number: u8) -> Outcome {
-        Outcome { number, ev: None }
+        Outcome {
+            number,
+            ev: None,
+            sampling: None,
+        }
     }
 }
 
-/// The calls from outside: number 2 is tested in full. Each returns 0 or the refusal number.
+/// The calls from outside: number 2 is tested in full. Each returns 0 or the refusal number; ACK,
+/// NACK and path choice return what goes with an acceptance too.
 impl State {
     /// The answer with the fresh state, or with a state of zeros if refused.
     pub fn set_up(settings: &Settings, lent: &mut Lent) -> (u8, State) {
@@ -147,12 +155,12 @@ impl State {
         )
     }
 
-    pub fn ack(&mut self, lent: &mut Lent, event: &Ack) -> u8 {
-        number(self.together(lent).and_then(|()| self.try_ack(lent, event)))
+    pub fn ack(&mut self, lent: &mut Lent, event: &Ack) -> Outcome {
+        sampling_outcome(self.together(lent).and_then(|()| self.try_ack(lent, event)))
     }
 
-    pub fn nack(&mut self, lent: &mut Lent, event: &Nack) -> u8 {
-        number(
+    pub fn nack(&mut self, lent: &mut Lent, event: &Nack) -> Outcome {
+        sampling_outcome(
             self.together(lent)
                 .and_then(|()| self.try_nack(lent, event)),
         )
@@ -173,8 +181,8 @@ impl State {
         match event {
             Event::NewData(event) => self.new_data(lent, event).into(),
             Event::Send(event) => self.send(lent, event).into(),
-            Event::Ack(event) => self.ack(lent, event).into(),
-            Event::Nack(event) => self.nack(lent, event).into(),
+            Event::Ack(event) => self.ack(lent, event),
+            Event::Nack(event) => self.nack(lent, event),
             Event::Loss(event) => self.loss(lent, event).into(),
             Event::Path { time } => self.path(lent, *time),
         }
@@ -191,12 +199,12 @@ impl State {
         number(self.try_send(lent, event))
     }
 
-    pub fn ack_trusted(&mut self, lent: &mut Lent, event: &Ack) -> u8 {
-        number(self.try_ack(lent, event))
+    pub fn ack_trusted(&mut self, lent: &mut Lent, event: &Ack) -> Outcome {
+        sampling_outcome(self.try_ack(lent, event))
     }
 
-    pub fn nack_trusted(&mut self, lent: &mut Lent, event: &Nack) -> u8 {
-        number(self.try_nack(lent, event))
+    pub fn nack_trusted(&mut self, lent: &mut Lent, event: &Nack) -> Outcome {
+        sampling_outcome(self.try_nack(lent, event))
     }
 
     pub fn loss_trusted(&mut self, lent: &mut Lent, event: &Loss) -> u8 {
@@ -211,8 +219,8 @@ impl State {
         match event {
             Event::NewData(event) => self.new_data_trusted(event).into(),
             Event::Send(event) => self.send_trusted(lent, event).into(),
-            Event::Ack(event) => self.ack_trusted(lent, event).into(),
-            Event::Nack(event) => self.nack_trusted(lent, event).into(),
+            Event::Ack(event) => self.ack_trusted(lent, event),
+            Event::Nack(event) => self.nack_trusted(lent, event),
             Event::Loss(event) => self.loss_trusted(lent, event).into(),
             Event::Path { time } => self.path_trusted(lent, *time),
         }
@@ -222,8 +230,18 @@ impl State {
 fn path_outcome(answer: Result<u8, Refusal>) -> Outcome {
     match answer {
         Ok(ev) => Outcome {
-            number: 0,
             ev: Some(ev),
+            ..Outcome::from(0)
+        },
+        Err(refusal) => refusal.number().into(),
+    }
+}
+
+fn sampling_outcome(answer: Result<Sampling, Refusal>) -> Outcome {
+    match answer {
+        Ok(sampling) => Outcome {
+            sampling: Some(sampling),
+            ..Outcome::from(0)
         },
         Err(refusal) => refusal.number().into(),
     }
@@ -275,7 +293,7 @@ impl State {
         Ok(())
     }
 
-    fn try_ack(&mut self, lent: &mut Lent, event: &Ack) -> Result<(), Refusal> {
+    fn try_ack(&mut self, lent: &mut Lent, event: &Ack) -> Result<Sampling, Refusal> {
         let now = event.time;
         self.time_allowed(now)?;
         Refusal::Count.unless(event.count < COUNT_END)?;
@@ -287,21 +305,21 @@ impl State {
         Refusal::InFlight.unless(self.may_fall_by(falls_by))?;
 
         let base_before = self.base;
-        let sample = self.sample(lent, now, event.trigger, event.service, event.retx);
+        let sampling = self.sample(lent, now, event.trigger, event.service, event.retx);
         self.deliver_covered(lent, event.cum, event.map);
         let newly = match forward {
             Some(units) => self.take_count(event.count, units),
             None => 0,
         };
-        self.window_on_ack(now, newly, sample, event.marked);
+        self.window_on_ack(now, newly, sampling, event.marked);
         if event.marked {
             lent.ev_times[usize::from(event.ev)] = now + base_before;
         }
         self.finish(now);
-        Ok(())
+        Ok(sampling)
     }
 
-    fn try_nack(&mut self, lent: &mut Lent, event: &Nack) -> Result<(), Refusal> {
+    fn try_nack(&mut self, lent: &mut Lent, event: &Nack) -> Result<Sampling, Refusal> {
         let now = event.time;
         self.time_allowed(now)?;
         Refusal::Reason.unless(event.reason <= OTHER)?;
@@ -309,9 +327,9 @@ impl State {
         let slot = self.lost_slot(lent, event.psn)?;
 
         let base_before = self.base;
-        let sample = self.sample(lent, now, event.psn, 0, event.retx);
+        let sampling = self.sample(lent, now, event.psn, 0, event.retx);
         let size = self.mark(lent, slot);
-        if let Some(sample) = sample {
+        if let Some(sample) = sampling.ticks() {
             self.lower_base(sample);
         }
         if event.reason != OTHER {
@@ -322,7 +340,7 @@ impl State {
             lent.ev_times[usize::from(event.ev)] = now + base_before;
         }
         self.finish(now);
-        Ok(())
+        Ok(sampling)
     }
 
     fn try_loss(&mut self, lent: &mut Lent, event: &Loss) -> Result<(), Refusal> {

@@ -2,7 +2,8 @@
 //! next entropy value (EV), with the event log and its replay.
 //!
 //! [`State`] holds every number, [`Lent`] the ring and the EV times. Each event changes both in
-//! place and returns 0, or the refusal number of 01 and changes nothing.
+//! place and returns 0, or the refusal number of 01 and changes nothing. An accepted ACK or NACK
+//! says what became of its sample: [`Sampling`].
 
 #![forbid(unsafe_code)]
 
@@ -17,6 +18,7 @@ mod path;
 pub mod refusal;
 pub mod replay;
 pub mod rng;
+mod sampling;
 pub mod settings;
 pub mod state;
 pub mod vectors;
@@ -29,5 +31,6 @@ pub use log::{parse, write, Reader, Record};
 pub use refusal::Refusal;
 pub use replay::replay;
 pub use rng::Rng;
+pub use sampling::Sampling;
 pub use settings::Settings;
 pub use state::{Name, State};

@@ -1,7 +1,7 @@
-//! Samples, the delay average and the window of 01.
+//! The delay average and the window of 01.
 
-use crate::bounds::{AVG_PARTS, INC_BYTES_MAX, SAMPLE_MAX, TALLY_MAX};
-use crate::lent::{Lent, FLYING, MARKED};
+use crate::bounds::{AVG_PARTS, INC_BYTES_MAX, TALLY_MAX};
+use crate::sampling::Sampling;
 use crate::state::State;
 
 /// `tally + bytes`, stopping at 2^40.
@@ -10,40 +10,12 @@ fn tally(tally: u64, bytes: u64) -> u64 {
 }
 
 impl State {
-    /// The round-trip sample that a report on packet `psn` gives, if one exists. Looks at the ring
-    /// before the event's ledger step.
-    pub(crate) fn sample(
-        &self,
-        lent: &Lent,
-        now: u64,
-        psn: u32,
-        service: u32,
-        retx: bool,
-    ) -> Option<u64> {
-        let slot = self.slot_of(lent, psn)?;
-        let not_done = matches!(lent.status[slot], FLYING | MARKED);
-        let unambiguous = lent.resent[slot] == u8::from(retx);
-        if !(not_done && unambiguous) {
-            return None;
-        }
-        (now - lent.sent[slot])
-            .checked_sub(u64::from(service))
-            .filter(|&sample| sample >= 1)
-            .map(|sample| sample.min(SAMPLE_MAX))
-    }
-
     /// The window rules of an ACK, after its ledger step.
-    pub(crate) fn window_on_ack(
-        &mut self,
-        now: u64,
-        newly: u64,
-        sample: Option<u64>,
-        marked: bool,
-    ) {
+    pub(crate) fn window_on_ack(&mut self, now: u64, newly: u64, sampling: Sampling, marked: bool) {
         self.ignored = tally(self.ignored, newly);
         self.received = tally(self.received, newly);
         self.achieved = tally(self.achieved, newly);
-        let delay = self.delay_on_ack(sample, marked);
+        let delay = self.delay_on_ack(sampling, marked);
         if self.quick_adapt(now, false, marked, delay) {
             return;
         }
@@ -57,8 +29,8 @@ impl State {
     }
 
     /// The delay of this ACK; without a sample it is the average, and the filter is not fed.
-    fn delay_on_ack(&mut self, sample: Option<u64>, marked: bool) -> u64 {
-        let Some(sample) = sample else {
+    fn delay_on_ack(&mut self, sampling: Sampling, marked: bool) -> u64 {
+        let Some(sample) = sampling.ticks() else {
             return self.average();
         };
         self.lower_base(sample);

@@ -1,6 +1,7 @@
 use crate::event::{Ack, Nack, Settings};
 use crate::raw::Lent;
 use crate::refusal::{answer, Refusal};
+use crate::sample::{sampled, Sample};
 use crate::word::{Phase, PlaceWord, Word, EVS, IN_FLIGHT_ADDED, PLACE, WORDS};
 
 /// One congestion control context with its memory: the state's words, the ring and the EV times.
@@ -78,12 +79,14 @@ impl Context {
         accepted(self.lend().send(time, psn, bytes, resend))
     }
 
-    pub fn ack(&mut self, ack: &Ack) -> Result<(), Refusal> {
-        accepted(self.lend().ack(ack))
+    /// What the trigger's sample is.
+    pub fn ack(&mut self, ack: &Ack) -> Result<Sample, Refusal> {
+        sampled(self.lend().ack(ack))
     }
 
-    pub fn nack(&mut self, nack: &Nack) -> Result<(), Refusal> {
-        accepted(self.lend().nack(nack))
+    /// What the packet's sample is.
+    pub fn nack(&mut self, nack: &Nack) -> Result<Sample, Refusal> {
+        sampled(self.lend().nack(nack))
     }
 
     pub fn loss(&mut self, time: u64, psn: u32, ev: u32) -> Result<(), Refusal> {
@@ -96,7 +99,7 @@ impl Context {
     }
 
     /// Replays the log from `place` on; how many answers were given. Go on until that is 0.
-    /// [`answer`] reads an answer.
+    /// [`answer`] reads an answer, [`sampled`] one of an ACK or a NACK.
     pub fn replay(
         &mut self,
         place: &mut Place,

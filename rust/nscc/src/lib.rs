@@ -7,9 +7,11 @@ mod context;
 mod event;
 pub mod raw;
 mod refusal;
+mod sample;
 mod word;
 
 pub use context::{Context, Place};
 pub use event::{Ack, Nack, Settings};
 pub use refusal::{answer, Refusal};
+pub use sample::{sampled, Sample};
 pub use word::{Phase, PlaceWord, Word, EVS, IN_FLIGHT_ADDED, PLACE, SETTINGS, WORDS};

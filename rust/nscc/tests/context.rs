@@ -1,6 +1,8 @@
 //! The wrapper itself: the worked example of 01 by its methods, and a log by its replay.
 
-use nscc::{answer, Ack, Context, Nack, Phase, Place, PlaceWord, Refusal, Settings, Word};
+use nscc::{
+    answer, sampled, Ack, Context, Nack, Phase, Place, PlaceWord, Refusal, Sample, Settings, Word,
+};
 
 /// The settings E of 01.
 fn e() -> Settings {
@@ -46,7 +48,7 @@ fn the_worked_example() {
     assert_eq!(context.send(20, 2, 4096, false), Err(Refusal::WrongPsn));
     assert_eq!(context, before);
     assert_eq!(context.in_flight(), 4096);
-    assert_eq!(context.ack(&worked_ack()), Ok(()));
+    assert_eq!(context.ack(&worked_ack()), Ok(Sample::Taken));
     assert_eq!(context.in_flight(), 0);
     assert_eq!(context.word(Word::Cwnd), 614_400);
     assert_eq!(context.word(Word::BacklogBytes), 4096);
@@ -75,9 +77,59 @@ fn paths_and_losses() {
         retx: false,
     };
     assert_eq!(context.nack(&nack), Err(Refusal::NotFlying));
-    assert_eq!(context.nack(&Nack { psn: 1, ..nack }), Ok(()));
+    let nack = Nack { psn: 1, ..nack };
+    assert_eq!(context.nack(&nack), Ok(Sample::Taken));
     assert_eq!(context.word(Word::Marked), 2);
     assert_eq!(context.in_flight(), 100);
+}
+
+/// 96 ticks, 2^20 + 1 of them, and each way to have no sample.
+#[test]
+fn samples() {
+    let mut context = Context::set_up(&e(), 64).expect("good settings");
+    assert_eq!(context.new_data(0, 500), Ok(()));
+    for psn in 0..5 {
+        assert_eq!(context.send(0, psn, 100, false), Ok(()));
+    }
+    let ack = |time, psn| Ack {
+        time,
+        cum: psn,
+        trigger: psn,
+        count: 0,
+        service: 0,
+        ..worked_ack()
+    };
+    let nack = |time, psn| Nack {
+        time,
+        psn,
+        ev: 0,
+        reason: 2,
+        marked: false,
+        retx: false,
+    };
+    assert_eq!(context.nack(&nack(0, 4)), Ok(Sample::NotPositive));
+    assert_eq!(context.ack(&ack(96, 0)), Ok(Sample::Taken));
+    assert_eq!(context.ack(&ack(96, 0)), Ok(Sample::Gone));
+    let retx = Nack {
+        retx: true,
+        ..nack(96, 3)
+    };
+    assert_eq!(context.nack(&retx), Ok(Sample::Ambiguous));
+    let late = (1 << 20) + 1;
+    assert_eq!(context.nack(&nack(late, 1)), Ok(Sample::Cut));
+    assert_eq!(context.ack(&ack(late, 2)), Ok(Sample::Cut));
+    assert_eq!(context.ack(&ack(late, 5)), Err(Refusal::UnsentOrOld));
+}
+
+#[test]
+fn answers() {
+    for sample in Sample::ALL {
+        let word = u64::from(sample.number()) << 32;
+        assert_eq!(sampled(word), Ok(sample));
+        assert_eq!(answer(word), Ok(sample.number()));
+    }
+    assert_eq!(sampled(9), Err(Refusal::UnsentOrOld));
+    assert_eq!((Sample::of(0), Sample::of(6)), (None, None));
 }
 
 #[test]

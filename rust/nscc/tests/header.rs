@@ -1,6 +1,6 @@
 //! The names and numbers of the wrapper are those of `include/nscc.h`.
 
-use nscc::{PlaceWord, Refusal, Word, EVS, IN_FLIGHT_ADDED, PLACE, SETTINGS, WORDS};
+use nscc::{PlaceWord, Refusal, Sample, Word, EVS, IN_FLIGHT_ADDED, PLACE, SETTINGS, WORDS};
 use std::fmt::Debug;
 
 const HEADER: &str = include_str!("../../../include/nscc.h");
@@ -69,6 +69,18 @@ fn refusals() {
         // The names of C's enums share one space, where TRIGGER is a word of the state.
         let name = name.strip_prefix("BAD_").unwrap_or(name);
         assert_eq!(letters(refusal), letters(name));
+    }
+}
+
+#[test]
+fn samples() {
+    let header = names("nscc_sample");
+    assert_eq!(header[0], ("SAMPLE_UNTOLD".to_string(), Some(0)));
+    assert_eq!(header.len(), 1 + Sample::ALL.len());
+    for ((name, number), sample) in header[1..].iter().zip(Sample::ALL) {
+        assert_eq!(*number, Some(sample.number().into()));
+        let name = name.strip_prefix("SAMPLE_").expect("its enum's name");
+        assert_eq!(letters(sample), letters(name));
     }
 }
 

@@ -1,16 +1,12 @@
--- `nscc_ack` is the event, whose number fits 32 bits.
+-- `nscc_ack` is the event, its word whole.
 use mathlib.Core.Path.{_∙_}
-use native.Mathlib.Omega.{arith}
 use borrow.Author.Needs.{needs}
-use Rattle.exports.proofs.Singles.{ack-single, words-on, word-most}
+use Rattle.exports.proofs.Singles.{ack-double, beside-words-on}
 use Rattle.exports.proofs.nscc_ack.Statement.{statement}
 use Rattle.exports.proofs.nscc_ack.Tie as tie
 
 take-requires : tie.Need-take-requires
 take-requires c κs = search needs
-
-cast-result : tie.Need-cast-result
-cast-result c = omega (arith, word-most _ _ _ _ _ (λ w. ack-single _ w _) _ (c .before .before .before .before .before .before .before .before .before .before .before .before .take .ensures))
 
 same-length : tie.Need-same-length
 same-length c = search needs
@@ -31,9 +27,9 @@ same-length-6 : tie.Need-same-length-6
 same-length-6 c = search needs
 
 returns : tie.Need-returns
-returns c = c .before .before .before .before .before .before .before .before .before .before .before .before .take .ensures ∙ words-on _ _ _ _ _ (λ w. ack-single _ w _)
+returns c = c .before .before .before .before .before .before .before .before .before .before .before .before .take .ensures ∙ beside-words-on _ _ _ _ _ (λ w. ack-double _ w _)
 
 pub nscc-ack-spec : {M : Type 1} → statement M
 nscc-ack-spec =
     tie.close
-    (tie.spec take-requires cast-result same-length same-length-2 same-length-3 same-length-4 same-length-5 same-length-6 returns)
+    (tie.spec take-requires same-length same-length-2 same-length-3 same-length-4 same-length-5 same-length-6 returns)

@@ -1,7 +1,7 @@
 -- `nscc_path` is the event, its word whole.
 use mathlib.Core.Path.{_∙_}
 use borrow.Author.Needs.{needs}
-use Rattle.exports.proofs.Singles.{path-words-on}
+use Rattle.exports.proofs.Singles.{path-double, beside-words-on}
 use Rattle.exports.proofs.nscc_path.Statement.{statement}
 use Rattle.exports.proofs.nscc_path.Tie as tie
 
@@ -27,7 +27,7 @@ same-length-6 : tie.Need-same-length-6
 same-length-6 c = search needs
 
 returns : tie.Need-returns
-returns c = c .before .before .before .before .before .before .before .before .before .before .before .before .take .ensures ∙ path-words-on _ _ _ _
+returns c = c .before .before .before .before .before .before .before .before .before .before .before .before .take .ensures ∙ beside-words-on _ _ _ _ _ (path-double _)
 
 pub nscc-path-spec : {M : Type 1} → statement M
 nscc-path-spec =

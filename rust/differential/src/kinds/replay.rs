@@ -8,7 +8,7 @@ use crate::sides::{Model, Ours};
 use crate::spoil::spoil;
 use crate::tally::Tally;
 use model::replay::Replay;
-use model::{Record, Rng};
+use model::{Outcome, Record, Rng};
 use nscc::{PlaceWord, PLACE, WORDS};
 use std::fmt::Write;
 
@@ -91,10 +91,10 @@ struct Batches<'a> {
     model: Model,
 }
 
-/// What the model answers to a batch.
+/// What the model answers to a batch, and to each of its records.
 struct Expected {
     number: u32,
-    answers: Vec<u64>,
+    outcomes: Vec<Outcome>,
 }
 
 impl<'a> Batches<'a> {
@@ -120,11 +120,11 @@ impl<'a> Batches<'a> {
         if number != expected.number {
             return Err(format!("answered {number}, the model {}", expected.number));
         }
-        let many = expected.answers.len();
+        let many = expected.outcomes.len();
         let (told, untold) = answers.split_at(many);
-        let differing = (0..many).find(|&i| told[i] != expected.answers[i]);
-        if let Some(i) = differing {
-            let (ours, model) = (told[i], expected.answers[i]);
+        let models = expected.outcomes.iter().map(|&outcome| answer_of(outcome));
+        let mut pairs = told.iter().zip(models).enumerate();
+        if let Some((i, (ours, model))) = pairs.find(|(_, (&ours, model))| ours != *model) {
             let done = self.at(PlaceWord::Done);
             return Err(format!(
                 "answer {i} of {many}, {done} records done: {ours:#x}, the model's {model:#x}"
@@ -137,10 +137,9 @@ impl<'a> Batches<'a> {
             return Err(format!("place {place:?}, the model's {:?}", self.place));
         }
         self.ours.compare(&self.model)?;
-        expected
-            .answers
-            .iter()
-            .for_each(|&answer| tally.count(answer));
+        for outcome in expected.outcomes {
+            tally.count(outcome);
+        }
         Ok(many)
     }
 
@@ -148,7 +147,7 @@ impl<'a> Batches<'a> {
     fn expect(&mut self, room: usize) -> Expected {
         let mut expected = Expected {
             number: 0,
-            answers: Vec::new(),
+            outcomes: Vec::new(),
         };
         if self.place.len() != PLACE || self.model.words.len() != WORDS {
             expected.number = UNSOUND;
@@ -161,13 +160,13 @@ impl<'a> Batches<'a> {
             return expected;
         }
         if !stopped {
-            self.step_through(room, &mut expected.answers);
+            self.step_through(room, &mut expected.outcomes);
         }
-        self.place[PlaceWord::Answered as usize] = expected.answers.len() as u64;
+        self.place[PlaceWord::Answered as usize] = expected.outcomes.len() as u64;
         expected
     }
 
-    fn step_through(&mut self, room: usize, answers: &mut Vec<u64>) {
+    fn step_through(&mut self, room: usize, outcomes: &mut Vec<Outcome>) {
         let [mut at, mut done, mut stopped] = [self.place[0], self.place[1], self.place[2]];
         let start = at;
         let rest = &self.log[start as usize..];
@@ -178,16 +177,16 @@ impl<'a> Batches<'a> {
         } else {
             Replay::new(rest, lent)
         };
-        while answers.len() < room && stopped == 0 {
+        while outcomes.len() < room && stopped == 0 {
             match replay.step() {
                 Ok(None) => break,
                 Ok(Some(outcome)) => {
-                    answers.push(answer_of(outcome));
+                    outcomes.push(outcome);
                     done += 1;
                     at = start + replay.offset() as u64;
                 }
                 Err(number) => {
-                    answers.push(number.into());
+                    outcomes.push(number.into());
                     stopped = 1;
                     // A record that is refused with 12 is not done; refused settings are.
                     if number != MALFORMED {
@@ -200,7 +199,7 @@ impl<'a> Batches<'a> {
         let state = replay.state;
         self.place[..3].copy_from_slice(&[at, done, stopped]);
         // Before record 1 there is no state, and without an answer none is stored.
-        if done > 0 && !answers.is_empty() {
+        if done > 0 && !outcomes.is_empty() {
             self.model.set_state(&state);
         }
     }

@@ -145,9 +145,12 @@ fn difference(ours: &str, expected: &str) -> String {
 
 fn count(text: &str, tally: &mut Tally) {
     for line in text.lines().skip(1) {
-        let answer = line.split(' ').nth(1).and_then(|word| word.parse().ok());
-        if let Some(answer) = answer {
-            tally.count(answer);
+        let mut words = line.split(' ').skip(1);
+        let number = words.next().and_then(|word| word.parse().ok());
+        // An EV or an offset of one digit is a character too, and counts for nothing.
+        let letter = words.last().and_then(|word| word.parse().ok());
+        if let Some(number) = number {
+            tally.tell(number, letter);
         }
     }
 }

@@ -10,6 +10,7 @@ mod long;
 mod malformed;
 mod refusals;
 mod samples;
+mod sampling;
 mod window;
 
 use crate::replay::replay;
@@ -34,6 +35,7 @@ pub fn bundled() -> Vec<Vector> {
         refusals::logs(),
         ledger::logs(),
         samples::logs(),
+        sampling::logs(),
         window::logs(),
         ceiling::logs(),
         malformed::logs(),

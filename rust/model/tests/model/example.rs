@@ -61,7 +61,7 @@ fn the_worked_example() {
          2 0 0 614400 0 0 8192 READY\n\
          3 0 4096 614400 1 0 4096 READY\n\
          4 8 4096 614400 1 0 4096 READY\n\
-         5 0 0 614400 0 0 4096 READY\n"
+         5 0 0 614400 0 0 4096 READY s\n"
     );
 }
 
@@ -114,7 +114,7 @@ fn all_state_names_and_a_negative_in_flight() {
                  4 0 8192 8192 2 0 0 PENDING\n\
                  5 0 8192 8192 2 0 100 ACTIVE\n\
                  6 6 8192 8192 2 0 100 ACTIVE\n\
-                 7 0 -4096 8192 1 0 100 READY\n\
+                 7 0 -4096 8192 1 0 100 READY s\n\
                  8 0 -3996 8192 2 0 0 PENDING\n\
                  9 0 -8092 4096 1 1 0 READY\n";
     assert_eq!(replay(&log), format!("{HEADER}{lines}"));

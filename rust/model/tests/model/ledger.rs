@@ -168,5 +168,5 @@ fn the_received_count_goes_round_in_a_long_log() {
     // 1 settings record, then 1,026 records for each ACK: the 257th is record 263,683. The base is
     // then 90, the shortest round trip, and the window 2^26 * 90 / 96.
     let after_wrap = text.lines().nth(1 + 1_026 * 257).unwrap();
-    assert_eq!(after_wrap, "263683 0 0 62914560 0 0 0 IDLE");
+    assert_eq!(after_wrap, "263683 0 0 62914560 0 0 0 IDLE s");
 }

@@ -12,6 +12,7 @@ mod random;
 mod refusals;
 mod rig;
 mod samples;
+mod sampling;
 mod stops;
 mod vectors;
 mod window;

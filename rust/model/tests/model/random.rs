@@ -1,7 +1,7 @@
 //! Random logs against a naive ledger that knows no wrap and no ring, and random garbage.
 
 use crate::rig::*;
-use model::{gen, Event, Memory, Name, Reader, Refusal, Rng, Settings, State};
+use model::{gen, Event, Memory, Name, Outcome, Reader, Refusal, Rng, Settings, State};
 use std::collections::BTreeMap;
 
 /// Room for every number of an answer.
@@ -140,6 +140,9 @@ struct Seen {
     /// Answers by number.
     answers: [u32; NUMBERS],
     names: [u32; 4],
+    /// What accepted ACKs and NACKs said of their samples, by the letter.
+    on_acks: BTreeMap<char, u32>,
+    on_nacks: BTreeMap<char, u32>,
     cuts: u32,
     fired: u32,
     fast: u32,
@@ -150,10 +153,19 @@ struct Seen {
 }
 
 impl Seen {
-    fn note(&mut self, event: &Event, answer: u8, before: &State, after: &State) {
-        self.answers[usize::from(answer)] += 1;
-        if answer != 0 {
+    fn note(&mut self, event: &Event, outcome: Outcome, before: &State, after: &State) {
+        self.answers[usize::from(outcome.number)] += 1;
+        if outcome.number != 0 {
             return;
+        }
+        if let Some(sampling) = outcome.sampling {
+            let of_ack = matches!(event, Event::Ack(_));
+            let letters = if of_ack {
+                &mut self.on_acks
+            } else {
+                &mut self.on_nacks
+            };
+            *letters.entry(sampling.letter()).or_default() += 1;
         }
         self.kinds[match event {
             Event::NewData(_) => 0,
@@ -176,6 +188,16 @@ impl Seen {
         self.clamped += u32::from(before.cwnd > after.max_wnd());
         self.wraps += u32::from(after.low < before.low);
         self.negative += u32::from(after.in_flight < 0);
+    }
+
+    /// These letters and no others, each at least so often.
+    #[track_caller]
+    fn letters(&self, on_acks: &str, on_nacks: &str, least: u32) {
+        for (seen, expected) in [(&self.on_acks, on_acks), (&self.on_nacks, on_nacks)] {
+            let letters: String = seen.keys().collect();
+            let enough = seen.values().all(|&times| times >= least);
+            assert!(letters == expected && enough, "{seen:?}");
+        }
     }
 }
 
@@ -210,7 +232,7 @@ fn follow(log: &[u8], seen: &mut Seen) {
         }
         naive.check(&rig.state, &rig.memory);
         check_window(&rig.state);
-        seen.note(&event, outcome.number, &before.state, &rig.state);
+        seen.note(&event, outcome, &before.state, &rig.state);
     }
 }
 
@@ -232,6 +254,8 @@ fn realistic_logs() {
     );
     let rules = [seen.cuts, seen.fired, seen.fast, seen.clamped, seen.wraps];
     assert!(rules.iter().all(|&times| times > 10), "{rules:?}");
+    // No round trip of theirs is so long or so short.
+    seen.letters("ags", "as", 10);
     // A sender that keeps to the rules is seldom refused.
     let refused: u32 = seen.answers[1..].iter().sum();
     assert!(refused * 100 < seen.answers[0], "{:?}", seen.answers);
@@ -271,6 +295,8 @@ fn hostile_logs() {
         seen.names
     );
     assert!(seen.clamped > 10 && seen.wraps > 3 && seen.negative > 100);
+    // A NACK's packet flies, so it is not gone.
+    seen.letters("acgns", "acns", 10);
 }
 
 #[test]

@@ -1,7 +1,7 @@
 //! Each refusal number at its edge: one step inside, one outside. And their order.
 
 use crate::rig::*;
-use model::{Ack, Loss, Memory, Nack, Settings, State};
+use model::{Ack, Loss, Memory, Nack, Outcome, Settings, State};
 
 const NOW: u64 = 10_050;
 
@@ -573,9 +573,10 @@ fn the_trusted_forms_refuse_alike() {
         assert_eq!(state.take_trusted(&mut lent, &event).number, 3);
     }
     let (early, late) = (ack(NOW, 104, 0), ack(NOW, 100, 70_000));
-    assert_eq!(state.ack_trusted(&mut lent, &early), 9);
-    assert_eq!(state.ack_trusted(&mut lent, &late), 11);
-    assert_eq!(state.nack_trusted(&mut lent, &nack(NOW, 102, 0)), 10);
+    assert_eq!(state.ack_trusted(&mut lent, &early), Outcome::from(9));
+    assert_eq!(state.ack_trusted(&mut lent, &late), Outcome::from(11));
+    let marked = nack(NOW, 102, 0);
+    assert_eq!(state.nack_trusted(&mut lent, &marked), Outcome::from(10));
     assert_eq!(state.loss_trusted(&mut lent, &loss(NOW, 102)), 10);
     assert_eq!(rig, before);
 }

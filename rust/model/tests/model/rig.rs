@@ -125,6 +125,9 @@ impl Rig {
         assert!(self.holds(), "before {event:?}: {:?}", self.state);
         let outcome = self.take(event);
         assert_eq!(outcome.number, 0, "{event:?}");
+        assert_eq!(outcome.ev.is_some(), matches!(event, Event::Path { .. }));
+        let reports = matches!(event, Event::Ack(_) | Event::Nack(_));
+        assert_eq!(outcome.sampling.is_some(), reports, "{event:?}");
         assert_eq!(self.state.clock, time_of(&event));
         assert!(self.holds(), "after {event:?}: {:?}", self.state);
         outcome
@@ -136,7 +139,7 @@ impl Rig {
         let event = event.into();
         let before = self.clone();
         let outcome = self.take(event);
-        assert_eq!((outcome.number, outcome.ev), (number, None), "{event:?}");
+        assert_eq!(outcome, Outcome::from(number), "{event:?}");
         assert_eq!(*self, before);
     }
 

@@ -1,7 +1,7 @@
 //! The bundled logs: their files are up to date, and lines of them that were worked out by hand.
 
 use model::vectors::{bundled, examples, files, Vector, DATA};
-use model::{replay, Reader};
+use model::{replay, Reader, Record};
 use std::collections::BTreeSet;
 use std::fs;
 use std::path::{Path, PathBuf};
@@ -62,6 +62,62 @@ fn answers(text: &str) -> Vec<u8> {
     text.lines().skip(1).filter_map(answer).collect()
 }
 
+/// ACKs meet all five letters, NACKs all but g; refused records and other kinds have none.
+#[test]
+fn every_letter_is_met() {
+    let (mut on_acks, mut on_nacks) = (BTreeSet::new(), BTreeSet::new());
+    for vector in bundled() {
+        let mut reader = Reader::new(&vector.log);
+        let text = replay(&vector.log);
+        for line in text.lines().skip(1) {
+            let accepted = line.split(' ').nth(1) == Some("0");
+            let letters = match reader.next_record() {
+                Ok(Some(Record::Ack { .. })) if accepted => &mut on_acks,
+                Ok(Some(Record::Nack { .. })) if accepted => &mut on_nacks,
+                _ => {
+                    assert_eq!(letter(line), None, "{}: {line}", vector.name);
+                    continue;
+                }
+            };
+            letters.insert(letter(line).expect(line));
+        }
+    }
+    assert_eq!(on_acks, BTreeSet::from(['a', 'c', 'g', 'n', 's']));
+    assert_eq!(on_nacks, BTreeSet::from(['a', 'c', 'n', 's']));
+}
+
+/// The letter at the end of a line.
+fn letter(line: &str) -> Option<char> {
+    let last = line.split(' ').next_back()?.parse().ok();
+    last.filter(|letter: &char| letter.is_ascii_lowercase())
+}
+
+/// The letters of each log's accepted ACKs and NACKs, in their order.
+#[test]
+fn letters_worked_out_by_hand() {
+    let expected = [
+        ("worked", "s"),
+        ("kinds", "ss"),
+        ("resends", "saasaaaa"),
+        ("samples", "nnsgggsss"),
+        ("nack-samples", "ssgas"),
+        ("sample-stop", "scsc"),
+        ("sample-ack", "sngascgs"),
+        ("sample-nack", "nsaaccna"),
+        ("sample-edges", "nsssssccssnnnc"),
+        ("sample-gone", "gggsgsgggsggs"),
+        ("nack-resends", "saasaaaa"),
+        ("sample-order", "aggagaaagcn"),
+        ("sample-letters", "ssnsga"),
+    ];
+    let bundled = bundled();
+    for (name, letters) in expected {
+        let text = text(&bundled, name);
+        let told: String = text.lines().filter_map(letter).collect();
+        assert_eq!(told, letters, "{name}:\n{text}");
+    }
+}
+
 /// Only a refused record 1 and a malformed record stop a replay.
 #[test]
 fn every_other_log_is_replayed_to_its_end() {
@@ -120,7 +176,7 @@ fn the_worked_example_prints_the_text_of_01() {
                     2 0 0 614400 0 0 8192 READY\n\
                     3 0 4096 614400 1 0 4096 READY\n\
                     4 8 4096 614400 1 0 4096 READY\n\
-                    5 0 0 614400 0 0 4096 READY\n";
+                    5 0 0 614400 0 0 4096 READY s\n";
     assert_eq!(text(&bundled(), "worked"), expected);
     assert_eq!(text(&examples(), "worked"), expected);
 }
@@ -176,53 +232,53 @@ fn lines_worked_out_by_hand() {
     let expected = [
         ("closed", "6 6 8193 12288 3 0 11807 ACTIVE"),
         ("closed", "9 0 8234 12288 4 0 11766 ACTIVE"), // sent at 8,192
-        ("in-flight", "6 0 -16777216 614400 2 0 144 READY"),
+        ("in-flight", "6 0 -16777216 614400 2 0 144 READY g"),
         // A sample of 10 leaves 614,400 * 10 / 96 = 64,000 in these three.
-        ("map", "9 0 -12 64000 2 0 0 PENDING"), // P7: 5, 7 and 9 are delivered
-        ("psn-wrap", "11 0 400 64000 1 0 100 READY"), // P8: three delivered
+        ("map", "9 0 -12 64000 2 0 0 PENDING s"), // P7: 5, 7 and 9 are delivered
+        ("psn-wrap", "11 0 400 64000 1 0 100 READY s"), // P8: three delivered
         ("counts", "11 11 3072 64000 1 0 0 PENDING"),
-        ("burst", "9 0 4096 614400 1 0 5424 READY"),
-        ("burst", "13 0 4096 614400 1 0 5424 READY"),
+        ("burst", "9 0 4096 614400 1 0 5424 READY s"),
+        ("burst", "13 0 4096 614400 1 0 5424 READY g"),
         // 12 losses of 4,096; then 224 * 4,096 * 36 / 565,248 = 58 by a sample, else 116.
         ("resends", "34 0 32768 565248 8 0 0 PENDING"),
-        ("resends", "35 0 28672 565306 7 0 0 PENDING"),
-        ("resends", "36 0 24576 565422 6 0 0 PENDING"),
-        ("resends", "37 0 20480 565538 5 0 0 PENDING"),
-        ("resends", "38 0 16384 565596 4 0 0 PENDING"),
-        ("resends", "42 0 0 566060 0 0 0 IDLE"),
+        ("resends", "35 0 28672 565306 7 0 0 PENDING s"),
+        ("resends", "36 0 24576 565422 6 0 0 PENDING a"),
+        ("resends", "37 0 20480 565538 5 0 0 PENDING a"),
+        ("resends", "38 0 16384 565596 4 0 0 PENDING s"),
+        ("resends", "42 0 0 566060 0 0 0 IDLE a"),
         // 614,400 * 1 / 96: neither 66,060,288 nor 16,777,216 saved up can raise it.
-        ("samples", "19 0 -4096 6400 1 0 0 PENDING"),
-        ("samples", "20 0 -8192 6400 0 0 0 IDLE"),
+        ("samples", "19 0 -4096 6400 1 0 0 PENDING s"),
+        ("samples", "20 0 -8192 6400 0 0 0 IDLE s"),
         // 2^26 * 60 / 8,000; 4,096 less, then 16,777,216 / 499,220 = 33 more; 2^26 * 30 / 8,000.
-        ("nack-samples", "8 0 8192 503316 2 2 0 READY"),
-        ("nack-samples", "10 0 0 499253 1 3 0 READY"),
-        ("nack-samples", "17 0 -4096 251658 0 4 0 READY"),
+        ("nack-samples", "8 0 8192 503316 2 2 0 READY s"),
+        ("nack-samples", "10 0 0 499253 1 3 0 READY g"),
+        ("nack-samples", "17 0 -4096 251658 0 4 0 READY s"),
         // 614,400 * 50 / 96 = 320,000, then losses of 4,096.
-        ("ev-times", "9 0 12288 320000 3 1 4096 READY"),
+        ("ev-times", "9 0 12288 320000 3 1 4096 READY s"),
         ("ev-times", "12 0 0 307712 0 4 4096 READY"),
         // P2: 91,750,400 / 610,495 = 150; the average is 75, so 819 * 3 / 75 = 32 is cut.
-        ("delays", "23 0 -24576 610645 0 1 0 READY"),
-        ("delays", "24 0 -24576 591562 0 1 0 READY"),
-        ("fast-mode", "12 0 -581632 610304 7 1 0 READY"),
-        ("fast-mode", "13 0 -581888 610560 7 1 0 READY"),
+        ("delays", "23 0 -24576 610645 0 1 0 READY s"),
+        ("delays", "24 0 -24576 591562 0 1 0 READY g"),
+        ("fast-mode", "12 0 -581632 610304 7 1 0 READY g"),
+        ("fast-mode", "13 0 -581888 610560 7 1 0 READY g"),
         // 224 * 32,768 * 72 / 606,208 = 871; 524,353,536 / 607,079 = 863, and eta.
-        ("adjustment", "8 0 -32768 607079 0 2 0 READY"),
-        ("adjustment", "10 0 -65280 608966 0 2 0 READY"),
-        ("adjustment", "13 0 -409600 614400 0 2 0 READY"),
-        ("cut", "8 0 16384 369000 2 0 0 PENDING"), // P3
-        ("cut", "9 0 16384 369000 2 0 0 PENDING"),
-        ("cut", "10 0 16384 221616 2 0 0 PENDING"), // times 615 / 1,024
-        ("cut", "13 0 16384 110808 0 0 0 IDLE"),
-        ("floors", "6 0 4296 5935 2 0 0 PENDING"), // times 1,013 / 1,024
-        ("floors", "7 0 4296 4096 1 0 0 PENDING"),
-        ("quick-adapt", "16 0 -613444 614400 2 1 44 READY"),
+        ("adjustment", "8 0 -32768 607079 0 2 0 READY g"),
+        ("adjustment", "10 0 -65280 608966 0 2 0 READY g"),
+        ("adjustment", "13 0 -409600 614400 0 2 0 READY g"),
+        ("cut", "8 0 16384 369000 2 0 0 PENDING s"), // P3
+        ("cut", "9 0 16384 369000 2 0 0 PENDING g"),
+        ("cut", "10 0 16384 221616 2 0 0 PENDING g"), // times 615 / 1,024
+        ("cut", "13 0 16384 110808 0 0 0 IDLE s"),
+        ("floors", "6 0 4296 5935 2 0 0 PENDING s"), // times 1,013 / 1,024
+        ("floors", "7 0 4296 4096 1 0 0 PENDING s"),
+        ("quick-adapt", "16 0 -613444 614400 2 1 44 READY s"),
         // 1,249 units are 319,744, below 614,400 * 50 / 96 = 320,000.
-        ("quick-adapt", "17 0 -933188 319744 1 1 44 READY"),
+        ("quick-adapt", "17 0 -933188 319744 1 1 44 READY s"),
         ("quick-adapt", "19 0 -933188 4096 0 1 44 READY 1"),
         // 12,288 + (2 * 224 * 4,096 * 72) / 12,288 + 1,024.
-        ("quick-adapt-loss", "12 0 -634580 24064 2 1 0 READY"),
-        ("quick-adapt-off", "12 0 -634580 614400 2 1 0 READY"),
-        ("ignoring", "11 0 0 4766 2 1 0 READY"), // 7,936 * 615 / 1,024
+        ("quick-adapt-loss", "12 0 -634580 24064 2 1 0 READY g"),
+        ("quick-adapt-off", "12 0 -634580 614400 2 1 0 READY g"),
+        ("ignoring", "11 0 0 4766 2 1 0 READY g"), // 7,936 * 615 / 1,024
         ("backlog-full", "259 0 0 614400 0 0 1099511627776 READY"),
         ("backlog-full", "260 20 0 614400 0 0 1099511627776 READY"),
         ("paths", "130 0 0 614400 0 0 0 IDLE 128"),
@@ -248,82 +304,82 @@ fn all_printed(expected: &[(&str, &str)]) {
 #[test]
 fn ceilings_worked_out_by_hand() {
     all_printed(&[
-        ("ceiling-ack", "11 0 32768 614400 7 0 0 PENDING"), // 97 ticks
-        ("ceiling-ack", "12 0 32768 608000 6 0 0 PENDING"), // 95
-        ("ceiling-ack", "13 0 32768 608000 5 0 0 PENDING"), // 96
-        ("ceiling-ack", "16 0 24576 599808 2 2 0 READY"),   // 94, after two losses: below 601,600
-        ("ceiling-ack", "17 0 24576 307200 1 2 0 READY"),   // 48
-        ("ceiling-ack", "18 0 24576 6400 0 2 0 ACTIVE"),    // 1
+        ("ceiling-ack", "11 0 32768 614400 7 0 0 PENDING s"), // 97 ticks
+        ("ceiling-ack", "12 0 32768 608000 6 0 0 PENDING s"), // 95
+        ("ceiling-ack", "13 0 32768 608000 5 0 0 PENDING s"), // 96
+        ("ceiling-ack", "16 0 24576 599808 2 2 0 READY s"),   // 94, after two losses: below 601,600
+        ("ceiling-ack", "17 0 24576 307200 1 2 0 READY s"),   // 48
+        ("ceiling-ack", "18 0 24576 6400 0 2 0 ACTIVE s"),    // 1
         ("ceiling-ack", "19 6 24576 6400 0 2 0 ACTIVE"),
-        ("ceiling-ack", "20 0 2048 6400 0 2 0 READY"), // 88 units less, and 4,096 more are 6,144
+        ("ceiling-ack", "20 0 2048 6400 0 2 0 READY g"), // 88 units less, and 4,096 more are 6,144
         ("ceiling-ack", "21 0 6144 6400 1 1 0 ACTIVE"),
-        ("ceiling-nack", "7 0 12288 608000 3 1 0 READY"), // 95 ticks
-        ("ceiling-nack", "8 0 8192 482304 2 2 0 READY"),  // 76: 486,400 - 4,096
-        ("ceiling-nack", "9 0 4096 303104 1 3 0 READY"),  // 48: 307,200 - 4,096
-        ("ceiling-nack", "10 0 0 299008 0 4 0 READY"),    // a loss: 4,096 less
-        ("ceiling-nack", "12 0 0 299008 0 4 0 READY"),
-        ("ceiling-nack", "14 0 0 153600 0 4 0 READY"), // 24
+        ("ceiling-nack", "7 0 12288 608000 3 1 0 READY s"), // 95 ticks
+        ("ceiling-nack", "8 0 8192 482304 2 2 0 READY s"),  // 76: 486,400 - 4,096
+        ("ceiling-nack", "9 0 4096 303104 1 3 0 READY s"),  // 48: 307,200 - 4,096
+        ("ceiling-nack", "10 0 0 299008 0 4 0 READY"),      // a loss: 4,096 less
+        ("ceiling-nack", "12 0 0 299008 0 4 0 READY a"),
+        ("ceiling-nack", "14 0 0 153600 0 4 0 READY s"), // 24
         // 32,768 * 48 / 96.
-        ("ceiling-closed", "9 0 20480 16384 5 1 4096 ACTIVE"),
+        ("ceiling-closed", "9 0 20480 16384 5 1 4096 ACTIVE s"),
         ("ceiling-closed", "10 6 20480 16384 5 1 4096 ACTIVE"),
         ("ceiling-closed", "11 6 20480 16384 5 1 4096 ACTIVE"),
-        ("ceiling-closed", "12 0 12288 16384 5 1 4096 READY"),
+        ("ceiling-closed", "12 0 12288 16384 5 1 4096 READY g"),
         ("ceiling-closed", "13 0 16384 16384 6 0 4096 ACTIVE"),
         ("ceiling-closed", "14 6 16384 16384 6 0 4096 ACTIVE"),
         // 8,192 * 49 / 96 = 4,181; * 48 / 96 = 4,096; then the MTU.
-        ("ceiling-mtu", "8 0 500 4181 4 0 0 PENDING"),
-        ("ceiling-mtu", "9 0 500 4096 3 0 0 PENDING"),
-        ("ceiling-mtu", "10 0 500 4096 2 0 0 PENDING"),
-        ("ceiling-mtu", "11 0 500 4096 1 0 0 PENDING"),
-        ("ceiling-mtu", "12 0 400 4096 0 1 0 ACTIVE"),
+        ("ceiling-mtu", "8 0 500 4181 4 0 0 PENDING s"),
+        ("ceiling-mtu", "9 0 500 4096 3 0 0 PENDING s"),
+        ("ceiling-mtu", "10 0 500 4096 2 0 0 PENDING s"),
+        ("ceiling-mtu", "11 0 500 4096 1 0 0 PENDING s"),
+        ("ceiling-mtu", "12 0 400 4096 0 1 0 ACTIVE s"),
         ("ceiling-mtu", "13 6 400 4096 0 1 0 ACTIVE"),
-        ("ceiling-mtu", "14 0 -112 4096 0 1 0 READY"),
+        ("ceiling-mtu", "14 0 -112 4096 0 1 0 READY g"),
         ("ceiling-mtu", "15 0 -12 4096 1 0 0 PENDING"),
         // 614,399 * 95 = 58,367,905 = 96 * 607,999 + 1; * 50 = 30,719,950 = 96 * 319,999 + 46;
         // 614,399 = 96 * 6,399 + 95.
-        ("ceiling-rounds", "6 0 300 607999 2 0 2200 READY"),
-        ("ceiling-rounds", "7 0 300 319999 1 0 2200 READY"),
-        ("ceiling-rounds", "8 0 300 6399 0 0 2200 READY"),
+        ("ceiling-rounds", "6 0 300 607999 2 0 2200 READY s"),
+        ("ceiling-rounds", "7 0 300 319999 1 0 2200 READY s"),
+        ("ceiling-rounds", "8 0 300 6399 0 0 2200 READY s"),
         ("ceiling-rounds", "9 0 2303 6399 1 0 197 READY"),
         ("ceiling-rounds", "10 0 2344 6399 2 0 156 ACTIVE"), // 2,303 + 4,096 was 6,399
         ("ceiling-rounds", "11 6 2344 6399 2 0 156 ACTIVE"),
         // 2^26 - 1; less its 16,384th, which is nearly 4,096; its half; its 16,384th.
-        ("ceiling-largest", "7 0 400 67108863 3 0 0 PENDING"),
-        ("ceiling-largest", "8 0 400 67104767 2 0 0 PENDING"),
-        ("ceiling-largest", "9 0 400 33554431 1 0 0 PENDING"),
-        ("ceiling-largest", "10 0 400 4095 0 0 0 IDLE"),
+        ("ceiling-largest", "7 0 400 67108863 3 0 0 PENDING s"),
+        ("ceiling-largest", "8 0 400 67104767 2 0 0 PENDING s"),
+        ("ceiling-largest", "9 0 400 33554431 1 0 0 PENDING s"),
+        ("ceiling-largest", "10 0 400 4095 0 0 0 IDLE s"),
         // 48 ticks and a loss; 1,184 units are 303,104; up to 307,200.
-        ("ceiling-fast-mode", "9 0 -290816 303104 2 1 0 READY"),
-        ("ceiling-fast-mode", "10 0 -291072 303360 2 1 0 READY"),
-        ("ceiling-fast-mode", "11 0 -294656 306944 2 1 0 READY"),
-        ("ceiling-fast-mode", "12 0 -294912 307200 2 1 0 READY"),
-        ("ceiling-fast-mode", "13 0 -295168 307200 2 1 0 READY"),
+        ("ceiling-fast-mode", "9 0 -290816 303104 2 1 0 READY g"),
+        ("ceiling-fast-mode", "10 0 -291072 303360 2 1 0 READY g"),
+        ("ceiling-fast-mode", "11 0 -294656 306944 2 1 0 READY g"),
+        ("ceiling-fast-mode", "12 0 -294912 307200 2 1 0 READY g"),
+        ("ceiling-fast-mode", "13 0 -295168 307200 2 1 0 READY g"),
         // 24 ticks; a loss, and 98 units are 25,088, too many.
-        ("ceiling-fast-mode", "14 0 -295424 153600 1 1 0 READY"),
+        ("ceiling-fast-mode", "14 0 -295424 153600 1 1 0 READY s"),
         ("ceiling-fast-mode", "15 0 -299520 149504 0 2 0 READY"),
-        ("ceiling-fast-mode", "16 0 -324608 153600 0 2 0 READY"),
+        ("ceiling-fast-mode", "16 0 -324608 153600 0 2 0 READY g"),
         // 224 * 32,768 * 72 / 299,008 = 1,767; eta; 2,113,929,216 / 301,799 = 7,004 is too much.
-        ("ceiling-adjustment", "10 0 -24576 300775 1 2 0 READY"),
-        ("ceiling-adjustment", "11 0 -24576 301799 1 2 0 READY"),
-        ("ceiling-adjustment", "12 0 -155648 307200 1 2 0 READY"),
-        ("ceiling-adjustment", "13 0 -155648 307200 1 2 0 READY"),
-        ("ceiling-adjustment", "14 0 -159744 153600 0 0 0 IDLE"),
+        ("ceiling-adjustment", "10 0 -24576 300775 1 2 0 READY g"),
+        ("ceiling-adjustment", "11 0 -24576 301799 1 2 0 READY g"),
+        ("ceiling-adjustment", "12 0 -155648 307200 1 2 0 READY g"),
+        ("ceiling-adjustment", "13 0 -155648 307200 1 2 0 READY g"),
+        ("ceiling-adjustment", "14 0 -159744 153600 0 0 0 IDLE s"),
         // 1,199 units are 306,944, below 307,200; 600 are 153,600 and not below it.
-        ("ceiling-quick-adapt", "11 0 -306444 306944 4 1 0 READY"),
+        ("ceiling-quick-adapt", "11 0 -306444 306944 4 1 0 READY s"),
         ("ceiling-quick-adapt", "12 0 -306544 306844 3 2 0 READY"),
-        ("ceiling-quick-adapt", "13 0 -460144 153600 2 2 0 READY"),
-        ("ceiling-quick-adapt", "14 0 -460144 4096 2 2 0 READY"),
+        ("ceiling-quick-adapt", "13 0 -460144 153600 2 2 0 READY s"),
+        ("ceiling-quick-adapt", "14 0 -460144 4096 2 2 0 READY g"),
         // 1,200 units are not below 307,200, so the size is taken; 599 are below 153,600.
-        ("ceiling-trimmed", "6 0 -307200 307100 0 1 100 READY"),
-        ("ceiling-trimmed", "7 0 -460544 307100 0 1 100 READY"),
-        ("ceiling-trimmed", "9 0 -460544 153344 0 2 0 READY"),
+        ("ceiling-trimmed", "6 0 -307200 307100 0 1 100 READY s"),
+        ("ceiling-trimmed", "7 0 -460544 307100 0 1 100 READY g"),
+        ("ceiling-trimmed", "9 0 -460544 153344 0 2 0 READY s"),
         // 40,960 * 615 / 1,024 and a loss; 40,960 * 24 / 96 = 10,240, and 8,192 were achieved.
-        ("ceiling-ignoring", "11 0 32768 24600 7 0 0 PENDING"),
+        ("ceiling-ignoring", "11 0 32768 24600 7 0 0 PENDING s"),
         ("ceiling-ignoring", "12 0 28672 20504 6 1 0 ACTIVE"),
-        ("ceiling-ignoring", "13 0 20480 8192 5 1 0 ACTIVE"),
-        ("ceiling-ignoring", "14 0 10240 8192 5 1 0 ACTIVE"),
+        ("ceiling-ignoring", "13 0 20480 8192 5 1 0 ACTIVE s"),
+        ("ceiling-ignoring", "14 0 10240 8192 5 1 0 ACTIVE g"),
         // The average is 142: 819 * 70 / 142 = 403, and 8,192 * 621 / 1,024 are left.
-        ("ceiling-ignoring", "15 0 0 4968 5 1 0 READY"),
+        ("ceiling-ignoring", "15 0 0 4968 5 1 0 READY g"),
     ]);
 }
 
@@ -339,7 +395,7 @@ fn insane_numbers_are_refused_and_change_nothing() {
         let line = format!("{record} {number} {unchanged}");
         assert_eq!(lines.next(), Some(line.as_str()));
     }
-    assert_eq!(lines.next(), Some("23 0 4096 614400 1 0 11808 READY"));
+    assert_eq!(lines.next(), Some("23 0 4096 614400 1 0 11808 READY s"));
     assert_eq!(lines.next(), Some("24 0 4096 614400 1 0 11808 READY 0"));
     assert_eq!(lines.next(), None);
 }
@@ -350,12 +406,12 @@ fn insane_numbers_are_refused_and_change_nothing() {
 fn a_packet_sent_twice_spoils_nothing() {
     let text = text(&examples(), "resent");
     let expected = [
-        "6 0 0 611436 0 0 20480 READY",    // no sample: 108
-        "9 0 4096 612562 1 0 12288 READY", // delay 4: 102
-        "12 0 0 576000 0 0 12288 READY",   // base 90: 614,400 * 90 / 96, and no more
-        "14 0 0 576000 0 0 8192 READY",    // delay 10: no more either
-        "20 0 0 568948 0 0 4096 READY",    // two losses of 4,096; no sample: 116
-        "23 0 0 569972 0 0 0 IDLE 1",      // EV 0 is avoided until 1,480
+        "6 0 0 611436 0 0 20480 READY a",    // no sample: 108
+        "9 0 4096 612562 1 0 12288 READY s", // delay 4: 102
+        "12 0 0 576000 0 0 12288 READY s",   // base 90: 614,400 * 90 / 96, and no more
+        "14 0 0 576000 0 0 8192 READY s",    // delay 10: no more either
+        "20 0 0 568948 0 0 4096 READY a",    // two losses of 4,096; no sample: 116
+        "23 0 0 569972 0 0 0 IDLE 1",        // EV 0 is avoided until 1,480
     ];
     for line in expected {
         assert!(text.lines().any(|l| l == line), "{line}\n{text}");
@@ -367,15 +423,18 @@ fn lost_acks_leave_the_ledger_of_all_acks() {
     let examples = examples();
     let all = text(&examples, "all-acks");
     let lost = text(&examples, "lost-acks");
-    assert_eq!(all.lines().last(), Some("17 0 4096 614400 1 0 4096 READY"));
-    // The newest is record 13 here; those after it change nothing.
+    assert_eq!(
+        all.lines().last(),
+        Some("17 0 4096 614400 1 0 4096 READY s")
+    );
+    // The newest is record 13 here; those after it change nothing and measure nothing.
     let from_newest: Vec<&str> = lost.lines().skip(13).collect();
     assert_eq!(
         from_newest,
         [
-            "13 0 4096 614400 1 0 4096 READY",
-            "14 0 4096 614400 1 0 4096 READY",
-            "15 0 4096 614400 1 0 4096 READY",
+            "13 0 4096 614400 1 0 4096 READY s",
+            "14 0 4096 614400 1 0 4096 READY g",
+            "15 0 4096 614400 1 0 4096 READY g",
         ]
     );
 }

@@ -49,7 +49,8 @@ impl Lent<'_> {
         self.event(Function::Send, &arguments) as u32
     }
 
-    pub fn ack(&mut self, ack: &Ack) -> u32 {
+    /// The number in the low 32 bits, and where it is 0 the sample's above them.
+    pub fn ack(&mut self, ack: &Ack) -> u64 {
         let arguments = [
             ack.time,
             ack.cum.into(),
@@ -61,10 +62,11 @@ impl Lent<'_> {
             ack.marked.into(),
             ack.retx.into(),
         ];
-        self.event(Function::Ack, &arguments) as u32
+        self.event(Function::Ack, &arguments)
     }
 
-    pub fn nack(&mut self, nack: &Nack) -> u32 {
+    /// As of an ACK.
+    pub fn nack(&mut self, nack: &Nack) -> u64 {
         let arguments = [
             nack.time,
             nack.psn.into(),
@@ -73,7 +75,7 @@ impl Lent<'_> {
             nack.marked.into(),
             nack.retx.into(),
         ];
-        self.event(Function::Nack, &arguments) as u32
+        self.event(Function::Nack, &arguments)
     }
 
     pub fn loss(&mut self, time: u64, psn: u32, ev: u32) -> u32 {

@@ -87,7 +87,7 @@ mod c {
             ev: u32,
             marked: bool,
             retx: bool,
-        ) -> u32;
+        ) -> u64;
 
         pub fn nscc_nack(
             state: *mut u64,
@@ -108,7 +108,7 @@ mod c {
             reason: u32,
             marked: bool,
             retx: bool,
-        ) -> u32;
+        ) -> u64;
 
         pub fn nscc_loss(
             state: *mut u64,
@@ -211,7 +211,8 @@ impl Lent<'_> {
         call!(nscc_send, [], self, [time, psn, bytes, resend])
     }
 
-    pub fn ack(&mut self, ack: &Ack) -> u32 {
+    /// The number in the low 32 bits, and where it is 0 the sample's above them.
+    pub fn ack(&mut self, ack: &Ack) -> u64 {
         call!(
             nscc_ack,
             [],
@@ -230,7 +231,8 @@ impl Lent<'_> {
         )
     }
 
-    pub fn nack(&mut self, nack: &Nack) -> u32 {
+    /// As of an ACK.
+    pub fn nack(&mut self, nack: &Nack) -> u64 {
         call!(
             nscc_nack,
             [],

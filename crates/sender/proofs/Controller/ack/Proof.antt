@@ -1,13 +1,14 @@
 -- The method `ack` tests number 2 and then relies on it: either answer is a case of `onAck`.
 use mathlib.Core.Path.{sym, _∙_}
+use native.Mathlib.Omega.{arith}
 use borrow.Author.Needs.{needs}
 use borrow.Author.Tests.{not-true, not-false}
 use Rattle.ledger.specs.Ring.{ring}
 use Rattle.sender.specs.World.{World, world}
 use Rattle.sender.specs.Rows.{ackAllRows}
-use Rattle.sender.specs.Steps.{ackStep}
+use Rattle.sender.specs.Steps.{ackSampling, ackStep}
 use Rattle.sender.specs.Events.{onAck}
-use Rattle.sender.proofs.Rowing.{two-table, answer-unsound}
+use Rattle.sender.proofs.Rowing.{two-table, answer-unsound, says-nothing}
 use Rattle.sender.proofs.Controller.ack.Statement.{statement}
 use Rattle.sender.proofs.Controller.ack.Tie as tie
 
@@ -22,8 +23,8 @@ start i = i .before .before .before .before .before .before .before .before .bef
 is-sound-requires : tie.Need-is-sound-requires
 is-sound-requires c κs = search needs
 
-refused-requires : tie.Need-refused-requires
-refused-requires c κs = two-table
+feedback-refused-requires : tie.Need-feedback-refused-requires
+feedback-refused-requires c κs = two-table
 
 same-length : tie.Need-same-length
 same-length c = search needs
@@ -45,8 +46,9 @@ unfolding onAck
 returns c =
     let i = c .before .before in
     let s = start i in
-    answer-unsound (handed s) (ackAllRows (s .args .time) (s .args .a) (s .args .self)) (ackStep (s .args .time) (s .args .a) (handed s)) _ _
-    (sym (i .is-sound .ensures) ∙ not-true _ (c .before .if1 .taken)) (c .refused .ensures .0) (c .refused .ensures .1)
+    let answer = answer-unsound (handed s) (ackAllRows (s .args .time) (s .args .a) (s .args .self)) (ackStep (s .args .time) (s .args .a) (handed s)) _ _
+    (sym (i .is-sound .ensures) ∙ not-true _ (c .before .if1 .taken)) (c .feedback-refused .ensures .0) (c .feedback-refused .ensures .1) in
+    (answer, says-nothing answer (ackSampling (s .args .time) (s .args .a) (handed s)) (λ z. omega (arith, c .feedback-refused .ensures .1, z)) (c .feedback-refused .ensures .2))
 
 ack-requires : tie.Need-ack-requires
 ack-requires c κs =
@@ -76,7 +78,7 @@ ack-spec =
     tie.close
     (tie.spec
     is-sound-requires
-    refused-requires
+    feedback-refused-requires
     same-length
     same-length-2
     same-length-3

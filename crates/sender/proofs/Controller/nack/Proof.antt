@@ -1,13 +1,14 @@
 -- The method `nack` tests number 2 and then relies on it: either answer is a case of `onNack`.
 use mathlib.Core.Path.{sym, _∙_}
+use native.Mathlib.Omega.{arith}
 use borrow.Author.Needs.{needs}
 use borrow.Author.Tests.{not-true, not-false}
 use Rattle.ledger.specs.Ring.{ring}
 use Rattle.sender.specs.World.{World, world}
 use Rattle.sender.specs.Rows.{nackAllRows}
-use Rattle.sender.specs.Steps.{nackStep}
+use Rattle.sender.specs.Steps.{nackSampling, nackStep}
 use Rattle.sender.specs.Events.{onNack}
-use Rattle.sender.proofs.Rowing.{two-table, answer-unsound}
+use Rattle.sender.proofs.Rowing.{two-table, answer-unsound, says-nothing}
 use Rattle.sender.proofs.Controller.nack.Statement.{statement}
 use Rattle.sender.proofs.Controller.nack.Tie as tie
 
@@ -22,8 +23,8 @@ start i = i .before .before .before .before .before .before .before .before
 is-sound-requires : tie.Need-is-sound-requires
 is-sound-requires c κs = search needs
 
-refused-requires : tie.Need-refused-requires
-refused-requires c κs = two-table
+feedback-refused-requires : tie.Need-feedback-refused-requires
+feedback-refused-requires c κs = two-table
 
 same-length : tie.Need-same-length
 same-length c = search needs
@@ -36,8 +37,9 @@ unfolding onNack
 returns c =
     let i = c .before .before in
     let s = start i in
-    answer-unsound (handed s) (nackAllRows (s .args .time) (s .args .a) (s .args .self) (handed s .slots)) (nackStep (s .args .time) (s .args .a) (handed s)) _ _
-    (sym (i .is-sound .ensures) ∙ not-true _ (c .before .if1 .taken)) (c .refused .ensures .0) (c .refused .ensures .1)
+    let answer = answer-unsound (handed s) (nackAllRows (s .args .time) (s .args .a) (s .args .self) (handed s .slots)) (nackStep (s .args .time) (s .args .a) (handed s)) _ _
+    (sym (i .is-sound .ensures) ∙ not-true _ (c .before .if1 .taken)) (c .feedback-refused .ensures .0) (c .feedback-refused .ensures .1) in
+    (answer, says-nothing answer (nackSampling (s .args .time) (s .args .a) (handed s)) (λ z. omega (arith, c .feedback-refused .ensures .1, z)) (c .feedback-refused .ensures .2))
 
 nack-requires : tie.Need-nack-requires
 nack-requires c κs =
@@ -58,7 +60,7 @@ nack-spec =
     tie.close
     (tie.spec
     is-sound-requires
-    refused-requires
+    feedback-refused-requires
     same-length
     same-length-2
     returns

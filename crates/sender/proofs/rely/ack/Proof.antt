@@ -1,5 +1,6 @@
 -- `ack` judges the rows past 2, then takes the step: each answer is a case of `onAck` of a sound world, by the laws of `Rowing`.
-use mathlib.Core.Path.{refl, sym, _∙_}
+use mathlib.Core.Path.{refl, sym, ap, _∙_}
+use mathlib.Core.Option.{some}
 use mathlib.Core.List.{List}
 use borrow.Author.Needs.{needs}
 use Rattle.decide.specs.Test.{inside}
@@ -7,11 +8,11 @@ use Rattle.decide.specs.Rows.{Row}
 use Rattle.ledger.specs.Ring.{ring}
 use Rattle.sender.specs.World.{World, world}
 use Rattle.sender.specs.Rows.{ackAllRows}
-use Rattle.sender.specs.Steps.{ackStep}
+use Rattle.sender.specs.Steps.{ackSampling, ackStep}
 use Rattle.sender.specs.Events.{onAck}
 use Rattle.sender.proofs.Sounds.{sound-bounded}
 use Rattle.sender.specs.Numbers.{inTable}
-use Rattle.sender.proofs.Rowing.{numbered, in-table, answer-refused, answer-accepted}
+use Rattle.sender.proofs.Rowing.{numbered, in-table, answer-refused, answer-accepted, says-nothing, says-sample}
 use Rattle.sender.proofs.rely.ack.Statement.{statement}
 use Rattle.sender.proofs.rely.ack.Tie as tie
 
@@ -34,9 +35,9 @@ judge-ack-requires c κs =
     let s = c .before .before .before .before .before in
     sound-bounded (handed s) (s .pre)
 
-refused-requires : tie.Need-refused-requires
+feedback-refused-requires : tie.Need-feedback-refused-requires
 unfolding numbered inTable inside
-refused-requires c κs =
+feedback-refused-requires c κs =
     let j = c .before in
     let s = start j in
     in-table (rows s) refl (j .judge-ack .result) (j .judge-ack .ensures) (c .if1 .taken)
@@ -46,8 +47,9 @@ unfolding onAck
 returns c =
     let j = c .before .before in
     let s = start j in
-    answer-refused (handed s) (rows s) (stepped s) _ _ (s .pre) (j .judge-ack .result) (j .judge-ack .ensures) (c .before .if1 .taken) (c .refused .ensures .0)
-    (c .refused .ensures .1)
+    let answer = answer-refused (handed s) (rows s) (stepped s) _ _ (s .pre) (j .judge-ack .result) (j .judge-ack .ensures) (c .before .if1 .taken) (c .feedback-refused .ensures .0)
+    (c .feedback-refused .ensures .1) in
+    (answer, says-nothing answer (ackSampling (s .args .time) (s .args .a) (handed s)) (λ z. c .before .if1 .taken (sym (c .feedback-refused .ensures .1) ∙ z)) (c .feedback-refused .ensures .2))
 
 ack-requires : tie.Need-ack-requires
 ack-requires c κs =
@@ -55,8 +57,8 @@ ack-requires c κs =
     let j = e .before in
     (start j .pre, sym (j .judge-ack .ensures) ∙ e .if1 .left)
 
-accepted-requires : tie.Need-accepted-requires
-accepted-requires c κs = search needs
+feedback-accepted-requires : tie.Need-feedback-accepted-requires
+feedback-accepted-requires c κs = search needs
 
 same-length : tie.Need-same-length
 same-length c = search needs
@@ -81,19 +83,20 @@ returns-2 c =
     let e = k .before .before .before .before .before .before in
     let j = e .before in
     let s = start j in
-    answer-accepted (handed s) (rows s) (stepped s) _ _ (s .pre) (j .judge-ack .result) (j .judge-ack .ensures) (e .if1 .left)
-    (k .ack .result) (ring (l .1 .0) (l .1 .1 .0) (l .1 .1 .1 .0) (l .1 .1 .1 .1 .0)) (l .1 .1 .1 .1 .1 .0)
-    (k .ack .ensures) (c .accepted .ensures .0) (c .accepted .ensures .1)
+    let answer = answer-accepted (handed s) (rows s) (stepped s) _ _ (s .pre) (j .judge-ack .result) (j .judge-ack .ensures) (e .if1 .left)
+    (k .ack .result .state) (ring (l .1 .0) (l .1 .1 .0) (l .1 .1 .1 .0) (l .1 .1 .1 .1 .0)) (l .1 .1 .1 .1 .1 .0)
+    (k .ack .ensures .0) (c .feedback-accepted .ensures .0) (c .feedback-accepted .ensures .1) in
+    (answer, says-sample answer (ackSampling (s .args .time) (s .args .a) (handed s)) (c .feedback-accepted .ensures .1) (c .feedback-accepted .ensures .2 ∙ ap some (k .ack .ensures .1)))
 
 pub ack-spec : {M : Type 1} → statement M
 ack-spec =
     tie.close
     (tie.spec
     judge-ack-requires
-    refused-requires
+    feedback-refused-requires
     returns
     ack-requires
-    accepted-requires
+    feedback-accepted-requires
     same-length
     same-length-2
     same-length-3

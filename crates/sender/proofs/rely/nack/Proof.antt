@@ -1,5 +1,6 @@
 -- `nack` judges the rows past 2, then takes the step: each answer is a case of `onNack` of a sound world, by the laws of `Rowing`.
-use mathlib.Core.Path.{refl, sym, _∙_}
+use mathlib.Core.Path.{refl, sym, ap, _∙_}
+use mathlib.Core.Option.{some}
 use mathlib.Core.List.{List}
 use borrow.Author.Needs.{needs}
 use Rattle.decide.specs.Test.{inside}
@@ -7,11 +8,11 @@ use Rattle.decide.specs.Rows.{Row}
 use Rattle.ledger.specs.Ring.{ring}
 use Rattle.sender.specs.World.{World, world}
 use Rattle.sender.specs.Rows.{nackAllRows}
-use Rattle.sender.specs.Steps.{nackStep}
+use Rattle.sender.specs.Steps.{nackSampling, nackStep}
 use Rattle.sender.specs.Events.{onNack}
 use Rattle.sender.proofs.Sounds.{sound-bounded, sound-even}
 use Rattle.sender.specs.Numbers.{inTable}
-use Rattle.sender.proofs.Rowing.{numbered, in-table, answer-refused, answer-accepted}
+use Rattle.sender.proofs.Rowing.{numbered, in-table, answer-refused, answer-accepted, says-nothing, says-sample}
 use Rattle.sender.proofs.rely.nack.Statement.{statement}
 use Rattle.sender.proofs.rely.nack.Tie as tie
 
@@ -34,9 +35,9 @@ judge-nack-requires c κs =
     let s = c .before .before .before .before .before .before in
     (sound-bounded (handed s) (s .pre), sound-even (handed s) (s .pre))
 
-refused-requires : tie.Need-refused-requires
+feedback-refused-requires : tie.Need-feedback-refused-requires
 unfolding numbered inTable inside
-refused-requires c κs =
+feedback-refused-requires c κs =
     let j = c .before in
     let s = start j in
     in-table (rows s) refl (j .judge-nack .result) (j .judge-nack .ensures) (c .if1 .taken)
@@ -49,8 +50,9 @@ unfolding onNack
 returns c =
     let j = c .before .before in
     let s = start j in
-    answer-refused (handed s) (rows s) (stepped s) _ _ (s .pre) (j .judge-nack .result) (j .judge-nack .ensures) (c .before .if1 .taken) (c .refused .ensures .0)
-    (c .refused .ensures .1)
+    let answer = answer-refused (handed s) (rows s) (stepped s) _ _ (s .pre) (j .judge-nack .result) (j .judge-nack .ensures) (c .before .if1 .taken) (c .feedback-refused .ensures .0)
+    (c .feedback-refused .ensures .1) in
+    (answer, says-nothing answer (nackSampling (s .args .time) (s .args .a) (handed s)) (λ z. c .before .if1 .taken (sym (c .feedback-refused .ensures .1) ∙ z)) (c .feedback-refused .ensures .2))
 
 nack-requires : tie.Need-nack-requires
 nack-requires c κs =
@@ -58,8 +60,8 @@ nack-requires c κs =
     let j = e .before in
     (start j .pre, sym (j .judge-nack .ensures) ∙ e .if1 .left)
 
-accepted-requires : tie.Need-accepted-requires
-accepted-requires c κs = search needs
+feedback-accepted-requires : tie.Need-feedback-accepted-requires
+feedback-accepted-requires c κs = search needs
 
 same-length-2 : tie.Need-same-length-2
 same-length-2 c = search needs
@@ -75,20 +77,21 @@ returns-2 c =
     let e = k .before .before .before in
     let j = e .before in
     let s = start j in
-    answer-accepted (handed s) (rows s) (stepped s) _ _ (s .pre) (j .judge-nack .result) (j .judge-nack .ensures) (e .if1 .left)
-    (k .nack .result) (ring (l .1 .0) (s .args .size .now) (s .args .sent .now) (s .args .resent .now)) (l .1 .1 .1 .1 .1 .0)
-    (k .nack .ensures) (c .accepted .ensures .0) (c .accepted .ensures .1)
+    let answer = answer-accepted (handed s) (rows s) (stepped s) _ _ (s .pre) (j .judge-nack .result) (j .judge-nack .ensures) (e .if1 .left)
+    (k .nack .result .state) (ring (l .1 .0) (s .args .size .now) (s .args .sent .now) (s .args .resent .now)) (l .1 .1 .1 .1 .1 .0)
+    (k .nack .ensures .0) (c .feedback-accepted .ensures .0) (c .feedback-accepted .ensures .1) in
+    (answer, says-sample answer (nackSampling (s .args .time) (s .args .a) (handed s)) (c .feedback-accepted .ensures .1) (c .feedback-accepted .ensures .2 ∙ ap some (k .nack .ensures .1)))
 
 pub nack-spec : {M : Type 1} → statement M
 nack-spec =
     tie.close
     (tie.spec
     judge-nack-requires
-    refused-requires
+    feedback-refused-requires
     same-length
     returns
     nack-requires
-    accepted-requires
+    feedback-accepted-requires
     same-length-2
     same-length-3
     returns-2)

@@ -4,7 +4,7 @@ use borrow.Author.Needs.{needs}
 use Rattle.ledger.specs.Ring.{Ledger, ring, ledger}
 use Rattle.sender.specs.World.{World, world}
 use Rattle.sender.proofs.Sounds.{SoundFacts, sound-facts, sound-even, sound-coheres}
-use Rattle.sender.proofs.Stepping.{Ackable, ack-facts, avoid-asks, Ready, ready-above, ready-word, state-asks, ack-ready, sampled-at, ack-is}
+use Rattle.sender.proofs.Stepping.{Ackable, ack-facts, avoid-asks, Ready, ready-above, ready-word, state-asks, ack-ready, sample-at, sampled-at, ack-is, ack-says}
 use Rattle.sender.proofs.steps.ack.Statement.{statement}
 use Rattle.sender.proofs.steps.ack.Tie as tie
 
@@ -21,7 +21,7 @@ accepted s = ack-facts (s .args .time) (s .args .a) (s .args .c) (s .pre .1)
 
 -- from the place after the ledger's step back to the entry
 abbrev entry : tie.After-ack → tie.Start
-entry p = p .before .before .before .before .before .before .before .before .before .before .before .before .before .before .before .before .before .before .before .before .before .before
+entry p = p .before .before .before .before .before .before .before .before .before .before .before .before .before .before .before .before .before .before .before .before .before .before .before
 
 -- the ledger that came out, and what it leaves to the window's rules
 abbrev ledger-out : tie.After-ack → Ledger
@@ -44,18 +44,21 @@ cast-sampled c = search needs
 sampled-requires : tie.Need-sampled-requires
 sampled-requires c κs = search needs
 
+sample-in-requires : tie.Need-sample-in-requires
+sample-in-requires c κs = search needs
+
 ack-requires : tie.Need-ack-requires
-ack-requires c κs = let s = c .before .before .before .before .before .before .before .before .before .before .before .before .before .before .before .before .before .before .before .before .before in (sound-coheres (world-in s) (s .pre .0), accepted s .rows)
+ack-requires c κs = let s = c .before .before .before .before .before .before .before .before .before .before .before .before .before .before .before .before .before .before .before .before .before .before in (sound-coheres (world-in s) (s .pre .0), accepted s .rows)
 
 ack-requires-2 : tie.Need-ack-requires-2
 ack-requires-2 c κs =
     let p = c .before .before .before .before .before .before .before .before .before .before .before in
-    let m = p .before .before .before .before .before in
+    let m = p .before .before .before .before .before .before in
     let R = after p in
-    (R .range, (R .held, (sampled-at _ _ _ _ _ _ (m .sampled .ensures), (m .before .before .before .before .before .before .before .newly .ensures .1, R .early, ready-above R))))
+    (R .range, (R .held, (sampled-at _ _ _ _ _ _ (p .before .before .before .before .before .sample-in .ensures) (m .sampled .ensures), (m .before .before .before .before .before .before .before .newly .ensures .1, R .early, ready-above R))))
 
 avoid-requires : tie.Need-avoid-requires
-avoid-requires c κs = let s = c .before .before .before .before .before .before .before .before .before .before .before .before .before .before .before .before .before .before .before .before .before .before .before .before .before .before .before .before .before .before .before .before .before .before .before in avoid-asks (facts s) (accepted s .timely) (accepted s .ev-ok)
+avoid-requires c κs = let s = c .before .before .before .before .before .before .before .before .before .before .before .before .before .before .before .before .before .before .before .before .before .before .before .before .before .before .before .before .before .before .before .before .before .before .before .before in avoid-asks (facts s) (accepted s .timely) (accepted s .ev-ok)
 
 state-of-requires : tie.Need-state-of-requires
 state-of-requires c κs = state-asks (after (c .before .before .before .before .before .before .before .before .before .before .before .before .before .before .before .before)) (c .before .before .before .before .ack2 .ensures .held)
@@ -78,11 +81,13 @@ same-length-5 c = search needs
 returns : tie.Need-returns
 returns c =
     let p = c .before .before .before .before .before .before .before .before .before .before .before .before .before .before .before .before .before in
-    let m = p .before .before .before .before .before in
+    let m = p .before .before .before .before .before .before in
     let x = m .before .before in
-    let s = entry p in
-    ack-is (s .args .time) (world-in s) {r = ledger-out p .slots} (ready-word (after p)) (c .state-of .ensures) (s .args .a) (x .before .before .before .before .before .newly .ensures .0)
-    (x .find .ensures) (m .sampled .ensures) (p .ack .ensures) (c .before .before .before .before .before .ack2 .ensures .is) (c .before .before .before .avoid .ensures)
+    let s = entry p in (
+      ack-is (s .args .time) (world-in s) {r = ledger-out p .slots} (ready-word (after p)) (c .state-of .ensures) (s .args .a) (x .before .before .before .before .before .newly .ensures .0)
+          (x .find .ensures) (sample-at _ _ _ _ _ _ (p .before .before .before .before .before .sample-in .ensures) (m .sampled .ensures)) (p .ack .ensures) (c .before .before .before .before .before .ack2 .ensures .is) (c .before .before .before .avoid .ensures),
+      ack-says (s .args .time) (world-in s) (s .args .a) (x .find .ensures) (m .sampled .ensures),
+    )
 
 pub ack-spec : {M : Type 1} → statement M
 ack-spec =
@@ -92,6 +97,7 @@ ack-spec =
     find-requires
     cast-sampled
     sampled-requires
+    sample-in-requires
     ack-requires
     ack-requires-2
     avoid-requires

@@ -4,7 +4,7 @@ use borrow.Author.Needs.{needs}
 use Rattle.ledger.specs.Ring.{Ledger, ring, ledger}
 use Rattle.sender.specs.World.{World, world}
 use Rattle.sender.proofs.Sounds.{SoundFacts, sound-facts, sound-even, sound-coheres}
-use Rattle.sender.proofs.Stepping.{Markable, nack-facts, avoid-asks, Ready, ready-above, ready-word, state-asks, mark-flies, mark-size, marked-ready, sampled-at, nack-is}
+use Rattle.sender.proofs.Stepping.{Markable, nack-facts, avoid-asks, Ready, ready-above, ready-word, state-asks, mark-flies, mark-size, marked-ready, sample-at, sampled-at, nack-is, nack-says}
 use Rattle.sender.proofs.steps.nack.Statement.{statement}
 use Rattle.sender.proofs.steps.nack.Tie as tie
 
@@ -21,10 +21,10 @@ accepted s = nack-facts (s .args .time) (s .args .a) (s .args .c) (world-in s .s
 
 -- from the place after the ledger's step back to the one after the packet is found, and to the entry
 abbrev found : tie.After-mark → tie.After-find
-found p = p .before .before .before
+found p = p .before .before .before .before
 
 abbrev entry : tie.After-mark → tie.Start
-entry p = p .before .before .before .before .before .before .before .before .before .before .before .before .before .before
+entry p = p .before .before .before .before .before .before .before .before .before .before .before .before .before .before .before
 
 -- the ledger that came out, and what it leaves to the window's rules
 abbrev ledger-out : tie.After-mark → Ledger
@@ -41,8 +41,11 @@ find-requires c κs = let s = c .before .before .before .before .before .before 
 sampled-requires : tie.Need-sampled-requires
 sampled-requires c κs = search needs
 
+sample-in-requires : tie.Need-sample-in-requires
+sample-in-requires c κs = search needs
+
 mark-requires : tie.Need-mark-requires
-mark-requires c κs = let s = c .before .before .before .before .before .before .before .before .before .before .before .before .before in (sound-coheres (world-in s) (s .pre .0), mark-flies (facts s) (accepted s))
+mark-requires c κs = let s = c .before .before .before .before .before .before .before .before .before .before .before .before .before .before in (sound-coheres (world-in s) (s .pre .0), mark-flies (facts s) (accepted s))
 
 cast-nack : tie.Need-cast-nack
 cast-nack c = search needs
@@ -55,10 +58,10 @@ nack-requires c κs =
     let p = c .before .before .before .before .before .before .before in
     let s = entry p in
     let R = after p in
-    (R .range, (R .held, (sampled-at _ _ _ _ _ _ (p .before .before .sampled .ensures), (rw (found p .find .ensures) (mark-size (facts s) (accepted s)), R .early, ready-above R))))
+    (R .range, (R .held, (sampled-at _ _ _ _ _ _ (p .before .before .sample-in .ensures) (p .before .before .before .sampled .ensures), (rw (found p .find .ensures) (mark-size (facts s) (accepted s)), R .early, ready-above R))))
 
 avoid-requires : tie.Need-avoid-requires
-avoid-requires c κs = let s = c .before .before .before .before .before .before .before .before .before .before .before .before .before .before .before .before .before .before .before .before .before .before .before .before .before in avoid-asks (facts s) (accepted s .timely) (accepted s .ev-ok)
+avoid-requires c κs = let s = c .before .before .before .before .before .before .before .before .before .before .before .before .before .before .before .before .before .before .before .before .before .before .before .before .before .before in avoid-asks (facts s) (accepted s .timely) (accepted s .ev-ok)
 
 state-of-requires : tie.Need-state-of-requires
 state-of-requires c κs = state-asks (after (c .before .before .before .before .before .before .before .before .before .before .before .before .before .before)) (c .before .before .before .before .before .before .nack .ensures .held)
@@ -72,9 +75,11 @@ same-length-2 c = search needs
 returns : tie.Need-returns
 returns c =
     let p = c .before .before .before .before .before .before .before .before .before .before .before .before .before .before .before in
-    let s = entry p in
-    nack-is (s .args .time) (world-in s) {r = ledger-out p .slots} (ready-word (after p)) (c .state-of .ensures) (s .args .a) (found p .find .ensures)
-    (p .before .before .sampled .ensures) (p .mark .ensures) (c .before .before .before .before .before .before .before .nack .ensures .is) (c .before .before .before .avoid .ensures)
+    let s = entry p in (
+      nack-is (s .args .time) (world-in s) {r = ledger-out p .slots} (ready-word (after p)) (c .state-of .ensures) (s .args .a) (found p .find .ensures)
+          (sample-at _ _ _ _ _ _ (p .before .before .sample-in .ensures) (p .before .before .before .sampled .ensures)) (p .mark .ensures) (c .before .before .before .before .before .before .before .nack .ensures .is) (c .before .before .before .avoid .ensures),
+      nack-says (s .args .time) (world-in s) (s .args .a) (found p .find .ensures) (p .before .before .before .sampled .ensures),
+    )
 
 pub nack-spec : {M : Type 1} → statement M
 nack-spec =
@@ -82,6 +87,7 @@ nack-spec =
     (tie.spec
     find-requires
     sampled-requires
+    sample-in-requires
     mark-requires
     cast-nack
     cast-nack-2

@@ -1,18 +1,18 @@
--- `sampled` gives the sample of a packet, by `window`'s rule: outstanding is flying or marked.
+-- `sampled` says what there is of a sample of a packet, by `window`'s rule: outstanding is flying or marked.
 use borrow.Author.Needs.{needs}
 use Rattle.ledger.specs.Packets.{isFlying, isMarked, isOut}
 use Rattle.sender.proofs.steps.sampled.Statement.{statement}
 use Rattle.sender.proofs.steps.sampled.Tie as tie
 
-cast-sample : tie.Need-cast-sample
-cast-sample c = search needs
+cast-sampling : tie.Need-cast-sampling
+cast-sampling c = search needs
 
-sample-requires : tie.Need-sample-requires
-sample-requires c κs = search needs
+sampling-requires : tie.Need-sampling-requires
+sampling-requires c κs = search needs
 
 returns : tie.Need-returns
 unfolding isOut isFlying isMarked
-returns c = c .sample .ensures
+returns c = c .sampling .ensures
 
 pub sampled-spec : {M : Type 1} → statement M
-sampled-spec = tie.close (tie.spec cast-sample sample-requires returns)
+sampled-spec = tie.close (tie.spec cast-sampling sampling-requires returns)
