@@ -29,7 +29,7 @@ use Rattle.replay.specs.declared.Shown.the-variants.{State, Path}
 use Rattle.replay.specs.declared.records.Event.{Event}
 use Rattle.replay.specs.declared.records.Event.the-variants as event
 use Rattle.words.specs.Layout.{stateFrom, wordsOk}
-use Rattle.exports.specs.Calls.{Called, called, wordsAfter, packed, packedWord, Beside, pathBeside, kindIn, ackBeside, nackBeside, besideWord, onWords, onEventWords, onBesideWords}
+use Rattle.exports.specs.Calls.{Called, called, wordsAfter, packedWord, Beside, pathBeside, kindIn, ackBeside, nackBeside, besideWord, onWords, onEventWords, onBesideWords}
 
 -- a number stands in the low 32 bits, another above them
 pub word-parts : (ev n : ℕ) → n ≤ 24 → ((2 ^ 32 * ev + n) % 2 ^ 32 ≡ n) × ((2 ^ 32 * ev + n) / 2 ^ 32 ≡ ev)

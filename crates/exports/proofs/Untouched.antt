@@ -5,11 +5,10 @@
 use mathlib.Core.Path.{_≡_, refl, sym, ap, _∙_}
 use mathlib.Core.Bool.{Bool, true, false, _&&_}
 use mathlib.Core.List.{List}
-use Prim.Native.Nat.{ℕ, _+_, _*_, _^_, _/_, _%_, _≤_}
-use native.Mathlib.Omega.{arith}
+use Prim.Native.Nat.{ℕ, _^_, _/_, _%_}
 use lib.Dec.{leb}
 use borrow.Author.Tests.{ne-eqb}
-use Rattle.decide.specs.Branch.{ifEq, so-no, eq-no, eq-both, so-both}
+use Rattle.decide.specs.Branch.{ifEq, so-no, eq-no, so-both}
 use Rattle.decide.specs.Test.{inside}
 use Rattle.window.specs.Range.{inRange}
 use Rattle.ledger.specs.Ring.{Ring}

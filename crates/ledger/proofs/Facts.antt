@@ -4,7 +4,7 @@
 use mathlib.Core.Path.{_≡_, refl, sym, ap, _∙_, subst, fun-ext}
 use mathlib.Core.Bool.{Bool, true, false, _&&_}
 use mathlib.Core.Logic.{by-cases}
-use mathlib.Core.List.{List, [], _∷_}
+use mathlib.Core.List.{List}
 use Prim.Native.Nat.{ℕ, _+_, _-_, _*_, _^_, _%_, _≤_, _<_}
 use native.Mathlib.Nat.{le-refl, mul-le-mul}
 use native.Mathlib.Decide.{decLt}
@@ -23,15 +23,13 @@ use Rattle.ledger.specs.Coherent.{allTo, isCapacity, isRing, isLive, isZ
 use Rattle.ledger.specs.declared.Flow.{Flow}
 use Rattle.ledger.specs.declared.Totals.{Totals}
 use Rattle.ledger.specs.declared.Packet.{Packet}
-use Rattle.ledger.proofs.Walks.{all-none, all-more, all-at, all-of, all-join, sum-append, sum-one, sum-bound}
+use Rattle.ledger.proofs.Walks.{all-at, all-of, all-join, sum-append, sum-bound}
 use Rattle.ledger.proofs.Geometry.{
   Cap,
   cap-facts,
   place-low,
-  place-in,
   queue-long,
   queue-at,
-  queue-more,
   queue-join,
   laid-cap,
   laid-even,
@@ -367,85 +365,6 @@ pub coheres-facts : {l : Ledger} (c : Coheres l) → Facts (c .mtu) (c .clock) (
 coheres-facts {l} c = stands-facts (c .mtu) (c .clock) (l .flow) (l .slots) (c .stands-so)
 
 -- ---- the walks of the test
-
--- the first k of the n packets from low on have been looked at
-pub record Tallying (mtu clock : ℕ) (r : Ring) (low n k : ℕ) (sound : Bool) (flying marked bytes : ℕ) : Type 0 where
-  pub within : k ≤ n
-  pub sound-is : sound ≡ allTo (slotOk mtu clock r low n) k
-  pub flying-is : flying ≡ sumOf flyingOne (queueOf r low k)
-  pub marked-is : marked ≡ sumOf markedOne (queueOf r low k)
-  pub bytes-is : bytes ≡ sumOf markedSize (queueOf r low k)
-  pub flying-few : flying ≤ k
-  pub marked-few : marked ≤ k
-  pub bytes-few : bytes ≤ k * 2 ^ 32
-
-module _ (mtu clock : ℕ) (r : Ring) (low n : ℕ) where
-  pub tally-none : (k : ℕ) → k ≡ 0 → Tallying mtu clock r low n k true 0 0 0
-  unfolding sumOf queueOf tabulate
-  tally-none k e =
-      rw e
-      (record {
-        within = omega arith;
-        sound-is = sym (all-none (slotOk mtu clock r low n));
-        flying-is = refl;
-        marked-is = refl;
-        bytes-is = refl;
-        flying-few = omega arith;
-        marked-few = omega arith;
-        bytes-few = omega arith;
-      })
-
-  sum-more : (adds : Packet → ℕ) (k a b : ℕ) → a ≡ sumOf adds (queueOf r low k) → b ≡ adds (packetAt r (placeOf (capOf r) low k))
-      → a + b ≡ sumOf adds (queueOf r low (k + 1))
-  sum-more adds k a b e f =
-      let x = packetAt r (placeOf (capOf r) low k) in
-      rw (queue-more r low k, e, f) (sym (sum-append adds (queueOf r low k) (x ∷ []) ∙ ap (λ (m : ℕ). sumOf adds (queueOf r low k) + m) (sum-one adds x)))
-
-  -- one slot more
-  module _ (E : Even r) (i : ℕ) (h : low ≤ i) (l : i < capOf r) (x : Packet) (is : x ≡ packetAt r i) where
-    here : x ≡ packetAt r (placeOf (capOf r) low (i - low))
-    here = is ∙ ap (packetAt r) (sym (place-in (capOf r) low i h l (E .few)))
-
-    next : i + 1 - low ≡ i - low + 1
-    next = omega arith
-
-    pub tally-more : (s t : Bool) (a b d fl mk by : ℕ) → Tallying mtu clock r low n (i - low) s fl mk by → i - low < n → x .size < 2 ^ 32 → t ≡ isLive mtu clock x
-        → (a ≡ flyingOne x) × (a ≤ 1) → (b ≡ markedOne x) × (b ≤ 1) → (d ≡ markedSize x) × (d ≤ x .size)
-        → Tallying mtu clock r low n (i + 1 - low) (s && t) (fl + a) (mk + b) (by + d)
-    tally-more s t a b d fl mk by T h small live fa mb sd =
-        let k = i - low in
-        rw next
-        (record {
-          within = omega arith;
-          sound-is =
-              rw (T .sound-is, live, here) (ap (λ (q : Bool). allTo (slotOk mtu clock r low n) k && q) (sym (slot-live mtu clock r low n k h)))
-              ∙ sym (all-more (slotOk mtu clock r low n) k);
-          flying-is = sum-more flyingOne k fl a (T .flying-is) (fa .0 ∙ ap flyingOne here);
-          marked-is = sum-more markedOne k mk b (T .marked-is) (mb .0 ∙ ap markedOne here);
-          bytes-is = sum-more markedSize k by d (T .bytes-is) (sd .0 ∙ ap markedSize here);
-          flying-few = omega (arith, T .flying-few);
-          marked-few = omega (arith, T .marked-few);
-          bytes-few = omega (arith, T .bytes-few);
-        })
-
-    -- behind the packets
-    pub rest-more : (s t : Bool) → s ≡ allTo (slotOk mtu clock r low n) (i - low) → n ≤ i - low → t ≡ isZero x
-        → (s && t) ≡ allTo (slotOk mtu clock r low n) (i + 1 - low)
-    rest-more s t e h zero =
-        let k = i - low in
-        rw next
-        (rw (e, zero, here) (ap (λ (q : Bool). allTo (slotOk mtu clock r low n) k && q) (sym (slot-zero mtu clock r low n k h)))
-        ∙ sym (all-more (slotOk mtu clock r low n) k))
-
-  pub tally-all : (k : ℕ) (s : Bool) (fl mk by : ℕ) → Tallying mtu clock r low n k s fl mk by → n ≤ k → Tallied mtu clock r low n s fl mk by
-  tally-all k s fl mk by T h =
-      let e : k ≡ n = omega (arith, T .within) in
-      record {
-        sound-is = T .sound-is ∙ ap (allTo (slotOk mtu clock r low n)) e;
-        flying-is = T .flying-is ∙ ap (λ (m : ℕ). sumOf flyingOne (queueOf r low m)) e;
-        marked-is = T .marked-is ∙ ap (λ (m : ℕ). sumOf markedOne (queueOf r low m)) e;
-        bytes-is = T .bytes-is ∙ ap (λ (m : ℕ). sumOf markedSize (queueOf r low m)) e;
-      }
 
 -- n packets from low's slot on, whose number is a PSN with the same slots
 module _ (mtu clock : ℕ) (r : Ring) (C : Cap (capOf r)) (low : ℕ) where

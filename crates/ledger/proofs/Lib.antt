@@ -2,6 +2,7 @@
 pub mod Walks
 pub mod Geometry
 pub mod Facts
+pub mod Stretches
 pub mod Queues
 pub mod Settling
 pub mod Covering

@@ -2,6 +2,7 @@
 pub mod Packets
 pub mod Ring
 pub mod Coherent
+pub mod Stretch
 pub mod Steps
 pub mod Rows
 pub mod Bounds

@@ -1,18 +1,21 @@
 // Whether the ledger holds together: its part of refusal 2.
 use crate::Books;
-use crate::Packet;
 use crate::slots::long;
 use crate::slots::place;
 use crate::slots::read;
+use crate::stretch::bytes_within;
+use crate::stretch::count_of;
+use crate::stretch::marked_sum;
+use crate::stretch::sizes_within;
+use crate::stretch::times_until;
 ghost use mathlib.Core.Path.{_≡_};
 ghost use mathlib.Core.Bool.{true};
 ghost use Prim.Native.Nat.{_-_, _*_, _^_, _≤_};
-ghost use Rattle.ledger.specs.Packets.{flyingOne, markedOne, markedSize};
 ghost use Rattle.ledger.specs.Bounds.{inBounds};
 ghost use Rattle.ledger.specs.Ring.{ring, ledger, capOf};
-ghost use Rattle.ledger.specs.Coherent.{allTo, isCapacity, isRing, isLive, isZero, slotOk, headOk, coherent, Even, Tallied};
+ghost use Rattle.ledger.specs.Coherent.{allTo, isCapacity, isRing, slotOk, headOk, coherent, Even, Tallied};
 
-// What one walk over the packets finds: whether each slot is in order, and what they add up to.
+// What a look over the packets finds: whether each slot is in order, and what they add up to.
 pub struct Sums {
     pub sound: bool,
     pub flying: u32,
@@ -35,48 +38,7 @@ pub fn is_ring<'a>(status: &'a [u8], size: &'a [u32], sent: &'a [u64], resent: &
     is_capacity(cap) & (size.len() == cap) & (sent.len() == cap) & (resent.len() == cap)
 }
 
-// Whether a slot in low..next-1 is in order.
-fn is_live(mtu: u64, clock: u64, x: Packet) -> bool
-    ensures { λ r. ⌜ r ≡ isLive mtu clock x ⌝ }
-{
-    decide::within(crate::FLYING as u64, x.status as u64, crate::DONE as u64)
-        & decide::within(crate::SIZE_LEAST as u64, x.size as u64, mtu)
-        & (x.sent <= clock)
-        & (x.resent <= crate::RESENT_MOST)
-}
-
-// Whether another slot is all zero.
-fn is_zero(x: Packet) -> bool
-    ensures { λ r. ⌜ r ≡ isZero x ⌝ }
-{
-    (x.status == crate::EMPTY) & (x.size == 0) & (x.sent == 0) & (x.resent == 0)
-}
-
-// What a packet adds to the flying packets, to the marked packets, and to the marked bytes.
-fn flying_one(x: Packet) -> u32
-    ensures { λ r. ⌜ (r ≡ flyingOne x) × (r ≤ 1) ⌝ }
-{
-    if x.status == crate::FLYING { 1 } else { 0 }
-}
-
-fn marked_one(x: Packet) -> u32
-    ensures { λ r. ⌜ (r ≡ markedOne x) × (r ≤ 1) ⌝ }
-{
-    if x.status == crate::MARKED { 1 } else { 0 }
-}
-
-fn marked_size(x: Packet) -> u64
-    ensures { λ r. ⌜ (r ≡ markedSize x) × (r ≤ x .size) ⌝ }
-{
-    if x.status == crate::MARKED {
-        x.size as u64
-    } else {
-        0
-    }
-}
-
-// The slots from..to-1 as packets. They lie beside each other: no wrap in the loop, so that the compiler can take several at a time. "PSN p lives at
-// p mod capacity", so that slot i is that of PSN i, and these are the packets from PSN `from` on.
+// The slots from..to-1 as packets, slice by slice. "PSN p lives at p mod capacity", so that slot i is that of PSN i, and these are the packets from PSN `from` on.
 fn run<'a>(
     status: &'a [u8],
     size: &'a [u32],
@@ -92,24 +54,15 @@ fn run<'a>(
     ensures { λ r. ⌜ Tallied mtu clock (ring (now (status .entry)) (now (size .entry)) (now (sent .entry)) (now (resent .entry))) from (to - from) (r .sound) (r .flying) (r .marked) (r .«marked_bytes») ⌝ }
     ensures { λ r. ⌜ (r .flying ≤ 4096) × (r .marked ≤ 4096) × (r .«marked_bytes» ≤ 4096 * 2 ^ 32) ⌝ }
 {
-    let mut sound = true;
-    let mut flying: u32 = 0;
-    let mut marked: u32 = 0;
-    let mut marked_bytes: u64 = 0;
-    let mut i = from;
-    while i < to {
-        let x = read(status, size, sent, resent, i);
-        i += 1;
-        sound = sound & is_live(mtu, clock, x);
-        flying += flying_one(x);
-        marked += marked_one(x);
-        marked_bytes += marked_size(x);
-    }
+    let sound = bytes_within(status, crate::FLYING, crate::DONE, from, to)
+        & sizes_within(size, crate::SIZE_LEAST, mtu, from, to)
+        & times_until(sent, clock, from, to)
+        & bytes_within(resent, 0, crate::RESENT_MOST, from, to);
     Sums {
         sound,
-        flying,
-        marked,
-        marked_bytes,
+        flying: count_of(status, crate::FLYING, from, to),
+        marked: count_of(status, crate::MARKED, from, to),
+        marked_bytes: marked_sum(status, size, from, to),
     }
 }
 
@@ -145,7 +98,7 @@ fn tally<'a>(
     }
 }
 
-// Whether the slots from..to-1 are all zero, as those of no packets from PSN `from` on; walked to the end also where one is not, for the same reason.
+// Whether the slots from..to-1 are all zero, as those of no packets from PSN `from` on.
 fn zero_run<'a>(
     status: &'a [u8],
     size: &'a [u32],
@@ -158,14 +111,10 @@ fn zero_run<'a>(
     requires { ⌜ (from ≤ to) × (to ≤ capOf (ring (now status) (now size) (now sent) (now resent))) ⌝ }
     ensures { λ r. ⌜ r ≡ allTo (slotOk 0 0 (ring (now (status .entry)) (now (size .entry)) (now (sent .entry)) (now (resent .entry))) from 0) (to - from) ⌝ }
 {
-    let mut sound = true;
-    let mut i = from;
-    while i < to {
-        let x = read(status, size, sent, resent, i);
-        i += 1;
-        sound = sound & is_zero(x);
-    }
-    sound
+    bytes_within(status, crate::EMPTY, crate::EMPTY, from, to)
+        & sizes_within(size, 0, 0, from, to)
+        & times_until(sent, 0, from, to)
+        & bytes_within(resent, 0, 0, from, to)
 }
 
 // The slots behind the n packets from low on, in one run or in two; `sound`: those before are in order.

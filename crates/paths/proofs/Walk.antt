@@ -3,19 +3,37 @@
 use mathlib.Core.Path.{_≡_, refl, sym, ap, _∙_}
 use mathlib.Core.List.{List, [], _∷_, _++_}
 use mathlib.Core.Logic.{by-cases}
-use Prim.Native.Nat.{ℕ, zero, suc, _+_, _-_, _*_, _≤_, _<_}
+use Prim.Native.Nat.{ℕ, zero, suc, _+_, _-_, _*_, _%_, _/_, _^_, _≤_, _<_}
 use native.Mathlib.Nat.{not-suc-le-zero, le-of-eq, zero-add}
 use native.Mathlib.Decide.{decLt}
 use native.Mathlib.Numerals.{add-one}
 use native.Mathlib.Omega.{arith}
-use lib.ListN.{length, take, drop, getD, length-append, length-drop, drop-of-length-le}
-use lib.Seq.{drop-cons, take-all}
+use lib.ListN.{length, take, drop, getD, length-append, length-take, length-drop, drop-of-length-le}
+use lib.Seq.{drop-cons, take-all, getD-take, getD-drop}
 use Rattle.decide.specs.Branch.{lt-yes, lt-no, lt-both}
-use Rattle.paths.specs.Path.{avoids, avoided, firstFree, steps}
+use Rattle.paths.specs.Path.{timeMost, Early, avoids, avoided, firstFree, steps}
 
 pub avoids-le : (time until : ℕ) → avoids time until ≤ 1
 unfolding avoids
 avoids-le time until = lt-both (λ (r : ℕ). r ≤ 1) time until 1 0 (λ h. omega arith) (λ h. omega arith)
+
+-- the highest bit of a wrapped difference of times
+pub sign-tells : (time until d : ℕ) → time < timeMost → until < timeMost → d < 2 ^ 64 → (d + until) % 2 ^ 64 ≡ time → d / timeMost ≡ avoids time until
+unfolding avoids
+sign-tells time until d ht hu hd e =
+    by-cases (decLt time until)
+    (λ h. lt-yes time until _ 1 0 h (omega arith))
+    (λ h. lt-no time until _ 1 0 (omega arith) (omega arith))
+
+-- a part of the times is as early
+pub early-part : (evs : List ℕ) (m k : ℕ) → Early evs → Early (take m (drop k evs))
+early-part evs m k E =
+    record {
+      each = λ j h.
+          let n = length-take m (drop k evs) in
+          let rest = length-drop k evs in
+          rw (getD-take m (drop k evs) j 0 (omega arith), getD-drop k evs j 0) (E .each (k + j) (omega arith));
+    }
 
 module _ (time : ℕ) where
   -- the first free EV of a list, by whether its first EV is avoided

@@ -1,8 +1,8 @@
 -- The next path: document 01, "Next path". Entry e of the list is the time of EV e; n, today 256, is the list's length.
 -- Assumes nothing.
 use mathlib.Core.List.{List, [], _∷_, _++_}
-use Prim.Native.Nat.{ℕ, suc, _+_, _*_, _%_}
-use lib.ListN.{length, take, drop, set}
+use Prim.Native.Nat.{ℕ, suc, _+_, _*_, _%_, _^_, _<_}
+use lib.ListN.{length, take, drop, getD, set}
 use Rattle.decide.specs.Branch.{ifLt}
 use Rattle.paths.specs.declared.Choice.{Choice}
 
@@ -31,6 +31,13 @@ from cursor evs = drop cursor evs ++ take cursor evs
 -- "Twice the avoided count over 256: take the cursor. Else the first EV from the cursor on": how many EVs, of those in that order, are passed
 unfoldable pub steps : ℕ → List ℕ → ℕ
 steps time evs = ifLt (length evs) (2 * avoided time evs) 0 (firstFree time evs)
+
+-- what the code relies on: no time is 2^63 or more ("an EV time of 2^49 or more" is refusal 2)
+abbrev pub timeMost : ℕ
+timeMost = 2 ^ 63
+
+pub record Early (evs : List ℕ) : Type 0 where
+  pub each : (k : ℕ) → k < length evs → getD evs k 0 < timeMost
 
 -- the EV that lies s steps from the cursor; "Cursor becomes that EV + 1, modulo 256"
 unfoldable pub landed : ℕ → ℕ → ℕ → Choice

@@ -4,7 +4,10 @@ ghost use mathlib.Core.Path.{_≡_};
 ghost use mathlib.Core.List.{_++_};
 ghost use Prim.Native.Nat.{_+_, _%_, _^_, _≤_, _<_};
 ghost use lib.ListN.{length};
-ghost use Rattle.paths.specs.Path.{withTime, avoids, avoided, firstFree, landed, choice};
+ghost use Rattle.paths.specs.Path.{timeMost, Early, withTime, avoids, avoided, firstFree, landed, choice};
+
+// Every time, an EV's and the event's, is below this: they are below 2^49.
+const TIME_MOST: u64 = 1 << 63;
 
 // The EV that is taken, and the cursor after it.
 pub struct Choice {
@@ -26,15 +29,18 @@ pub fn avoid_until(evs: &mut [u64], ev: usize, until: u64)
     evs[ev] = until;
 }
 
-// 1 for an EV that is avoided, 0 for another.
+// 1 for an EV that is avoided, 0 for another. Below 2^63 the highest bit of the wrapped difference is set exactly where it is below zero: no comparison of 64-bit
+// numbers, of which x86-64 has none that takes several at a time.
 fn one_avoided(until: u64, time: u64) -> usize
+    requires { ⌜ (until < timeMost) × (time < timeMost) ⌝ }
     ensures { λ r. ⌜ r ≡ avoids time until ⌝ }
 {
-    if time < until { 1 } else { 0 }
+    (std::num::wrapping_sub_u64(time, until) / TIME_MOST) as usize
 }
 
 // How many EVs are avoided.
 fn count_avoided(evs: &[u64], time: u64) -> usize
+    requires { ⌜ Early (now evs) × (time < timeMost) ⌝ }
     ensures { λ r. ⌜ (r ≡ avoided time (now (evs .entry))) × (r ≤ length (now (evs .entry))) ⌝ }
 {
     let mut count: usize = 0;
@@ -75,6 +81,7 @@ fn wrap(x: usize, n: usize) -> usize
 // first free one (request M-102): no EV is looked at for both.
 fn go_round(tail: &[u64], head: &[u64], time: u64) -> Round
     requires { ⌜ length (now tail) + length (now head) < 2 ^ 60 ⌝ }
+    requires { ⌜ Early (now tail) × Early (now head) × (time < timeMost) ⌝ }
     ensures { λ r. ⌜ (r .passed ≡ firstFree time (now (tail .entry) ++ now (head .entry))) × (r .avoided ≡ avoided time (now (tail .entry) ++ now (head .entry))) ⌝ }
 {
     let k = first_free(tail, time);
@@ -100,9 +107,10 @@ fn land(cursor: usize, s: usize, n: usize) -> Choice
     Choice { ev, cursor: next }
 }
 
-// The next path. An inner step: its caller proves that the cursor is an EV.
+// The next path. An inner step: its caller proves that the cursor is an EV, and that no time is 2^63 or more.
 pub fn choose(evs: &[u64], cursor: usize, time: u64) -> Choice
     requires { ⌜ cursor < length (now evs) ⌝ }
+    requires { ⌜ Early (now evs) × (time < timeMost) ⌝ }
     ensures { λ r. ⌜ r ≡ choice time cursor (now (evs .entry)) ⌝ }
 {
     // A cursor that is not avoided is taken whatever the count says: more than half avoided takes it too.

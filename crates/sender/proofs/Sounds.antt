@@ -5,6 +5,7 @@ use mathlib.Core.Path.{_≡_, refl, sym, ap, _∙_}
 use mathlib.Core.Bool.{Bool, true, false, not, _&&_}
 use mathlib.Core.List.{List, [], _∷_}
 use Prim.Native.Nat.{ℕ, zero, suc, _+_, _^_, _≤_, _<_}
+use native.Mathlib.Nat.{not-suc-le-zero, le-of-suc-le-suc}
 use native.Mathlib.Numerals.{add-one}
 use native.Mathlib.Omega.{arith}
 use lib.Dec.{ltb, eqb}
@@ -20,6 +21,7 @@ use Rattle.window.specs.declared.Settings.{Settings}
 use Rattle.window.specs.declared.Window.{Window}
 use Rattle.window.proofs.Tests.{range-facts, range-test, held-facts, held-test}
 use Rattle.window.proofs.Ceilings.{ceiling-high}
+use Rattle.paths.specs.Path.{Early}
 use Rattle.ledger.specs.Ring.{Ring, Ledger, ledger}
 use Rattle.ledger.specs.Coherent.{coherent, Even, Coheres}
 use Rattle.ledger.specs.declared.Flow.{Flow}
@@ -81,6 +83,16 @@ pub times-end : (ts : List ℕ) (k : ℕ) (ok : Bool) → timesOk ts ≡ (ok && 
 times-end ts k ok e h =
     let all : timesOk (drop k ts) ≡ true = ap timesOk (drop-of-length-le ts h) ∙ times-none in
     sym (e ∙ ap (λ (b : Bool). ok && b) all ∙ and-true ok)
+
+-- each of them is in its bound, which is what `paths` asks of them
+times-each : (ts : List ℕ) → timesOk ts ≡ true → (k : ℕ) → k < length ts → getD ts k 0 < laterEnd
+unfolding timesOk
+times-each [] e k h = absurd (not-suc-le-zero h)
+times-each (x ∷ xs) e zero h = ltb-true x laterEnd (both (ltb x laterEnd) (timesOk xs) e .0)
+times-each (x ∷ xs) e (suc k) h = times-each xs (both (ltb x laterEnd) (timesOk xs) e .1) k (le-of-suc-le-suc h)
+
+pub times-early : (ts : List ℕ) → timesOk ts ≡ true → Early ts
+times-early ts e = record { each = λ k h. omega (arith, times-each ts e k h) }
 
 -- one time overwritten by one in its bound
 times-set : (ts : List ℕ) (k t : ℕ) → t < laterEnd → timesOk ts ≡ true → timesOk (set ts k t) ≡ true

@@ -19,10 +19,10 @@ ghost use Rattle.window.specs.Delays.{samplingOf};
 ghost use Rattle.ledger.specs.Packets.{isOut};
 ghost use Rattle.ledger.specs.Ring.{ring};
 ghost use Rattle.sender.specs.World.{world};
-ghost use Rattle.sender.specs.Sound.{sound};
+ghost use Rattle.sender.specs.Sound.{timesOk, sound};
 ghost use Rattle.sender.specs.Rows.{newDataRows, sendAllRows, ackAllRows, nackAllRows, lossAllRows};
 ghost use Rattle.paths.specs.Path.{choice};
-ghost use Rattle.sender.specs.Limits.{evCount};
+ghost use Rattle.sender.specs.Limits.{timeEnd, evCount};
 ghost use Rattle.sender.specs.Bounds.{Bounded};
 ghost use Rattle.sender.specs.Steps.{avoidedIn, newDataState, sendStep, ackSampling, ackStep, nackSampling, nackStep, lossStep, pathState};
 
@@ -214,6 +214,7 @@ pub fn loss<'a, 'b, 'c>(
 pub fn path(c: Controller, evs: &[u64], time: u64) -> Stepped
     requires { ⌜ Bounded c ⌝ }
     requires { ⌜ (length (now evs) ≡ evCount) × (c .cursor < evCount) ⌝ }
+    requires { ⌜ (timesOk (now evs) ≡ true) × (time < timeEnd) ⌝ }
     ensures { λ r. ⌜ (r .state ≡ pathState time (choice time (c .cursor) (now (evs .entry)) .cursor) c) × (r .ev ≡ choice time (c .cursor) (now (evs .entry)) .ev) ⌝ }
 {
     let settings = c.settings;

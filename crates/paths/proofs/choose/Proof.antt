@@ -1,8 +1,10 @@
 -- `choose` is the next path: the cursor where its EV is free or more than half are avoided, else as many steps on as the round passes.
 use mathlib.Core.Path.{_∙_}
+use Prim.Native.Nat.{_-_}
+use lib.ListN.{length}
 use native.Mathlib.Omega.{arith}
 use borrow.Author.Needs.{needs}
-use Rattle.paths.proofs.Walk.{avoided-le}
+use Rattle.paths.proofs.Walk.{avoided-le, early-part}
 use Rattle.paths.proofs.Circle.{steps-inside, cursor-free, over-half, half-or-less, free-parts, avoided-parts, lands-on}
 use Rattle.paths.proofs.choose.Statement.{statement}
 use Rattle.paths.proofs.choose.Tie as tie
@@ -22,7 +24,7 @@ returns c =
     let cursor = start .args .cursor in
     let evs = start .args .evs .now in
     let time = start .args .time in
-    c .land .ensures ∙ lands-on cursor evs (start .pre) time 0 (cursor-free cursor evs (start .pre) time (omega arith))
+    c .land .ensures ∙ lands-on cursor evs (start .pre .0) time 0 (cursor-free cursor evs (start .pre .0) time (omega arith))
 
 mul-go-round : tie.Need-mul-go-round
 mul-go-round c = search needs
@@ -46,7 +48,12 @@ part-go-round-end-2 : tie.Need-part-go-round-end-2
 part-go-round-end-2 c = search needs
 
 go-round-requires : tie.Need-go-round-requires
-go-round-requires c κs = search needs
+go-round-requires c κs =
+    let start = c .before .before .before .before .before in
+    let evs = start .args .evs .now in
+    let E = start .pre .1 .0 in
+    let cursor = start .args .cursor in
+    (omega arith, (early-part evs (length evs - cursor) cursor E, early-part evs (cursor - 0) 0 E, start .pre .1 .1))
 
 mul-if2 : tie.Need-mul-if2
 mul-if2 c =
@@ -56,7 +63,7 @@ mul-if2 c =
     let time = start .args .time in
     let round = c .before .go-round in
     let bound = avoided-le time evs in
-    let counted = avoided-parts cursor evs (start .pre) time (round .result .avoided) (round .ensures .1) in
+    let counted = avoided-parts cursor evs (start .pre .0) time (round .result .avoided) (round .ensures .1) in
     search needs
 
 land-requires-2 : tie.Need-land-requires-2
@@ -69,8 +76,8 @@ returns-2 c =
     let evs = start .args .evs .now in
     let time = start .args .time in
     let round = c .before .before .before .go-round in
-    let counted = avoided-parts cursor evs (start .pre) time (round .result .avoided) (round .ensures .1) in
-    c .land2 .ensures ∙ lands-on cursor evs (start .pre) time 0 (over-half cursor evs (start .pre) time (omega arith))
+    let counted = avoided-parts cursor evs (start .pre .0) time (round .result .avoided) (round .ensures .1) in
+    c .land2 .ensures ∙ lands-on cursor evs (start .pre .0) time 0 (over-half cursor evs (start .pre .0) time (omega arith))
 
 land-requires-3 : tie.Need-land-requires-3
 land-requires-3 c κs =
@@ -79,12 +86,12 @@ land-requires-3 c κs =
     let evs = start .args .evs .now in
     let time = start .args .time in
     let round = c .before .before .go-round in
-    let counted = avoided-parts cursor evs (start .pre) time (round .result .avoided) (round .ensures .1) in
+    let counted = avoided-parts cursor evs (start .pre .0) time (round .result .avoided) (round .ensures .1) in
     omega (
       arith,
-      steps-inside cursor evs (start .pre) time,
-      half-or-less cursor evs (start .pre) time (omega arith),
-      free-parts cursor evs (start .pre) time (round .result .passed) (round .ensures .0),
+      steps-inside cursor evs (start .pre .0) time,
+      half-or-less cursor evs (start .pre .0) time (omega arith),
+      free-parts cursor evs (start .pre .0) time (round .result .passed) (round .ensures .0),
     )
 
 returns-3 : tie.Need-returns-3
@@ -94,10 +101,10 @@ returns-3 c =
     let evs = start .args .evs .now in
     let time = start .args .time in
     let round = c .before .before .before .go-round in
-    let counted = avoided-parts cursor evs (start .pre) time (round .result .avoided) (round .ensures .1) in
+    let counted = avoided-parts cursor evs (start .pre .0) time (round .result .avoided) (round .ensures .1) in
     c .land3 .ensures
-    ∙ lands-on cursor evs (start .pre) time (round .result .passed)
-    (free-parts cursor evs (start .pre) time (round .result .passed) (round .ensures .0) ∙ half-or-less cursor evs (start .pre) time (omega arith))
+    ∙ lands-on cursor evs (start .pre .0) time (round .result .passed)
+    (free-parts cursor evs (start .pre .0) time (round .result .passed) (round .ensures .0) ∙ half-or-less cursor evs (start .pre .0) time (omega arith))
 
 pub choose-spec : {M : Type 1} → statement M
 choose-spec =

@@ -25,7 +25,9 @@ shared-slice-read-one-avoided : tie.Need-shared-slice-read-one-avoided Inv-loop 
 shared-slice-read-one-avoided c = search needs
 
 one-avoided-requires : tie.Need-one-avoided-requires Inv-loop μ-loop
-one-avoided-requires c κs = search needs
+one-avoided-requires c κs =
+    let s = c .before .before .before .before in
+    (s .pre .0 .each _ (omega arith), s .pre .1)
 
 add-count : tie.Need-add-count Inv-loop μ-loop
 add-count c =

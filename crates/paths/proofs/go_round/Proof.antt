@@ -1,7 +1,9 @@
 -- `go_round` passes the avoided EVs of the one part and then of the other, and counts on from the first free one.
+use Prim.Native.Nat.{_-_}
+use lib.ListN.{length}
 use native.Mathlib.Omega.{arith}
 use borrow.Author.Needs.{needs}
-use Rattle.paths.proofs.Walk.{avoided-append, avoided-lent, free-tail, free-head, avoided-head}
+use Rattle.paths.proofs.Walk.{early-part, avoided-append, avoided-lent, free-tail, free-head, avoided-head}
 use Rattle.paths.proofs.go_round.Statement.{statement}
 use Rattle.paths.proofs.go_round.Tie as tie
 
@@ -21,7 +23,10 @@ part-count-avoided-end : tie.Need-part-count-avoided-end
 part-count-avoided-end c = search needs
 
 count-avoided-requires : tie.Need-count-avoided-requires
-count-avoided-requires c κs = search needs
+count-avoided-requires c κs =
+    let s = c .before .before .before .before .before in
+    let k = c .before .before .first-free .result in
+    (early-part (s .args .tail .now) (length (s .args .tail .now) - k) k (s .pre .1 .0), s .pre .1 .2)
 
 add-avoided : tie.Need-add-avoided
 add-avoided c = search needs
@@ -59,7 +64,10 @@ part-count-avoided-end-2 : tie.Need-part-count-avoided-end-2
 part-count-avoided-end-2 c = search needs
 
 count-avoided-requires-3 : tie.Need-count-avoided-requires-3
-count-avoided-requires-3 c κs = search needs
+count-avoided-requires-3 c κs =
+    let s = c .before .before .before .before .before .before in
+    let j = c .before .first-free2 .result in
+    (early-part (s .args .head .now) (length (s .args .head .now) - j) j (s .pre .1 .1), s .pre .1 .2)
 
 add-avoided-4 : tie.Need-add-avoided-4
 add-avoided-4 c = search needs

@@ -1,5 +1,6 @@
 -- `path` judges the time, then chooses: each answer is a case of `onPath` of a sound world, by the laws of `Rowing`.
 use mathlib.Core.Path.{sym, ap, ap₂, _∙_}
+use mathlib.Core.List.{[]}
 use Prim.Native.Nat.{ℕ}
 use borrow.Author.Needs.{needs}
 use Rattle.ledger.specs.Ring.{ring}
@@ -10,6 +11,7 @@ use Rattle.sender.specs.Steps.{pathStep}
 use Rattle.sender.specs.Events.{onPath}
 use Rattle.sender.specs.declared.Controller.{Controller}
 use Rattle.sender.proofs.Sounds.{sound-facts, sound-bounded}
+use Rattle.sender.proofs.Stepping.{time-facts}
 use Rattle.sender.proofs.Rowing.{path-late, entry-refused, entry-accepted, taken, untaken}
 use Rattle.sender.proofs.rely.path.Statement.{statement}
 use Rattle.sender.proofs.rely.path.Tie as tie
@@ -40,7 +42,9 @@ path-requires : tie.Need-path-requires
 path-requires c κs =
     let s = start (c .before) in
     let f = sound-facts (handed s) (s .pre) in
-    (sound-bounded (handed s) (s .pre), (f .times-long, f .cursor-ok))
+    let j = c .before .judge-path in
+    let t = time-facts (s .args .time) (s .args .c) [] (sym (j .ensures) ∙ c .if1 .left) .0 in
+    (sound-bounded (handed s) (s .pre), ((f .times-long, f .cursor-ok), (f .times-ok, t .early)))
 
 returns-2 : tie.Need-returns-2
 unfolding onPath pathStep pathNumber pathEv

@@ -6,6 +6,7 @@ use borrow.Author.Needs.{needs}
 use Rattle.paths.specs.declared.Choice.{Choice}
 use Rattle.sender.specs.Limits.{evCount}
 use Rattle.sender.specs.Steps.{pathState}
+use Rattle.sender.proofs.Sounds.{times-early}
 use Rattle.sender.proofs.Stepping.{taken-inside}
 use Rattle.sender.proofs.steps.path.Statement.{statement}
 use Rattle.sender.proofs.steps.path.Tie as tie
@@ -17,13 +18,15 @@ entry p = p .before .before .before .before .before .before .before
 inside : (p : tie.After-choose) → (p .choose .result .ev < evCount) × (p .choose .result .cursor < evCount)
 inside p =
     let s = entry p in
-    taken-inside (s .args .time) (s .args .c .cursor) (s .args .evs .now) (p .choose .ensures) (s .pre .1 .0) (s .pre .1 .1)
+    taken-inside (s .args .time) (s .args .c .cursor) (s .args .evs .now) (p .choose .ensures) (s .pre .1 .0 .0) (s .pre .1 .0 .1)
 
 cast-choose : tie.Need-cast-choose
 cast-choose c = search needs
 
 choose-requires : tie.Need-choose-requires
-choose-requires c κs = search needs
+choose-requires c κs =
+    let s = c .before .before .before .before .before .before in
+    (search needs, (times-early (s .args .evs .now) (s .pre .1 .1 .0), omega arith))
 
 cast-state-of : tie.Need-cast-state-of
 cast-state-of c = omega (arith, inside (c .before))
