@@ -38,12 +38,13 @@ enum nscc_refusal {
     NSCC_UNSENT_OR_OLD = 9, /* an ACK that names an unsent packet, or is too old */
     NSCC_NOT_FLYING = 10,  /* a NACK or a loss of a packet that does not fly */
     NSCC_SINKS = 11,       /* in-flight would fall below -2^24 */
-    NSCC_MALFORMED = 12,   /* nscc_replay: a log record is malformed */
+    NSCC_MALFORMED = 12,   /* nscc_replay, nscc_chunk: a log record is malformed */
     NSCC_BAD_BYTES = 20,   /* new data of 0 bytes, or a backlog over 2^40 */
     NSCC_BAD_COUNT = 21,   /* a received count of 2^24 or more */
     NSCC_BAD_REASON = 22,  /* a NACK's reason over 2 */
     NSCC_BAD_EV = 23,      /* an EV over 255 */
-    NSCC_BAD_TRIGGER = 24  /* an ACK that does not cover its trigger */
+    NSCC_BAD_TRIGGER = 24, /* an ACK that does not cover its trigger */
+    NSCC_TOO_LONG = 28     /* nscc_chunk: with the chunk the log would have 2^48 bytes or more */
 };
 
 /*
@@ -181,6 +182,38 @@ enum nscc_place {
 uint32_t nscc_replay(uint64_t *place, size_t place_len, uint64_t *state, size_t state_len, uint8_t *status, size_t status_len,
                      uint32_t *size, size_t size_len, uint64_t *sent, size_t sent_len, uint8_t *resent, size_t resent_len,
                      uint64_t *evs, size_t evs_len, const uint8_t *log, size_t log_len, uint64_t *answers, size_t answers_len);
+
+/* The words of a log that comes in chunks, all 0 at its start. */
+enum nscc_part {
+    NSCC_PART_AT,       /* the offset of the first record that is not done, in the joined log: below 2^48 */
+    NSCC_PART_DONE,     /* how many records are done: at most NSCC_PART_AT */
+    NSCC_PART_STOPPED,  /* 0 or 1: record 1 was refused, or a record with 12 */
+    NSCC_PART_PIECE,    /* how many bytes the piece holds: at most NSCC_PIECE */
+    NSCC_PART_ANSWERED, /* how many answers the last call gave */
+    NSCC_PART_TAKEN,    /* how many bytes of its chunk the last call took */
+    NSCC_PART           /* how many words there are: 6 */
+};
+
+/* The room of the piece, which holds the record that is not whole yet: exactly so many bytes. */
+#define NSCC_PIECE 57
+
+/*
+ * Replays a log that comes in chunks of any length, possibly of none, with records cut anywhere: the piece's bytes, then the chunk's. ended says that the log
+ * has ended with this chunk; a chunk of no bytes may say so by itself. The answers of all calls are those of nscc_replay on the joined log.
+ * Answers 0, 2 or 28, the latter two with nothing changed:
+ *   - 2: a wrong length of part, piece or state, a word of part that is not as above, or a state and buffers that don't hold together;
+ *   - else 0 where replay has stopped: the whole chunk is taken, and nothing changes but NSCC_PART_ANSWERED and NSCC_PART_TAKEN;
+ *   - else 28: NSCC_PART_AT, the piece and the chunk have 2^48 bytes or more. No byte is taken, and the chunk is no part of the log.
+ * Else records are answered as nscc_replay answers them until nothing whole is left, replay stops or the answers' room is full. A length and a kind that are no
+ * record's are refused with 12 as soon as both are there, a record that is not whole only where the log has ended.
+ * Where the room is full, no byte is taken that no answer needed: hand in the rest of the chunk again, with room for at least one answer. Else the whole chunk
+ * is taken, and what is left of it stays in the piece; nothing where replay has stopped. The piece's room behind what it holds is then zeros. The room behind
+ * the answers given is left as it was. The state's words are looked at and written as by nscc_replay.
+ */
+uint32_t nscc_chunk(uint64_t *part, size_t part_len, uint8_t *piece, size_t piece_len, uint64_t *state, size_t state_len,
+                    uint8_t *status, size_t status_len, uint32_t *size, size_t size_len, uint64_t *sent, size_t sent_len,
+                    uint8_t *resent, size_t resent_len, uint64_t *evs, size_t evs_len, const uint8_t *chunk, size_t chunk_len, bool ended,
+                    uint64_t *answers, size_t answers_len);
 
 #ifdef __cplusplus
 }

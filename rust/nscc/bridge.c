@@ -1,7 +1,7 @@
 /*
  * Calls the library for a caller on another processor, under an emulator.
  *
- * A request on standard input: the function's number, nine arguments, the lengths of nine arrays, then the arrays. The answer on standard output: what the
+ * A request on standard input: the function's number, nine arguments, the lengths of ten arrays, then the arrays. The answer on standard output: what the
  * function answered, whether memory beside the arrays is untouched, then the arrays again but for the log. Numbers have 64 bits, the least significant byte first.
  */
 #include "nscc.h"
@@ -10,14 +10,14 @@
 #include <stdlib.h>
 #include <string.h>
 
-enum function { SET_UP, NEW_DATA, SEND, ACK, NACK, LOSS, PATH, REPLAY };
+enum function { SET_UP, NEW_DATA, SEND, ACK, NACK, LOSS, PATH, REPLAY, CHUNK };
 
-/* First are the settings of setting up, or the place of a replay. */
-enum array { FIRST, STATE, STATUS, SIZE, SENT, RESENT, EVS, ANSWERS, LOG, ARRAYS };
+/* First are the settings of setting up, the place of a replay, or the part of a log in chunks; the log may be a chunk of one. */
+enum array { FIRST, STATE, STATUS, SIZE, SENT, RESENT, EVS, ANSWERS, PIECE, LOG, ARRAYS };
 
 enum { ARGUMENTS = 9, FENCE = 64, ODD = 0xa5 };
 
-static const size_t width[ARRAYS] = {8, 8, 1, 4, 8, 1, 8, 8, 1};
+static const size_t width[ARRAYS] = {8, 8, 1, 4, 8, 1, 8, 8, 1, 1};
 
 struct request {
     uint64_t function;
@@ -86,6 +86,8 @@ static uint64_t call(const struct request *request)
         return nscc_path(CONTEXT, a[0]);
     case REPLAY:
         return nscc_replay(LENT(FIRST), CONTEXT, LENT(LOG), LENT(ANSWERS));
+    case CHUNK:
+        return nscc_chunk(LENT(FIRST), LENT(PIECE), CONTEXT, LENT(LOG), a[0], LENT(ANSWERS));
     default:
         exit(1);
     }

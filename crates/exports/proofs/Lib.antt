@@ -2,5 +2,6 @@
 pub mod Answers
 pub mod Singles
 pub mod Handing
+pub mod Parting
 pub mod Untouched
 pub mod Constant

@@ -8,7 +8,7 @@ use mathlib.Core.List.{List}
 use Prim.Native.Nat.{ℕ, _^_, _/_, _%_}
 use lib.Dec.{leb}
 use borrow.Author.Tests.{ne-eqb}
-use Rattle.decide.specs.Branch.{ifEq, so-no, eq-no, so-both}
+use Rattle.decide.specs.Branch.{ifEq, so-no, eq-no, so-both, lt-both}
 use Rattle.decide.specs.Test.{inside}
 use Rattle.window.specs.Range.{inRange}
 use Rattle.ledger.specs.Ring.{Ring}
@@ -23,12 +23,14 @@ use Rattle.sender.specs.declared.Nack.{Nack}
 use Rattle.sender.specs.declared.Loss.{Loss}
 use Rattle.sender.proofs.Refusals.{new-data-same, send-same, ack-same, nack-same, loss-same, path-same, set-up-same}
 use Rattle.replay.specs.Answers.{soundAfter}
-use Rattle.replay.specs.Places.{logged, holds}
+use Rattle.replay.specs.Places.{logged, offsetMost, holds}
 use Rattle.replay.specs.Batches.{Batching, filled, batchOf}
+use Rattle.chunks.specs.Chunks.{Chunking, keeps, takes, chunkOf}
 use Rattle.words.specs.Layout.{word, flag, settingsFrom, stateFrom, wordsOk, unpacked}
 use Rattle.words.specs.declared.Unpacked.{Unpacked}
 use Rattle.exports.specs.Calls.{Called, called, wordsAfter, Beside, pathBeside, ackBeside, nackBeside, besideWord, onWords, onBesideWords, onSetUpWords}
 use Rattle.exports.proofs.Singles.{word-parts, path-double, ack-double, nack-double}
+use Rattle.exports.specs.Parts.{heldFrom, partOk, Chunked, chunkCalled, partThen, handedPart, onChunkWords}
 use Rattle.exports.specs.Batch.{placeFrom, lentOk, Replayed, replayCalled, placeThen, wordsThen, handed, onReplayWords}
 
 pub record Untouched (x : Called) (ws : List ℕ) (r : Ring) (t : List ℕ) : Type 0 where
@@ -183,3 +185,30 @@ module _ (log place ws : List ℕ) (r : Ring) (t answers : List ℕ) where
       so-both (λ (x : Replayed). x ≡ replayCalled 2 place ws r t answers) (lentOk place ws) _ _
       (λ _. sym (ap (handed place ws) (so-no (holds p w) _ _ _ broken refl)))
       (λ _. refl)
+
+-- ---- a refused chunk
+
+module _ (chunk : List ℕ) (ended : Bool) (part piece ws : List ℕ) (r : Ring) (t answers : List ℕ) where
+  -- a number other than 0, and all is as it was
+  abbrev pub SparedChunk : Chunked → Type 0
+  SparedChunk x = (x .number ≡ 0 → ⊥) → x ≡ chunkCalled (x .number) part piece ws r t answers
+
+  -- beside a refused chunk nothing is stored
+  chunk-spared :
+      (b : Chunking) → SparedChunk (chunkCalled (b .number) part (b .piece) ws (b .after .slots) (b .after .times) (b .room)) → SparedChunk (handedPart part ws b)
+  unfolding handedPart partThen wordsThen ifEq
+  chunk-spared b f h = rw (ne-eqb (b .number) 0 h) (f h)
+
+  pub chunk-untouched : SparedChunk (onChunkWords chunk ended part piece ws r t answers)
+  unfolding onChunkWords chunkOf takes
+  chunk-untouched =
+      let h = heldFrom part in
+      let w = world (unpacked ws .state) r t in
+      let P : Chunking → Type 0 = λ b. SparedChunk (chunkCalled (b .number) part (b .piece) ws (b .after .slots) (b .after .times) (b .room)) in
+      so-both SparedChunk (partOk part ws) _ _
+      (λ _.
+      chunk-spared (chunkOf h w piece chunk ended answers)
+      (so-both P (keeps h w piece) _ _
+      (λ _. so-both P (h .place .stopped) _ _ (λ _ n. absurd (n refl)) (λ _. lt-both P offsetMost _ _ _ (λ _ _. refl) (λ _ n. absurd (n refl))))
+      (λ _ _. refl)))
+      (λ _ _. refl)

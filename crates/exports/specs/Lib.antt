@@ -1,3 +1,4 @@
 -- What the contracts of `exports` cite.
 pub mod Calls
 pub mod Batch
+pub mod Parts

@@ -3,6 +3,7 @@
 // No function has a `requires`; what no proof can see, that pointers and lengths are true and that nothing overlaps, is said in include/nscc.h.
 
 pub mod batch;
+pub mod parts;
 
 use replay::records::Event;
 use sender::Ack;

@@ -4,6 +4,7 @@
 //! before anything is timed.
 
 mod calls;
+mod chunks;
 mod logs;
 mod replays;
 mod sides;
@@ -32,6 +33,7 @@ fn main() {
     replays::kinds(&mut table);
     replays::paths(&mut table);
     replays::rooms(&mut table);
+    chunks::lengths(&mut table);
     replays::lengths(&mut table);
     replays::acks(&mut table);
     calls::events(&mut table);

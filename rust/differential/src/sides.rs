@@ -80,15 +80,18 @@ impl Model {
 }
 
 /// Elements between two fences, which nobody may touch.
-struct Fenced<T> {
+pub struct Fenced<T> {
     all: Vec<T>,
     fence: T,
 }
 
 const FENCE: usize = 8;
 
+/// What stands in the fences, as wide as the elements are.
+pub const ODD: u64 = 0xa5a5_a5a5_a5a5_a5a5;
+
 impl<T: Copy + PartialEq> Fenced<T> {
-    fn new(inner: &[T], fence: T) -> Fenced<T> {
+    pub fn new(inner: &[T], fence: T) -> Fenced<T> {
         let fences = [fence; FENCE];
         Fenced {
             all: [&fences, inner, &fences].concat(),
@@ -100,16 +103,16 @@ impl<T: Copy + PartialEq> Fenced<T> {
         self.all.len() - FENCE
     }
 
-    fn inner(&self) -> &[T] {
+    pub fn inner(&self) -> &[T] {
         &self.all[FENCE..self.end()]
     }
 
-    fn inner_mut(&mut self) -> &mut [T] {
+    pub fn inner_mut(&mut self) -> &mut [T] {
         let end = self.end();
         &mut self.all[FENCE..end]
     }
 
-    fn whole(&self) -> bool {
+    pub fn whole(&self) -> bool {
         let fences = [&self.all[..FENCE], &self.all[self.end()..]];
         fences
             .iter()
@@ -129,7 +132,6 @@ pub struct Ours {
 
 impl Ours {
     pub fn of(model: &Model) -> Ours {
-        const ODD: u64 = 0xa5a5_a5a5_a5a5_a5a5;
         let memory = &model.memory;
         Ours {
             words: Fenced::new(&model.words, ODD),
@@ -189,7 +191,7 @@ impl Ours {
     }
 }
 
-fn same<T: Copy + PartialEq + std::fmt::Debug>(
+pub fn same<T: Copy + PartialEq + std::fmt::Debug>(
     name: &str,
     ours: &[T],
     model: &[T],

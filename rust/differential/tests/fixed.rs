@@ -89,6 +89,14 @@ fn replay() {
 }
 
 #[test]
+fn chunks() {
+    let tally = run(Kind::Chunks, 2_000);
+    all_met(&tally, &[0, 1, 2, 3, 5, 6, 8, 9, 10, 11, 12, 28], 5);
+    all_met(&tally, &FIELDS, 5);
+    often(&tally, &tally.samples, 20);
+}
+
+#[test]
 fn text() {
     let tally = run(Kind::Text, 2_400);
     all_met(&tally, &[0, 1, 3, 5, 6, 8, 9, 10, 11, 12], 5);

@@ -5,6 +5,9 @@ pub const TIME_END: u64 = 1 << 48;
 /// The quick-adapt end and the EV times lie below this.
 pub const LATER_END: u64 = 1 << 49;
 
+/// A log that comes in chunks is shorter than this, in bytes.
+pub const LOG_END: u64 = 1 << 48;
+
 /// Received counts lie below this and wrap at it.
 pub const COUNT_END: u32 = 1 << 24;
 /// A wrapped difference of counts from here on means an old count.

@@ -112,7 +112,7 @@ impl From<Loss> for Event {
 
 /// What an event answers: 0 or the refusal number, the EV of an accepted path choice, and what an
 /// accepted ACK or NACK says of its sample (M-103).
-#[derive(Clone, Copy, Debug, PartialEq, Eq)]
+#[derive(Clone, Copy, Debug, Default, PartialEq, Eq)]
 pub struct Outcome {
     pub number: u8,
     pub ev: Option<u8>,

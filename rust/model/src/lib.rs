@@ -3,12 +3,14 @@
 //!
 //! [`State`] holds every number, [`Lent`] the ring and the EV times. Each event changes both in
 //! place and returns 0, or the refusal number of 01 and changes nothing. An accepted ACK or NACK
-//! says what became of its sample: [`Sampling`].
+//! says what became of its sample: [`Sampling`]. A log may also come in chunks: [`Part`] is what its
+//! replay holds between them.
 
 #![forbid(unsafe_code)]
 
 pub mod bounds;
 pub mod check;
+pub mod chunks;
 pub mod event;
 pub mod gen;
 mod ledger;
@@ -25,6 +27,7 @@ pub mod vectors;
 mod window;
 
 pub use check::number_two;
+pub use chunks::{Chunk, Part};
 pub use event::{Ack, Event, Loss, Nack, NewData, Outcome, Send};
 pub use lent::{Lent, Memory};
 pub use log::{parse, write, Reader, Record};

@@ -2,7 +2,9 @@ use crate::event::{Ack, Nack, Settings};
 use crate::raw::Lent;
 use crate::refusal::{answer, Refusal};
 use crate::sample::{sampled, Sample};
-use crate::word::{Phase, PlaceWord, Word, EVS, IN_FLIGHT_ADDED, PLACE, WORDS};
+use crate::word::{
+    PartWord, Phase, PlaceWord, Word, EVS, IN_FLIGHT_ADDED, PART, PIECE, PLACE, WORDS,
+};
 
 /// One congestion control context with its memory: the state's words, the ring and the EV times.
 ///
@@ -32,6 +34,38 @@ impl Place {
     /// Record 1 was refused, or a record was malformed: nothing more is replayed.
     pub fn stopped(&self) -> bool {
         self.word(PlaceWord::Stopped) != 0
+    }
+}
+
+/// What is held of a log that comes in chunks, beside its context. The default is its start.
+#[derive(Clone, Copy, Debug, PartialEq, Eq)]
+pub struct Part {
+    pub words: [u64; PART],
+    pub piece: [u8; PIECE],
+}
+
+impl Default for Part {
+    fn default() -> Part {
+        Part {
+            words: [0; PART],
+            piece: [0; PIECE],
+        }
+    }
+}
+
+impl Part {
+    pub fn word(&self, word: PartWord) -> u64 {
+        self.words[word as usize]
+    }
+
+    /// Record 1 was refused, or a record was malformed: nothing more is replayed.
+    pub fn stopped(&self) -> bool {
+        self.word(PartWord::Stopped) != 0
+    }
+
+    /// How many bytes the last call took of its chunk. The others are to be handed in again.
+    pub fn taken(&self) -> usize {
+        self.word(PartWord::Taken) as usize
     }
 }
 
@@ -108,6 +142,21 @@ impl Context {
     ) -> Result<usize, Refusal> {
         accepted(self.lend().replay(&mut place.words, log, answers))?;
         Ok(place.word(PlaceWord::Answered) as usize)
+    }
+
+    /// Replays what the next chunk of a log brings, with which the log has `ended` or not; how many
+    /// answers were given. Only where they fill their room is less taken than the whole chunk
+    /// ([`Part::taken`]).
+    pub fn chunk(
+        &mut self,
+        part: &mut Part,
+        chunk: &[u8],
+        ended: bool,
+        answers: &mut [u64],
+    ) -> Result<usize, Refusal> {
+        let Part { words, piece } = part;
+        accepted(self.lend().chunk(words, piece, chunk, ended, answers))?;
+        Ok(part.word(PartWord::Answered) as usize)
     }
 
     /// A word of the state, which must have all its words.

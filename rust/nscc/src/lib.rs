@@ -10,8 +10,10 @@ mod refusal;
 mod sample;
 mod word;
 
-pub use context::{Context, Place};
+pub use context::{Context, Part, Place};
 pub use event::{Ack, Nack, Settings};
 pub use refusal::{answer, Refusal};
 pub use sample::{sampled, Sample};
-pub use word::{Phase, PlaceWord, Word, EVS, IN_FLIGHT_ADDED, PLACE, SETTINGS, WORDS};
+pub use word::{
+    PartWord, Phase, PlaceWord, Word, EVS, IN_FLIGHT_ADDED, PART, PIECE, PLACE, SETTINGS, WORDS,
+};

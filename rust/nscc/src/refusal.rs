@@ -21,6 +21,7 @@ pub enum Refusal {
     Reason = 22,
     Ev = 23,
     Trigger = 24,
+    TooLong = 28,
 }
 
 impl Refusal {
@@ -29,7 +30,7 @@ impl Refusal {
     }
 
     pub fn of(number: u32) -> Option<Refusal> {
-        const ALL: [Refusal; 17] = [
+        const ALL: [Refusal; 18] = [
             Refusal::Setting,
             Refusal::Unsound,
             Refusal::Time,
@@ -47,6 +48,7 @@ impl Refusal {
             Refusal::Reason,
             Refusal::Ev,
             Refusal::Trigger,
+            Refusal::TooLong,
         ];
         ALL.into_iter().find(|refusal| refusal.number() == number)
     }
@@ -72,6 +74,7 @@ impl fmt::Display for Refusal {
             Refusal::Reason => "a NACK's reason over 2",
             Refusal::Ev => "an EV over 255",
             Refusal::Trigger => "an ACK does not cover its trigger",
+            Refusal::TooLong => "a log would have 2^48 bytes or more",
         };
         write!(f, "{}: {why}", self.number())
     }

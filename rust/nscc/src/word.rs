@@ -101,6 +101,17 @@ pub enum PlaceWord {
     Answered,
 }
 
+/// A word of a log that comes in chunks.
+#[derive(Clone, Copy, Debug, PartialEq, Eq)]
+pub enum PartWord {
+    At,
+    Done,
+    Stopped,
+    Piece,
+    Answered,
+    Taken,
+}
+
 /// The state's name.
 #[derive(Clone, Copy, Debug, PartialEq, Eq)]
 pub enum Phase {
@@ -129,6 +140,10 @@ pub const SETTINGS: usize = 12;
 pub const WORDS: usize = 39;
 /// How many words a place has.
 pub const PLACE: usize = 4;
+/// How many words a log that comes in chunks has.
+pub const PART: usize = 6;
+/// How many bytes the room of its piece has.
+pub const PIECE: usize = 57;
 /// How many EV times there are.
 pub const EVS: usize = 256;
 /// What is added to in-flight in its word, since in-flight may be below zero.

@@ -1,7 +1,8 @@
 //! The wrapper itself: the worked example of 01 by its methods, and a log by its replay.
 
 use nscc::{
-    answer, sampled, Ack, Context, Nack, Phase, Place, PlaceWord, Refusal, Sample, Settings, Word,
+    answer, sampled, Ack, Context, Nack, Part, PartWord, Phase, Place, PlaceWord, Refusal, Sample,
+    Settings, Word,
 };
 
 /// The settings E of 01.
@@ -174,8 +175,8 @@ fn refused_settings_and_lengths() {
     assert_eq!(context.path(0), Err(Refusal::Unsound));
 }
 
-#[test]
-fn a_log_in_two_pieces() {
+/// Settings, a path choice and a cut end: 71 bytes.
+fn small_log() -> Vec<u8> {
     let path = [10, 0, 6, 0, 7, 0, 0, 0, 0, 0, 0, 0];
     let mut log = vec![55, 0, 16, 0];
     for number in e().numbers() {
@@ -183,7 +184,13 @@ fn a_log_in_two_pieces() {
     }
     log.extend([0; 5]);
     log.extend(path);
-    log.extend([9, 9]); // a cut end
+    log.extend([9, 9]);
+    log
+}
+
+#[test]
+fn a_log_in_two_pieces() {
+    let log = small_log();
     let mut context = Context::empty(1024);
     let mut place = Place::default();
     let mut answers = [0; 2];
@@ -195,4 +202,50 @@ fn a_log_in_two_pieces() {
     assert_eq!(place.word(PlaceWord::Done), 2);
     assert_eq!(context.replay(&mut place, &log, &mut answers), Ok(0));
     assert_eq!(context.word(Word::Cursor), 1);
+}
+
+#[test]
+fn a_log_in_chunks() {
+    let log = small_log();
+    let mut context = Context::empty(1024);
+    let mut part = Part::default();
+    let mut answers = [9; 1];
+    let (front, back) = log.split_at(40);
+    assert_eq!(context.chunk(&mut part, front, false, &mut answers), Ok(0));
+    assert_eq!((part.taken(), part.word(PartWord::Piece)), (40, 40));
+    assert_eq!(part.piece[..40], *front);
+    assert_eq!(part.piece[40..], [0; 17]);
+    assert_eq!(answers, [9]);
+    // Room for the settings' answer alone: 17 bytes are taken, the others are handed in again.
+    assert_eq!(context.chunk(&mut part, back, false, &mut answers), Ok(1));
+    assert_eq!((part.taken(), answer(answers[0])), (17, Ok(0)));
+    let back = &back[17..];
+    let mut answers = [9; 2];
+    assert_eq!(context.chunk(&mut part, back, false, &mut answers), Ok(1));
+    assert_eq!((part.taken(), part.word(PartWord::Piece)), (14, 2));
+    assert_eq!((answer(answers[0]), answers[1]), (Ok(0), 9));
+    // The end alone.
+    assert_eq!(context.chunk(&mut part, &[], true, &mut answers), Ok(1));
+    assert_eq!(answer(answers[0]), Err(Refusal::Malformed));
+    assert!(part.stopped());
+    let [at, done] = [PartWord::At, PartWord::Done].map(|word| part.word(word));
+    assert_eq!((at, done, part.piece), (69, 2, [0; 57]));
+    assert_eq!(context.chunk(&mut part, &log, false, &mut answers), Ok(0));
+    assert_eq!(part.taken(), log.len());
+    assert_eq!(context.word(Word::Cursor), 1);
+}
+
+#[test]
+fn refused_chunks() {
+    let mut context = Context::empty(64);
+    let mut part = Part::default();
+    part.words[PartWord::At as usize] = (1 << 48) - 1;
+    let mut chunk = |part: &mut Part| context.chunk(part, &[55], false, &mut [9; 1]);
+    let before = part;
+    assert_eq!(chunk(&mut part), Err(Refusal::TooLong));
+    assert_eq!(part, before);
+    part.words[PartWord::Piece as usize] = 58;
+    let before = part;
+    assert_eq!(chunk(&mut part), Err(Refusal::Unsound));
+    assert_eq!(part, before);
 }

@@ -1,6 +1,9 @@
 //! The names and numbers of the wrapper are those of `include/nscc.h`.
 
-use nscc::{PlaceWord, Refusal, Sample, Word, EVS, IN_FLIGHT_ADDED, PLACE, SETTINGS, WORDS};
+use nscc::{
+    PartWord, PlaceWord, Refusal, Sample, Word, EVS, IN_FLIGHT_ADDED, PART, PIECE, PLACE, SETTINGS,
+    WORDS,
+};
 use std::fmt::Debug;
 
 const HEADER: &str = include_str!("../../../include/nscc.h");
@@ -60,9 +63,28 @@ fn place() {
 }
 
 #[test]
+fn part() {
+    let mut header = names("nscc_part");
+    assert_eq!(header.pop().expect("the last").0, "PART");
+    assert_eq!(header.len(), PART);
+    for (name, _) in &mut header {
+        *name = name.replacen("PART_", "", 1);
+    }
+    let ours = [
+        PartWord::At,
+        PartWord::Done,
+        PartWord::Stopped,
+        PartWord::Piece,
+        PartWord::Answered,
+        PartWord::Taken,
+    ];
+    same_order(&header, &ours);
+}
+
+#[test]
 fn refusals() {
     let header = names("nscc_refusal");
-    assert_eq!(header.len(), 18);
+    assert_eq!(header.len(), 19);
     assert_eq!(header[0], ("ACCEPTED".to_string(), Some(0)));
     for (name, number) in &header[1..] {
         let refusal = number.and_then(Refusal::of).expect("a refusal");
@@ -87,6 +109,7 @@ fn samples() {
 #[test]
 fn numbers() {
     assert!(HEADER.contains(&format!("#define NSCC_EVS {EVS}\n")));
+    assert!(HEADER.contains(&format!("#define NSCC_PIECE {PIECE}\n")));
     let added = format!("#define NSCC_IN_FLIGHT_ADDED {IN_FLIGHT_ADDED}\n");
     assert!(HEADER.contains(&added));
 }

@@ -1,5 +1,6 @@
 //! The kinds of comparison.
 
+mod chunks;
 mod logs;
 mod replay;
 mod set_up;
@@ -25,18 +26,21 @@ pub enum Kind {
     Spoilt,
     /// Whole logs through `nscc_replay`, in batches.
     Replay,
+    /// Logs through `nscc_chunk`, cut anywhere.
+    Chunks,
     /// Whole logs through the program.
     Text,
 }
 
 impl Kind {
-    pub const ALL: [Kind; 7] = [
+    pub const ALL: [Kind; 8] = [
         Kind::SetUp,
         Kind::Streams,
         Kind::Logs,
         Kind::States,
         Kind::Spoilt,
         Kind::Replay,
+        Kind::Chunks,
         Kind::Text,
     ];
 
@@ -48,6 +52,7 @@ impl Kind {
             Kind::States => "states",
             Kind::Spoilt => "spoilt",
             Kind::Replay => "replay",
+            Kind::Chunks => "chunks",
             Kind::Text => "text",
         }
     }
@@ -62,6 +67,7 @@ impl Kind {
             Kind::States => states::run(seed, tally),
             Kind::Spoilt => spoilt::run(seed, tally),
             Kind::Replay => replay::run(seed, tally),
+            Kind::Chunks => chunks::run(seed, tally),
             Kind::Text => text::run(seed, tally),
         }
     }

@@ -1,7 +1,7 @@
 //! The event log: the bytes of each record, round trips, malformed records and the stops of replay.
 
 use crate::example::{new_data, record, send, settings_e};
-use model::log::append;
+use model::log::{append, parse_front};
 use model::{gen, parse, replay, write, Reader, Record, Refusal, Rng};
 
 const HEADER: &str = "rec ans inflight cwnd flying waiting backlog state\n";
@@ -156,6 +156,44 @@ fn other_kinds_are_malformed() {
             .iter()
             .any(|&fields| parse(&record(kind, &[&vec![0; fields]]), 0).is_ok());
         assert_eq!(accepted, good.contains(&kind), "kind {kind}");
+    }
+}
+
+#[test]
+fn a_front_is_read_when_it_is_whole() {
+    for (record, bytes) in one_of_each().into_iter().zip(expected_bytes()) {
+        for cut in 0..bytes.len() {
+            assert_eq!(parse_front(&bytes[..cut]), Ok(None));
+        }
+        let whole = Ok(Some((record, bytes.len())));
+        assert_eq!(parse_front(&bytes), whole);
+        assert_eq!(parse_front(&[bytes, vec![9; 5]].concat()), whole);
+    }
+}
+
+/// A length and a kind that are no pair are told at four bytes; other faults with the last byte.
+#[test]
+fn a_malformed_front_is_told_at_once() {
+    let pairs = expected_bytes().map(|bytes| [bytes[0], 0, bytes[2], 0]);
+    for kind in 0..=u16::MAX {
+        for length in (0..=70).chain([0x100 + 14, u16::MAX]) {
+            let [a, b] = u16::to_le_bytes(length);
+            let [c, d] = kind.to_le_bytes();
+            let head = [a, b, c, d];
+            let expected = if pairs.contains(&head) {
+                Ok(None)
+            } else {
+                Err(Refusal::Malformed)
+            };
+            assert_eq!(parse_front(&head), expected, "{head:?}");
+            assert_eq!(parse_front(&head[..3]), Ok(None));
+        }
+    }
+    let [_, send, ack, nack, _, _, settings] = expected_bytes();
+    for bytes in [send, ack, nack, settings] {
+        let bytes = with_last(&bytes, 4);
+        assert_eq!(parse_front(&bytes[..bytes.len() - 1]), Ok(None));
+        assert_eq!(parse_front(&bytes), Err(Refusal::Malformed));
     }
 }
 

@@ -2,6 +2,8 @@
 //! naive way of counting.
 
 mod ceiling;
+mod chunk_calls;
+mod chunks;
 mod demand3;
 mod example;
 mod ledger;

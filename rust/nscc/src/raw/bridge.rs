@@ -18,14 +18,17 @@ enum Function {
     Loss,
     Path,
     Replay,
+    Chunk,
 }
 
 const ARGUMENTS: usize = 9;
 
-/// What is lent beside a context: settings or a place, a log, room for answers.
+/// What is lent beside a context: settings, a place or a part, a piece, a log or a chunk of one, room
+/// for answers.
 #[derive(Default)]
 struct Beside<'a> {
     first: &'a mut [u64],
+    piece: &'a mut [u8],
     log: &'a [u8],
     answers: &'a mut [u64],
 }
@@ -92,8 +95,26 @@ impl Lent<'_> {
             first: place,
             log,
             answers,
+            ..Beside::default()
         };
         self.ask(Function::Replay, &[], beside) as u32
+    }
+
+    pub fn chunk(
+        &mut self,
+        part: &mut [u64],
+        piece: &mut [u8],
+        chunk: &[u8],
+        ended: bool,
+        answers: &mut [u64],
+    ) -> u32 {
+        let beside = Beside {
+            first: part,
+            piece,
+            log: chunk,
+            answers,
+        };
+        self.ask(Function::Chunk, &[ended.into()], beside) as u32
     }
 
     fn event(&mut self, function: Function, arguments: &[u64]) -> u64 {
@@ -164,6 +185,7 @@ impl Bridge {
             lent.resent.len(),
             lent.evs.len(),
             beside.answers.len(),
+            beside.piece.len(),
             beside.log.len(),
         ];
         put_u64s(&mut self.to, &lengths.map(|length| length as u64))?;
@@ -175,6 +197,7 @@ impl Bridge {
         self.to.write_all(lent.resent)?;
         put_u64s(&mut self.to, lent.evs)?;
         put_u64s(&mut self.to, beside.answers)?;
+        self.to.write_all(beside.piece)?;
         self.to.write_all(beside.log)?;
         self.to.flush()
     }
@@ -190,6 +213,7 @@ impl Bridge {
         self.from.read_exact(lent.resent)?;
         get_u64s(&mut self.from, lent.evs)?;
         get_u64s(&mut self.from, beside.answers)?;
+        self.from.read_exact(beside.piece)?;
         let [answer, whole] = answer;
         assert_eq!(whole, 1, "memory beside what was lent was written");
         Ok(answer)

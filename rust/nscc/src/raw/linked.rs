@@ -164,6 +164,30 @@ mod c {
             answers: *mut u64,
             answers_len: usize,
         ) -> u32;
+
+        pub fn nscc_chunk(
+            part: *mut u64,
+            part_len: usize,
+            piece: *mut u8,
+            piece_len: usize,
+            state: *mut u64,
+            state_len: usize,
+            status: *mut u8,
+            status_len: usize,
+            size: *mut u32,
+            size_len: usize,
+            sent: *mut u64,
+            sent_len: usize,
+            resent: *mut u8,
+            resent_len: usize,
+            evs: *mut u64,
+            evs_len: usize,
+            chunk: *const u8,
+            chunk_len: usize,
+            ended: bool,
+            answers: *mut u64,
+            answers_len: usize,
+        ) -> u32;
     }
 }
 
@@ -263,6 +287,33 @@ impl Lent<'_> {
             [place.as_mut_ptr(), place.len()],
             self,
             [log.as_ptr(), log.len(), answers.as_mut_ptr(), answers.len()]
+        )
+    }
+
+    pub fn chunk(
+        &mut self,
+        part: &mut [u64],
+        piece: &mut [u8],
+        chunk: &[u8],
+        ended: bool,
+        answers: &mut [u64],
+    ) -> u32 {
+        call!(
+            nscc_chunk,
+            [
+                part.as_mut_ptr(),
+                part.len(),
+                piece.as_mut_ptr(),
+                piece.len()
+            ],
+            self,
+            [
+                chunk.as_ptr(),
+                chunk.len(),
+                ended,
+                answers.as_mut_ptr(),
+                answers.len()
+            ]
         )
     }
 }
