@@ -1,0 +1,4 @@
+-- The laws that the proofs of `report` share, and the theorems of request M-105.
+pub mod Buckets
+pub mod Adding
+pub mod Tallies

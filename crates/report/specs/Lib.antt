@@ -1,0 +1,4 @@
+-- What the contracts of `report` cite.
+pub mod Figures
+pub mod Tallies
+pub mod Statements
