@@ -2,3 +2,6 @@
 pub mod Buckets
 pub mod Adding
 pub mod Tallies
+pub mod Exact
+pub mod Totals
+pub mod Highest
