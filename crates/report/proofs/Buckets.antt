@@ -1,11 +1,11 @@
 -- Buckets: the highest set bit, by halving. Assumes nothing.
 use mathlib.Core.Path.{_≡_, refl, sym, ap, _∙_}
 use mathlib.Core.Bool.{Bool, true, false, _&&_}
-use Prim.Native.Nat.{ℕ, zero, suc, _+_, _-_, _/_, _*_, _^_, _≤_, _<_}
+use Prim.Native.Nat.{ℕ, zero, suc, _+_, _-_, _/_, _≤_, _<_}
 use lib.Dec.{ltb, leb}
 use borrow.Author.Tests.{ltb-true, ltb-false, leb-true, leb-false}
 use native.Mathlib.Omega.{arith}
-use Rattle.decide.specs.Branch.{ifLt, lt-yes, lt-no, lt-both}
+use Rattle.decide.specs.Branch.{lt-yes, lt-no, lt-both}
 use Rattle.decide.specs.Test.{both}
 use Rattle.report.specs.Figures.{buckets, halvings, bucketOf}
 

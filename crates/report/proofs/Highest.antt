@@ -1,14 +1,13 @@
 -- REQUEST M-105, "bucket k holds those whose highest set bit is k": of any sample that a turn shows, which is from 1 to 2^20 (`highest-bit`). Assumes nothing.
-use mathlib.Core.Path.{_≡_, refl, sym, ap, _∙_}
+use mathlib.Core.Path.{_≡_, refl, ap}
 use mathlib.Core.Bool.{Bool}
+use mathlib.Core.List.{List, []}
 use mathlib.Core.Option.{Option, none, some}
-use Prim.Native.Nat.{ℕ, zero, suc, _+_, _*_, _/_, _^_, _≤_, _<_}
+use Prim.Native.Nat.{ℕ, zero, suc, _-_, _/_, _^_, _≤_, _<_}
 use native.Mathlib.Nat.{pow-suc}
 use native.Mathlib.Omega.{arith}
-use Rattle.decide.specs.Branch.{ifLt, lt-both, eq-both}
-use Rattle.window.specs.Limits.{sampleMost}
+use Rattle.decide.specs.Branch.{so-both, lt-both, eq-both}
 use Rattle.window.specs.Delays.{samplingOf, sampleIn, Sampled}
-use Rattle.window.specs.declared.Sample.{Sample}
 use Rattle.window.specs.declared.Sample.the-variants.{Ticks, Absent}
 use Rattle.window.specs.declared.Sampling.{Sampling}
 use Rattle.window.proofs.Tests.{sample-held, same-sample}
@@ -18,7 +17,7 @@ use Rattle.sender.specs.Events.{says}
 use Rattle.sender.specs.declared.Ack.{Ack}
 use Rattle.sender.specs.declared.Nack.{Nack}
 use Rattle.replay.specs.Answers.{Telling, shownSays, shownPath, shownFirst, onFirst, onLater, onEvent}
-use Rattle.replay.specs.Places.{Feed, Turning, turnOf}
+use Rattle.replay.specs.Places.{Feed, endOf, Turning, turnOf, turnsIn, turnsOf}
 use Rattle.replay.specs.declared.Place.{Place}
 use Rattle.replay.specs.declared.Shown.{Shown}
 use Rattle.replay.specs.declared.Shown.the-variants.{Nothing, State, Path, Sample as Showing}
@@ -26,6 +25,7 @@ use Rattle.replay.specs.declared.records.Event.{Event}
 use Rattle.replay.specs.declared.records.Event.the-variants as event
 use Rattle.replay.proofs.Progress.{turn-cases}
 use Rattle.report.specs.Figures.{buckets, halvings, bucketOf}
+use Rattle.report.specs.Statements.{sampleShown, Positive}
 
 -- ---- halving ends at the highest set bit
 
@@ -61,6 +61,9 @@ bare (Showing q) = 1
 
 not-shown : {s : Shown} → bare s ≡ 0 → Held s
 not-shown {s} b q e = absurd (let no : ⊥ = omega (arith, b, ap bare e) in no)
+
+not-absent : {ticks : ℕ} → Absent ≡ Ticks ticks → ⊥
+not-absent e = let z : _≡_ {A = ℕ} 0 1 = cc in omega arith
 
 held-says : (n : ℕ) (q : Sampling) → Sampled (sampleIn q) → Held (shownSays (says n q))
 unfolding says shownSays
@@ -115,6 +118,24 @@ on-event done e w = eq-both (λ (t : Telling). Held (t .shown)) done 0 _ _ (λ _
 turn-held : (f : Feed) (p : Place) (w : World) → Held (turnOf f p w .shown)
 turn-held f p w =
     turn-cases f p w (λ (t : Turning). Held (t .shown)) (not-shown refl) (λ e next _ _. on-event (p .done) e w) (λ _ _. not-shown refl)
+
+positive : (s : Shown) → Held s → (ticks : ℕ) → sampleShown s ≡ Ticks ticks → 1 ≤ ticks
+unfolding sampleShown
+positive Nothing h ticks e = absurd (not-absent e)
+positive State h ticks e = absurd (not-absent e)
+positive (Path ev) h ticks e = absurd (not-absent e)
+positive (Showing q) h ticks e = h q refl .low ticks e
+
+turns-held : (k : ℕ) (f : Feed) (p : Place) (w : World) → Positive (turnsIn k f p w)
+unfolding turnsIn
+turns-held zero f p w = tt
+turns-held (suc k) f p w =
+    let t = turnOf f p w in
+    so-both Positive (t .ended) [] _ (λ _. tt) (λ _. (positive (t .shown) (turn-held f p w), turns-held k f (t .place) (t .after)))
+
+pub turns-positive : (f : Feed) (p : Place) (w : World) → Positive (turnsOf f p w)
+unfolding turnsOf
+turns-positive f p w = turns-held (endOf f - p .at) f p w
 
 -- A SAMPLE'S BUCKET IS ITS HIGHEST SET BIT, whatever is replayed
 pub highest-bit : (f : Feed) (p : Place) (w : World) (q : Sampling) (ticks : ℕ) → turnOf f p w .shown ≡ Showing q → sampleIn q ≡ Ticks ticks

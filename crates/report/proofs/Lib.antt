@@ -2,6 +2,7 @@
 pub mod Buckets
 pub mod Adding
 pub mod Tallies
+pub mod Layers
 pub mod Exact
-pub mod Totals
 pub mod Highest
+pub mod Totals

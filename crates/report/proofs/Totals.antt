@@ -1,6 +1,6 @@
 -- REQUEST M-105, "the bucket counts add up to the samples taken, cut ones included": of any turns (`buckets-add-up`), and of the figures of a report
 -- (`report-adds-up`). Assumes nothing.
-use mathlib.Core.Path.{_≡_, refl, sym, ap, _∙_}
+use mathlib.Core.Path.{_≡_, refl, _∙_}
 use mathlib.Core.Bool.{Bool, true, false}
 use mathlib.Core.List.{List, [], _∷_}
 use Prim.Native.Nat.{ℕ, zero, suc, _+_, _-_, _^_, _≤_, _<_}
@@ -11,7 +11,6 @@ use native.Mathlib.Omega.{arith}
 use Rattle.decide.specs.Branch.{ifSo, so-both}
 use Rattle.window.specs.Limits.{sampleMost}
 use Rattle.window.specs.Delays.{sampleIn}
-use Rattle.window.specs.declared.Sampling.{Sampling}
 use Rattle.window.specs.declared.Sampling.the-variants.{Taken, Cut, Gone, Ambiguous, NotPositive}
 use Rattle.sender.specs.World.{World}
 use Rattle.replay.specs.Batches.{kindOf}
@@ -19,10 +18,11 @@ use Rattle.replay.specs.Places.{Feed, logged, endFrom, Turning, turnOf, turnsIn
 use Rattle.replay.specs.declared.Place.{Place}
 use Rattle.replay.specs.declared.Shown.{Shown}
 use Rattle.replay.specs.declared.Shown.the-variants.{Nothing, State, Path, Sample as Sampled}
-use Rattle.report.specs.Figures.{kindsAt, bucketsAt, buckets, figureCount, wordMost, added, bucketOf}
-use Rattle.report.specs.Statements.{one, howMany, kindTest, ofKind, ticksTest, bucketTest, inBucket, total, Counts, kind, bucket, zeros, reportFrom}
+use Rattle.report.specs.Figures.{kindsAt, leastAt, greatestAt, bucketsAt, buckets, figureCount, bucketOf}
+use Rattle.report.specs.Statements.{one, howMany, kindTest, ofKind, sampleShown, ticksTest, inBucket, total, Counts, kind, bucket, leastOf, greatestOf, zeros, reportFrom}
 use Rattle.report.proofs.Buckets.{bucket-most}
-use Rattle.report.proofs.Exact.{figure-counts}
+use Rattle.report.proofs.Exact.{figure-counts, least-is, least-fresh, greatest-is}
+use Rattle.report.proofs.Highest.{turns-positive}
 
 -- ---- sums
 
@@ -58,8 +58,8 @@ one-among (suc n) b h = by (eqb b n) refl (one-among n b)
 
 -- ---- a turn's sample stands in one bucket
 
-shown-adds-up : (s : Shown) → total buckets (λ k. one (bucketTest k s)) ≡ one (kindTest 1 s) + one (kindTest 2 s)
-unfolding bucketTest kindTest ticksTest sampleIn kindOf ifSo
+shown-adds-up : (s : Shown) → total buckets (λ k. one (ticksTest k (sampleShown s))) ≡ one (kindTest 1 s) + one (kindTest 2 s)
+unfolding sampleShown kindTest ticksTest sampleIn kindOf ifSo
 shown-adds-up Nothing = total-none buckets
 shown-adds-up State = total-none buckets
 shown-adds-up (Path ev) = total-none buckets
@@ -113,3 +113,10 @@ module _ (log : List ℕ) (p : Place) (w : World) (fits : length log < 2 ^ 64) w
   report-adds-up =
       total-same buckets _ (λ k. howMany (inBucket k) turns) (λ k h. report-counts (bucket k h) (omega arith))
       ∙ omega (arith, buckets-add-up turns, report-counts (kind 1 (omega arith) (omega arith)) (omega arith), report-counts (kind 2 (omega arith) (omega arith)) (omega arith))
+
+  -- "least and greatest sample (0 if none)"
+  pub report-least : getD (reportFrom log p w) leastAt 0 ≡ leastOf turns
+  report-least = least-is (logged log) p turns zeros (turns-positive (logged log) p w) refl ∙ least-fresh (leastOf turns)
+
+  pub report-greatest : getD (reportFrom log p w) greatestAt 0 ≡ greatestOf turns
+  report-greatest = greatest-is (logged log) p turns zeros refl ∙ omega arith

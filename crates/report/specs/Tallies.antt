@@ -1,6 +1,6 @@
 -- A run report, request M-105: "Over one log it reports .. Every figure has a definition over the log and the controller's answers".
 -- Assumes nothing.
-use mathlib.Core.Bool.{Bool, _&&_}
+use mathlib.Core.Bool.{_&&_}
 use mathlib.Core.List.{List, [], _∷_}
 use Prim.Native.Nat.{ℕ}
 use lib.Dec.{eqb}

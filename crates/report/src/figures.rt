@@ -10,7 +10,7 @@ ghost use mathlib.Core.Path.{_≡_};
 ghost use Prim.Native.Nat.{_+_, _<_};
 ghost use lib.ListN.{length};
 ghost use Rattle.replay.specs.Batches.{kindOf};
-ghost use Rattle.report.specs.Figures.{figureCount, added, raised, answerCounted, kindsAt, kindCounted, bucketOf, lesser, leastKept, greatestKept, ticksCounted, sampleCounted, sentAt, sendCounted, eventCounted, bytesCounted, counted};
+ghost use Rattle.report.specs.Figures.{figureCount, added, raised, answerCounted, kindsAt, bucketOf, lesser, ticksCounted, sampleCounted, sentAt, eventCounted, bytesCounted, counted};
 
 // How many figures a report has.
 pub const FIGURES: usize = 70;
@@ -168,7 +168,7 @@ fn count_bytes(figures: &mut [u64], number: u32, stands: Found)
 }
 
 // One more record: what stands in the log, its answer's number and what its line shows.
-pub fn count(figures: &mut [u64], stands: Found, number: u32, shown: Shown)
+pub(crate) fn count(figures: &mut [u64], stands: Found, number: u32, shown: Shown)
     requires { ⌜ length (now figures) ≡ figureCount ⌝ }
     ensures { λ _. ⌜ now (figures .exit) ≡ counted stands number shown (now (figures .entry)) ⌝ }
 {

@@ -3,7 +3,7 @@ use mathlib.Core.Path.{sym, _∙_}
 use lib.ListN.{length}
 use borrow.Author.Needs.{needs}
 use Rattle.ledger.specs.Ring.{ring}
-use Rattle.sender.specs.World.{World, world}
+use Rattle.sender.specs.World.{world}
 use Rattle.replay.specs.Places.{Turning, feed, turnsOf}
 use Rattle.replay.proofs.Making.{turnIs}
 use Rattle.replay.proofs.Looping.{Lent, lent-none, lent-more}
