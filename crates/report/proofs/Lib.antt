@@ -6,3 +6,4 @@ pub mod Layers
 pub mod Exact
 pub mod Highest
 pub mod Totals
+pub mod Parts

@@ -1,5 +1,5 @@
 -- What the theorems on a report speak of, request M-105: exact counts over the turns of a replay. The theorems stand in proofs/Exact (`figure-counts`,
--- `bytes-count`, `least-is`, `greatest-is`), proofs/Totals (`buckets-add-up`, `report-adds-up`) and proofs/Highest (`highest-bit`).
+-- `bytes-count`, `least-is`, `greatest-is`), proofs/Totals (`buckets-add-up`, `report-adds-up`), proofs/Highest (`highest-bit`) and proofs/Parts (`parts-tallied`).
 -- Assumes nothing.
 use mathlib.Core.Path.{_≡_}
 use mathlib.Core.Bool.{Bool, false}
