@@ -14,15 +14,13 @@ fn bytes_of(in_flight: i64) -> u64 {
     in_flight as u64
 }
 
-fn row(record: u64, w: World) {
+fn row(w: World) {
     let state = w.state;
     let totals = state.totals;
     let flow = state.flow;
     let window = state.window;
     let phase = state.phase;
-    say::text(b"example ");
-    say::number(record);
-    say::text(b":");
+    say::case();
     say::also(w.number as u64);
     say::also(bytes_of(totals.in_flight));
     say::also(window.cwnd);
@@ -43,13 +41,13 @@ fn packet(psn: u32) -> Send {
 
 pub(crate) fn run() {
     let first = worlds::set_up(make::unset(), make::settings_of(make::E));
-    row(1, first);
+    row(first);
     let second = worlds::new_data(first, 0, 8192);
-    row(2, second);
+    row(second);
     let third = worlds::send(second, 10, packet(0));
-    row(3, third);
+    row(third);
     let fourth = worlds::send(third, 20, packet(2));
-    row(4, fourth);
+    row(fourth);
     let ack = Ack {
         cum: 0,
         map: 0,
@@ -60,5 +58,5 @@ pub(crate) fn run() {
         marked: false,
         retx: false,
     };
-    row(5, worlds::ack(fourth, 110, ack));
+    row(worlds::ack(fourth, 110, ack));
 }

@@ -1,4 +1,5 @@
-// Calls every entry point of the sender at every edge of document 01 and writes what it is answered, one case a line.
+// Calls every entry point of the sender at every edge of document 01 and writes what it is answered, one case a line. The cases' names are its standard input, a line
+// each, in the order of the cases.
 mod calls;
 mod example;
 mod make;

@@ -23,6 +23,56 @@ pub const E: [u64; 12] = [
     288,
 ];
 
+// A setting by its name, for `with_setting`: its place in document 01's order.
+pub const MTU: usize = 0;
+
+pub const MAXWND: usize = 1;
+
+pub const CONFIG_BASE_RTT: usize = 2;
+
+pub const TARGET_QDELAY: usize = 3;
+
+pub const FI: usize = 4;
+
+pub const ETA: usize = 5;
+
+pub const ALPHA: usize = 6;
+
+pub const GAMMA: usize = 7;
+
+pub const MAX_MD_JUMP: usize = 8;
+
+pub const ADJUST_PERIOD: usize = 9;
+
+pub const ADJUST_BYTES: usize = 10;
+
+pub const QA_THRESHOLD: usize = 11;
+
+// A number of the window by its name, for `with_number`: its place among the fields, the two modes left out.
+pub const CWND: u32 = 0;
+
+pub const BASE: u32 = 1;
+
+pub const AVG: u32 = 2;
+
+pub const INC_BYTES: u32 = 3;
+
+pub const RECEIVED: u32 = 4;
+
+pub const ACHIEVED: u32 = 5;
+
+pub const IGNORED: u32 = 6;
+
+pub const BYTES_TO_IGNORE: u32 = 7;
+
+pub const FI_COUNT: u32 = 8;
+
+pub const QA_END: u32 = 9;
+
+pub const LAST_ADJUST: u32 = 10;
+
+pub const LAST_DEC: u32 = 11;
+
 // The clock of the worlds here.
 pub const CLOCK: u64 = 1000;
 
@@ -315,22 +365,22 @@ fn pick(k: u32, here: u32, value: u64, held: u64) -> u64 {
     held
 }
 
-// A window with number k changed: they count from 0, in the order of its fields, the two modes left out.
+// A window with number k changed.
 fn window_with(w: Window, k: u32, value: u64) -> Window {
     Window {
-        cwnd: pick(k, 0, value, w.cwnd),
-        base: pick(k, 1, value, w.base),
-        avg: pick(k, 2, value, w.avg),
-        inc_bytes: pick(k, 3, value, w.inc_bytes),
-        received: pick(k, 4, value, w.received),
-        achieved: pick(k, 5, value, w.achieved),
-        ignored: pick(k, 6, value, w.ignored),
-        bytes_to_ignore: pick(k, 7, value, w.bytes_to_ignore),
-        fi_count: pick(k, 8, value, w.fi_count),
+        cwnd: pick(k, CWND, value, w.cwnd),
+        base: pick(k, BASE, value, w.base),
+        avg: pick(k, AVG, value, w.avg),
+        inc_bytes: pick(k, INC_BYTES, value, w.inc_bytes),
+        received: pick(k, RECEIVED, value, w.received),
+        achieved: pick(k, ACHIEVED, value, w.achieved),
+        ignored: pick(k, IGNORED, value, w.ignored),
+        bytes_to_ignore: pick(k, BYTES_TO_IGNORE, value, w.bytes_to_ignore),
+        fi_count: pick(k, FI_COUNT, value, w.fi_count),
         fast: w.fast,
         trigger: w.trigger,
-        qa_end: pick(k, 9, value, w.qa_end),
-        last_adjust: pick(k, 10, value, w.last_adjust),
-        last_dec: pick(k, 11, value, w.last_dec),
+        qa_end: pick(k, QA_END, value, w.qa_end),
+        last_adjust: pick(k, LAST_ADJUST, value, w.last_adjust),
+        last_dec: pick(k, LAST_DEC, value, w.last_dec),
     }
 }

@@ -20,109 +20,72 @@ fn bad_send(psn: u32, size: u32, resend: bool) -> Send {
 fn unsound() {
     let mut bad = make::mixed();
     bad.state.cursor = 256;
-    line(b"order 2 3 20 new data", bad, worlds::new_data(bad, 0, 0));
+    line(bad, worlds::new_data(bad, 0, 0));
+    line(bad, worlds::send(bad, 0, bad_send(11, 40, false)));
     line(
-        b"order 2 3 4 send",
-        bad,
-        worlds::send(bad, 0, bad_send(11, 40, false)),
-    );
-    line(
-        b"order 2 3 21 24 ACK",
         bad,
         worlds::ack(bad, 0, calls::plain_ack(10, 0, 11, COUNTS)),
     );
-    line(
-        b"order 2 3 22 23 NACK",
-        bad,
-        worlds::nack(bad, 0, calls::plain_nack(4, 256, 3)),
-    );
-    line(
-        b"order 2 3 23 loss",
-        bad,
-        worlds::loss(bad, 0, Loss { psn: 4, ev: 256 }),
-    );
-    line(b"order 2 3 path", bad, worlds::path(bad, 0));
+    line(bad, worlds::nack(bad, 0, calls::plain_nack(4, 256, 3)));
+    line(bad, worlds::loss(bad, 0, Loss { psn: 4, ev: 256 }));
+    line(bad, worlds::path(bad, 0));
 }
 
 // 3 before the fields.
 fn times() {
     let w = make::mixed();
-    line(b"order 3 20 new data", w, worlds::new_data(w, 0, 0));
-    line(
-        b"order 3 4 8 send",
-        w,
-        worlds::send(w, 0, bad_send(11, 40, false)),
-    );
-    line(
-        b"order 3 4 8 resend",
-        w,
-        worlds::send(w, 0, bad_send(5, 40, true)),
-    );
-    line(
-        b"order 3 21 24 9 ACK",
-        w,
-        worlds::ack(w, 0, calls::plain_ack(10, 0, 11, COUNTS)),
-    );
-    line(
-        b"order 3 22 23 10 NACK",
-        w,
-        worlds::nack(w, 0, calls::plain_nack(4, 256, 3)),
-    );
-    line(
-        b"order 3 23 10 loss",
-        w,
-        worlds::loss(w, 0, Loss { psn: 4, ev: 256 }),
-    );
+    line(w, worlds::new_data(w, 0, 0));
+    line(w, worlds::send(w, 0, bad_send(11, 40, false)));
+    line(w, worlds::send(w, 0, bad_send(5, 40, true)));
+    line(w, worlds::ack(w, 0, calls::plain_ack(10, 0, 11, COUNTS)));
+    line(w, worlds::nack(w, 0, calls::plain_nack(4, 256, 3)));
+    line(w, worlds::loss(w, 0, Loss { psn: 4, ev: 256 }));
 }
 
 // A send: 4, 8, 5, 7, 6.
 fn sends() {
     let shut = make::with_closed_window(make::mixed());
     let jam = make::with_closed_window(make::with_backlog(make::full(), 100));
-    line(
-        b"order 4 8 new packet",
-        shut,
-        calls::fresh_send(shut, 11, 40),
-    );
-    line(b"order 4 8 resend", shut, calls::resend(shut, 5, 40));
-    line(b"order 8 5 7 6", jam, calls::fresh_send(jam, 70, 101));
-    line(b"order 5 7 6", jam, calls::fresh_send(jam, 69, 101));
-    line(b"order 7 6", jam, calls::fresh_send(jam, 69, 100));
-    line(b"order 8 6 resend", shut, calls::resend(shut, 6, 201));
-    line(b"order 6 resend", shut, calls::resend(shut, 6, 200));
+    line(shut, calls::fresh_send(shut, 11, 40));
+    line(shut, calls::resend(shut, 5, 40));
+    line(jam, calls::fresh_send(jam, 70, 101));
+    line(jam, calls::fresh_send(jam, 69, 101));
+    line(jam, calls::fresh_send(jam, 69, 100));
+    line(shut, calls::resend(shut, 6, 201));
+    line(shut, calls::resend(shut, 6, 200));
 }
 
 // An ACK whose cum is unsent (9), at the world's clock, by the fields that are tested before that.
-fn unsent(label: &[u8], count: u32, ev: u32, trigger: u32) {
+fn unsent(count: u32, ev: u32, trigger: u32) {
     let w = make::mixed();
     let mut a = calls::plain_ack(10, 0, trigger, count);
     a.ev = ev;
-    line(label, w, worlds::ack(w, make::CLOCK, a));
+    line(w, worlds::ack(w, make::CLOCK, a));
 }
 
 // The fields among themselves: an ACK's 21, 23, 24; a NACK's 22, 23.
 fn fields() {
     let w = make::mixed();
-    unsent(b"order 21 23 24 9", COUNTS, 256, 11);
-    unsent(b"order 21 23 9", COUNTS, 256, 10);
-    unsent(b"order 23 24 9", 7, 256, 11);
-    unsent(b"order 23 9", 7, 256, 10);
-    line(b"order 22 23 10", w, calls::nack(w, 6, 256, 3));
+    unsent(COUNTS, 256, 11);
+    unsent(COUNTS, 256, 10);
+    unsent(7, 256, 11);
+    unsent(7, 256, 10);
+    line(w, calls::nack(w, 6, 256, 3));
 }
 
 // An ACK: the fields, 9, 11; NACK and loss: the fields, 10, 11.
 fn feedback() {
     let least = make::with_in_flight(make::mixed(), LEAST);
-    line(b"order 24 9 11", least, calls::ack(least, 10, 0, 11, 8));
-    line(b"order 9 11", least, calls::ack(least, 10, 0, 10, 8));
-    line(b"order 11 ACK", least, calls::ack(least, 9, 0, 9, 8));
-    line(b"order 22 10 NACK", least, calls::nack(least, 6, 0, 3));
-    line(b"order 10 NACK", least, calls::nack(least, 6, 0, 2));
-    line(b"order 23 11 NACK", least, calls::nack(least, 5, 256, 2));
-    line(b"order 11 NACK", least, calls::nack(least, 5, 0, 2));
-    line(b"order 23 10 loss", least, calls::loss(least, 6, 256));
-    line(b"order 10 loss", least, calls::loss(least, 6, 0));
-    line(b"order 11 loss", least, calls::loss(least, 5, 0));
+    line(least, calls::ack(least, 10, 0, 11, 8));
+    line(least, calls::ack(least, 10, 0, 10, 8));
+    line(least, calls::ack(least, 9, 0, 9, 8));
+    line(least, calls::nack(least, 6, 0, 3));
+    line(least, calls::nack(least, 6, 0, 2));
+    line(least, calls::nack(least, 5, 256, 2));
+    line(least, calls::nack(least, 5, 0, 2));
+    line(least, calls::loss(least, 6, 256));
+    line(least, calls::loss(least, 6, 0));
+    line(least, calls::loss(least, 5, 0));
 }
 
 pub(crate) fn run() {

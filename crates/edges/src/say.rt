@@ -7,6 +7,29 @@ pub(crate) fn text(t: &[u8]) {
     io::write_all(libc::STDOUT_FILENO, t);
 }
 
+// The longest name of a case.
+const NAME_MOST: usize = 64;
+
+// Writes a line of standard input without its end.
+fn name() {
+    let mut byte = [0u8; 1];
+    let mut k = 0;
+    while k < NAME_MOST {
+        let got = libc::read(libc::STDIN_FILENO, &mut byte);
+        if (got != 1) | (byte[0] == b'\n') {
+            return;
+        }
+        text(&byte);
+        k += 1;
+    }
+}
+
+// The name of the next case, and a colon. Standard input has the names, a line each, in the order of the cases.
+pub(crate) fn case() {
+    name();
+    text(b":");
+}
+
 pub(crate) fn number(n: u64) {
     io::print_decimal(libc::STDOUT_FILENO, n);
 }
@@ -44,9 +67,8 @@ pub(crate) fn answer(before: World, after: World) {
 }
 
 // One case a line.
-pub(crate) fn line(label: &[u8], before: World, after: World) {
-    text(label);
-    text(b":");
+pub(crate) fn line(before: World, after: World) {
+    case();
     answer(before, after);
     text(b"\n");
 }

@@ -23,7 +23,7 @@ fn state() {
     let w = mixed();
     let mut clock = w;
     clock.state.clock = 1001;
-    say::text(b"comparing the state:");
+    say::case();
     verdict(make::with_in_flight(w, -1));
     verdict(make::with_in_flight(w, i64::MIN));
     verdict(make::with_backlog(w, 8191));
@@ -39,7 +39,7 @@ fn state() {
 // The first and the last element of each slice.
 fn memory() {
     let w = mixed();
-    say::text(b"comparing lent memory:");
+    say::case();
     verdict(make::with_status(w, 0, 1));
     verdict(make::with_status(w, 63, 1));
     verdict(make::with_size(w, 0, 1));
@@ -54,7 +54,7 @@ fn memory() {
 }
 
 pub(crate) fn run() {
-    say::text(b"comparing with itself:");
+    say::case();
     verdict(mixed());
     say::text(b"\n");
     state();

@@ -47,9 +47,8 @@ pub(crate) fn at(w: World, time: u64) {
 }
 
 // The same at the world's clock, a line of its own.
-pub(crate) fn line(label: &[u8], w: World) {
+pub(crate) fn line(w: World) {
     let state = w.state;
-    say::text(label);
-    say::text(b":");
+    say::case();
     at(w, state.clock);
 }

@@ -36,49 +36,46 @@ fn started(s: Settings, after: World) {
 }
 
 // Of setting up, and of a state handed in.
-fn setting(name: &[u8], k: usize, value: u64) {
+fn setting(k: usize, value: u64) {
     let s = make::settings_with(k, value);
-    say::text(b"1 ");
-    say::text(name);
-    say::also(value);
-    say::text(b":");
+    say::case();
     started(s, worlds::set_up(make::unset(), s));
-    crate::spoil::setting(name, k, value);
+    crate::spoil::setting(k, value);
 }
 
 // A setting at both ends of its range, one step outside each, and far outside.
-fn ends(name: &[u8], k: usize, least: u64, most: u64) {
+fn ends(k: usize, least: u64, most: u64) {
     if least != 0 {
-        setting(name, k, std::num::wrapping_sub_u64(least, 1));
+        setting(k, std::num::wrapping_sub_u64(least, 1));
     }
-    setting(name, k, least);
-    setting(name, k, most);
-    setting(name, k, std::num::wrapping_add_u64(most, 1));
-    setting(name, k, u64::MAX);
+    setting(k, least);
+    setting(k, most);
+    setting(k, std::num::wrapping_add_u64(most, 1));
+    setting(k, u64::MAX);
 }
 
 pub(crate) fn settings() {
-    ends(b"MTU", 0, 1024, 16384);
-    ends(b"MaxWnd", 1, 4096, 67108864);
-    ends(b"config_base_rtt", 2, 1, 16384);
-    ends(b"target_qdelay", 3, 1, 16384);
-    ends(b"fi", 4, 0, 1048576);
-    ends(b"eta", 5, 0, 1048576);
-    ends(b"alpha", 6, 0, 16384);
-    ends(b"gamma", 7, 0, 1024);
-    ends(b"max_md_jump", 8, 0, 1024);
-    ends(b"adjust_period", 9, 1, 1048576);
-    ends(b"adjust_bytes", 10, 1, 67108864);
-    ends(b"qa_threshold", 11, 0, 1048576);
+    ends(make::MTU, 1024, 16384);
+    ends(make::MAXWND, 4096, 67108864);
+    ends(make::CONFIG_BASE_RTT, 1, 16384);
+    ends(make::TARGET_QDELAY, 1, 16384);
+    ends(make::FI, 0, 1048576);
+    ends(make::ETA, 0, 1048576);
+    ends(make::ALPHA, 0, 16384);
+    ends(make::GAMMA, 0, 1024);
+    ends(make::MAX_MD_JUMP, 0, 1024);
+    ends(make::ADJUST_PERIOD, 1, 1048576);
+    ends(make::ADJUST_BYTES, 1, 67108864);
+    ends(make::QA_THRESHOLD, 0, 1048576);
 }
 
 // The first PSN may be any, and quick adapt off.
 pub(crate) fn unbounded() {
     let mut s = make::settings_of(make::E);
     s.first_psn = u32::MAX;
-    say::text(b"1 first PSN 2^32-1:");
+    say::case();
     started(s, worlds::set_up(make::unset(), s));
     s.quick_adapt_off = true;
-    say::text(b"1 quick adapt off:");
+    say::case();
     started(s, worlds::set_up(make::unset(), s));
 }

@@ -87,6 +87,50 @@ fn a_nack() -> Nack {
     }
 }
 
+// The calls that only read what is lent.
+fn reading<'a>(
+    call: Call,
+    status: &'a [u8],
+    size: &'a [u32],
+    sent: &'a [u64],
+    resent: &'a [u8],
+    evs: &'a [u64],
+) -> Got {
+    let time = make::CLOCK;
+    let before = make::empty();
+    match call {
+        Call::NewData => of_answer(before.new_data(status, size, sent, resent, evs, time, 1)),
+        _ => of_routed(before.path(status, size, sent, resent, evs, time)),
+    }
+}
+
+// Those that change marks and EV times, and those that only read.
+fn marking<'a, 'b, 'c>(
+    call: Call,
+    status: &'a mut [u8],
+    size: &'b [u32],
+    sent: &'b [u64],
+    resent: &'b [u8],
+    evs: &'c mut [u64],
+) -> Got {
+    let time = make::CLOCK;
+    let before = make::empty();
+    match call {
+        Call::Nack => of_heard(before.nack(status, size, sent, resent, evs, time, a_nack())),
+        Call::Loss => of_answer(before.loss(
+            status,
+            size,
+            sent,
+            resent,
+            evs,
+            time,
+            Loss { psn: 5, ev: 0 },
+        )),
+        _ => reading(call, status, size, sent, resent, evs),
+    }
+}
+
+// All of them.
 pub(crate) fn answered<'a, 'b, 'c, 'd, 'e>(
     call: Call,
     status: &'a mut [u8],
@@ -99,20 +143,9 @@ pub(crate) fn answered<'a, 'b, 'c, 'd, 'e>(
     let before = make::empty();
     match call {
         Call::SetUp(s) => of_answer(sender::start::set_up(s, status, size, sent, resent, evs)),
-        Call::NewData => of_answer(before.new_data(status, size, sent, resent, evs, time, 1)),
         Call::Send => of_answer(before.send(status, size, sent, resent, evs, time, a_send())),
         Call::Ack => of_heard(before.ack(status, size, sent, resent, evs, time, an_ack())),
-        Call::Nack => of_heard(before.nack(status, size, sent, resent, evs, time, a_nack())),
-        Call::Loss => of_answer(before.loss(
-            status,
-            size,
-            sent,
-            resent,
-            evs,
-            time,
-            Loss { psn: 5, ev: 0 },
-        )),
-        Call::Path => of_routed(before.path(status, size, sent, resent, evs, time)),
+        _ => marking(call, status, size, sent, resent, evs),
     }
 }
 
