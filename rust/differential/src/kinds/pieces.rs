@@ -11,7 +11,7 @@ use std::thread;
 use std::time::Duration;
 
 /// A line that has not come by then does not come.
-const LATEST: Duration = Duration::from_secs(60);
+const LATEST: Duration = Duration::from_secs(20);
 
 pub fn run(seed: u64, tally: &mut Tally) -> Result<(), String> {
     let mut rng = Rng::new(seed);
