@@ -3,13 +3,13 @@ use libc::STDERR_FILENO;
 use libc::STDIN_FILENO;
 use player::Input;
 
-// Says on standard error why a log was not replayed.
+// Says on standard error why a log was not replayed to its end.
 fn report(input: Input, name: &[u8]) {
     match input {
-        Input::Whole(_) => {}
+        Input::Done => {}
         Input::Long => {
             io::write_all(STDERR_FILENO, name);
-            io::write_all(STDERR_FILENO, b": longer than 4194304 bytes\n");
+            io::write_all(STDERR_FILENO, b": reaches 2^48 bytes\n");
         }
         Input::Failed => os::fail(name),
     }
@@ -17,8 +17,7 @@ fn report(input: Input, name: &[u8]) {
 
 // Replays the log that a file has.
 fn run(fd: i32, name: &[u8], progress: bool) {
-    let mut room = [0u8; player::LOG_ROOM];
-    report(player::replay_from(fd, progress, &mut room), name);
+    report(player::replay_from(fd, progress), name);
 }
 
 // Opens the log that an argument names, and replays it.

@@ -1,4 +1,5 @@
 -- The laws that the proofs of `player` share.
-pub mod Reading
-pub mod Inputs
+pub mod Moving
 pub mod Playing
+pub mod Reading
+pub mod Standing

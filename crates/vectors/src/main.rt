@@ -2,12 +2,12 @@
 use libc::STDOUT_FILENO;
 use player::Input;
 
-// What stands in the place of the lines of a log that was not replayed.
+// What stands behind the lines of a log that was not replayed to its end.
 fn report(input: Input) {
     match input {
-        Input::Whole(_) => {}
+        Input::Done => {}
         Input::Long => {
-            io::write_all(STDOUT_FILENO, b"too long\n");
+            io::write_all(STDOUT_FILENO, b"reaches 2^48 bytes\n");
         }
         Input::Failed => {
             io::write_all(STDOUT_FILENO, b"not read\n");
@@ -23,8 +23,7 @@ fn replay_one(index: usize) {
     io::write_all(STDOUT_FILENO, &path[..length]);
     io::write_all(STDOUT_FILENO, b"\n");
     let fd = os::open_read(&path[..length]);
-    let mut room = io::large_buffer();
-    report(player::replay_from(fd, false, &mut room));
+    report(player::replay_from(fd, false));
     libc::close(fd);
 }
 

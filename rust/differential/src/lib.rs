@@ -19,7 +19,7 @@ mod tally;
 mod words;
 
 pub use call::{answer_of, Call};
-pub use kinds::text::{program, too_long};
+pub use kinds::text::program;
 pub use kinds::Kind;
 pub use profile::GOOD;
 pub use sides::Model;

@@ -21,7 +21,7 @@ pub fn generated(rng: &mut Rng, records: usize) -> Vec<u8> {
 /// One seed in so many has a long log.
 pub const LONG_EVERY: u64 = 400;
 
-/// A log in which the received count wraps.
+/// A log in which the received count wraps, of 6 MiB.
 pub fn long(seed: u64) -> Vec<u8> {
     gen::bulk(seed, 300_000)
 }

@@ -105,6 +105,7 @@ fn text() {
 }
 
 #[test]
-fn a_log_that_is_too_long() {
-    differential::too_long().unwrap();
+fn pieces() {
+    let tally = run(Kind::Pieces, 800);
+    all_met(&tally, &[0, 5, 12], 20);
 }

@@ -2,6 +2,7 @@
 
 mod chunks;
 mod logs;
+mod pieces;
 mod replay;
 mod set_up;
 mod spoilt;
@@ -30,10 +31,12 @@ pub enum Kind {
     Chunks,
     /// Whole logs through the program.
     Text,
+    /// Logs through the program while they are written, cut anywhere.
+    Pieces,
 }
 
 impl Kind {
-    pub const ALL: [Kind; 8] = [
+    pub const ALL: [Kind; 9] = [
         Kind::SetUp,
         Kind::Streams,
         Kind::Logs,
@@ -42,6 +45,7 @@ impl Kind {
         Kind::Replay,
         Kind::Chunks,
         Kind::Text,
+        Kind::Pieces,
     ];
 
     pub fn name(self) -> &'static str {
@@ -54,6 +58,7 @@ impl Kind {
             Kind::Replay => "replay",
             Kind::Chunks => "chunks",
             Kind::Text => "text",
+            Kind::Pieces => "pieces",
         }
     }
 
@@ -69,6 +74,7 @@ impl Kind {
             Kind::Replay => replay::run(seed, tally),
             Kind::Chunks => chunks::run(seed, tally),
             Kind::Text => text::run(seed, tally),
+            Kind::Pieces => pieces::run(seed, tally),
         }
     }
 }

@@ -10,9 +10,6 @@ use std::{env, fs, io, process, thread};
 /// The variable that names another program, for this processor.
 const PROGRAM: &str = "NSCC_PROGRAM";
 
-/// The longest log that the program takes, in bytes.
-pub const LOG_MOST: usize = 4 << 20;
-
 /// How the program is run: by itself, or under an emulator on processors other than x86-64.
 /// `Err` is a message that it is missing.
 pub fn program() -> Result<Command, String> {
@@ -38,7 +35,7 @@ pub fn program() -> Result<Command, String> {
 pub fn run(seed: u64, tally: &mut Tally) -> Result<(), String> {
     let mut rng = Rng::new(seed);
     let log = if seed.is_multiple_of(LONG_EVERY) {
-        front(long(seed))
+        long(seed)
     } else {
         let log = generated(&mut rng, 1_000);
         let damaged = damage(&mut rng, &log);
@@ -56,29 +53,6 @@ pub fn run(seed: u64, tally: &mut Tally) -> Result<(), String> {
     })?;
     count(&text, tally);
     Ok(())
-}
-
-/// As many whole records as the program takes.
-fn front(mut log: Vec<u8>) -> Vec<u8> {
-    let mut end = 0;
-    while let Ok(Some((_, after))) = model::parse(&log, end) {
-        if after > LOG_MOST {
-            break;
-        }
-        end = after;
-    }
-    log.truncate(end);
-    log
-}
-
-/// Of a log that is too long nothing is printed, and why is told on standard error.
-pub fn too_long() -> Result<(), String> {
-    let log = vec![0; LOG_MOST + 1];
-    let output = from_input(program()?, &log).map_err(|error| format!("the program: {error}"))?;
-    if output.stdout.is_empty() && !output.stderr.is_empty() {
-        return Ok(());
-    }
-    Err(String::from_utf8_lossy(&output.stdout).into_owned())
 }
 
 /// The text on which both agree.
@@ -127,7 +101,7 @@ fn from_input(mut program: Command, log: &[u8]) -> io::Result<Output> {
     })
 }
 
-fn difference(ours: &str, expected: &str) -> String {
+pub fn difference(ours: &str, expected: &str) -> String {
     let mut lines = ours.lines().zip(expected.lines()).enumerate();
     match lines.find(|(_, (ours, expected))| ours != expected) {
         Some((i, (ours, expected))) => {
@@ -143,7 +117,7 @@ fn difference(ours: &str, expected: &str) -> String {
     }
 }
 
-fn count(text: &str, tally: &mut Tally) {
+pub fn count(text: &str, tally: &mut Tally) {
     for line in text.lines().skip(1) {
         let mut words = line.split(' ').skip(1);
         let number = words.next().and_then(|word| word.parse().ok());
