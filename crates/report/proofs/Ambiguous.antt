@@ -4,7 +4,8 @@ use mathlib.Core.Path.{_≡_, refl, sym, ap, _∙_}
 use mathlib.Core.Bool.{Bool, true, false, _&&_, _||_}
 use mathlib.Core.List.{List, [], _∷_}
 use Prim.Native.Nat.{ℕ, zero, suc, _+_, _-_, _≤_, _<_}
-use lib.ListN.{length, getD, drop}
+use lib.ListN.{length, getD, drop, set, length-set}
+use lib.Seq.{getD-set-other}
 use native.Mathlib.Omega.{arith}
 use Rattle.decide.specs.Branch.{ifSo, ifEq, so-yes, so-no, so-both, eq-no, eq-both}
 use Rattle.decide.specs.Test.{inside, inside-tells, both}
@@ -64,6 +65,10 @@ kind-ambiguous (Showing Ambiguous) e = refl
 kind-ambiguous (Showing NotPositive) e = wrong e
 
 -- ---- the turn at a place, and the turns from there on
+
+found-is : (l : List ℕ) (at : ℕ) (x : Parsed) → parseAt l at ≡ x → foundAt (logged l) at ≡ foundIn x
+unfolding foundFrom
+found-is l at x e = ap foundIn e
 
 turn-is : (l : List ℕ) (p : Place) (w : World) (x : Found) → p .stopped ≡ false → foundAt (logged l) (p .at) ≡ x → turnOf (logged l) p w ≡ onFound p w x
 unfolding turnOf
@@ -128,10 +133,6 @@ module _ (log other : List ℕ) (long : length log ≡ length other) where
   found-same : (at : ℕ) → parseAt log at ≡ parseAt other at → foundAt (logged log) at ≡ foundAt (logged other) at
   unfolding foundFrom
   found-same at e = ap foundIn e
-
-  found-is : (l : List ℕ) (at : ℕ) (x : Parsed) → parseAt l at ≡ x → foundAt (logged l) at ≡ foundIn x
-  unfolding foundFrom
-  found-is l at x e = ap foundIn e
 
   module _ (k : ℕ) (p : Place) (w : World) (agree : Agree (suc k) p w) (go : p .stopped ≡ false) where
     -- where no ACK stands and no turn is left, all is the same
@@ -317,3 +318,12 @@ module _ (log other : List ℕ) (p : Place) (w : World) (d : DifferOnly log othe
         replayed = λ room. rw same-turns;
         tallied = same-tally;
       }
+
+-- so a byte that may differ may be anything
+pub any-byte : (log : List ℕ) (p : Place) (w : World) (i byte : ℕ) → mayDiffer log p (turnsOf (logged log) p w) i ≡ true → AllEqual log (set log i byte) p w
+any-byte log p w i byte may =
+    ambiguous-does-not-matter log (set log i byte) p w
+    (record {
+      long = sym (length-set log i byte);
+      only = λ j kept. sym (getD-set-other log i j byte 0 (λ e. wrong (sym kept ∙ (ap (mayDiffer log p (turnsOf (logged log) p w)) e ∙ may))));
+    })
