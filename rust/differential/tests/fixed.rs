@@ -109,3 +109,11 @@ fn pieces() {
     let tally = run(Kind::Pieces, 800);
     all_met(&tally, &[0, 5, 12], 20);
 }
+
+#[test]
+fn report() {
+    let tally = run(Kind::Report, 1_200);
+    all_met(&tally, &[0, 1, 3, 5, 6, 8, 9, 10, 11, 12], 5);
+    all_met(&tally, &FIELDS, 5);
+    often(&tally, &tally.samples, 100);
+}

@@ -4,7 +4,7 @@
 //! [`State`] holds every number, [`Lent`] the ring and the EV times. Each event changes both in
 //! place and returns 0, or the refusal number of 01 and changes nothing. An accepted ACK or NACK
 //! says what became of its sample: [`Sampling`]. A log may also come in chunks: [`Part`] is what its
-//! replay holds between them.
+//! replay holds between them. A [`Report`] has the figures of a whole log.
 
 #![forbid(unsafe_code)]
 
@@ -19,6 +19,7 @@ pub mod log;
 mod path;
 pub mod refusal;
 pub mod replay;
+pub mod report;
 pub mod rng;
 mod sampling;
 pub mod settings;
@@ -33,6 +34,7 @@ pub use lent::{Lent, Memory};
 pub use log::{parse, write, Reader, Record};
 pub use refusal::Refusal;
 pub use replay::replay;
+pub use report::{report, Report};
 pub use rng::Rng;
 pub use sampling::Sampling;
 pub use settings::Settings;

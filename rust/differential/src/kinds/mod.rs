@@ -33,6 +33,8 @@ pub enum Kind {
     Text,
     /// Logs through the program while they are written, cut anywhere.
     Pieces,
+    /// The program's run reports of whole logs.
+    Report,
 }
 
 impl Kind {
@@ -46,6 +48,7 @@ impl Kind {
         Kind::Chunks,
         Kind::Text,
         Kind::Pieces,
+        Kind::Report,
     ];
 
     pub fn name(self) -> &'static str {
@@ -59,6 +62,7 @@ impl Kind {
             Kind::Chunks => "chunks",
             Kind::Text => "text",
             Kind::Pieces => "pieces",
+            Kind::Report => "report",
         }
     }
 
@@ -75,6 +79,7 @@ impl Kind {
             Kind::Chunks => chunks::run(seed, tally),
             Kind::Text => text::run(seed, tally),
             Kind::Pieces => pieces::run(seed, tally),
+            Kind::Report => text::run_report(seed, tally),
         }
     }
 }

@@ -1,7 +1,7 @@
 use super::replay::report;
 use crate::logs::{damage, generated, long, LONG_EVERY};
 use crate::tally::Tally;
-use model::Rng;
+use model::{Report, Rng};
 use std::io::Write;
 use std::path::{Path, PathBuf};
 use std::process::{Command, Output, Stdio};
@@ -32,7 +32,41 @@ pub fn program() -> Result<Command, String> {
     Ok(command)
 }
 
+/// What the program prints of a log.
+struct Print {
+    /// The arguments before the log.
+    options: &'static [&'static str],
+    /// What the model prints.
+    model: fn(&[u8]) -> String,
+}
+
+/// The lines of 01.
+const LINES: Print = Print {
+    options: &[],
+    model: model::replay,
+};
+
+/// The run report of M-105.
+const REPORT: Print = Print {
+    options: &["-r"],
+    model: |log| model::report(log).to_string(),
+};
+
 pub fn run(seed: u64, tally: &mut Tally) -> Result<(), String> {
+    let log = compare_seed(&LINES, seed, tally)?;
+    count(&model::replay(&log), tally);
+    Ok(())
+}
+
+/// The same logs, by their reports.
+pub fn run_report(seed: u64, tally: &mut Tally) -> Result<(), String> {
+    let log = compare_seed(&REPORT, seed, tally)?;
+    count_report(&model::report(&log), tally);
+    Ok(())
+}
+
+/// The log of this seed, on which both agree.
+fn compare_seed(print: &Print, seed: u64, tally: &mut Tally) -> Result<Vec<u8>, String> {
     let mut rng = Rng::new(seed);
     let log = if seed.is_multiple_of(LONG_EVERY) {
         long(seed)
@@ -47,29 +81,35 @@ pub fn run(seed: u64, tally: &mut Tally) -> Result<(), String> {
     };
     let named = rng.one_in(2);
     tally.cases += 1;
-    let text = compare(&log, named).map_err(|difference| {
-        let fails = |log: &[Vec<u8>]| compare(&log.concat(), named).is_err();
+    compare(print, &log, named).map_err(|difference| {
+        let fails = |log: &[Vec<u8>]| compare(print, &log.concat(), named).is_err();
         report(&log, &difference, fails)
     })?;
-    count(&text, tally);
-    Ok(())
+    Ok(log)
 }
 
-/// The text on which both agree.
-fn compare(log: &[u8], named: bool) -> Result<String, String> {
-    let expected = model::replay(log);
-    let program = program()?;
-    let output = if named {
-        from_file(program, log)
-    } else {
-        from_input(program, log)
-    };
-    let output = output.map_err(|error| format!("the program: {error}"))?;
+impl Print {
+    /// What the program says of a log, in a file or on its standard input.
+    fn output(&self, log: &[u8], named: bool) -> Result<Output, String> {
+        let mut program = program()?;
+        program.args(self.options);
+        let output = if named {
+            from_file(program, log)
+        } else {
+            from_input(program, log)
+        };
+        output.map_err(|error| format!("the program: {error}"))
+    }
+}
+
+fn compare(print: &Print, log: &[u8], named: bool) -> Result<(), String> {
+    let expected = (print.model)(log);
+    let output = print.output(log, named)?;
     if output.status.code().is_none() {
         return Err(format!("the program died: {}", output.status));
     }
     if output.stdout == expected.as_bytes() {
-        return Ok(expected);
+        return Ok(());
     }
     let difference = difference(&String::from_utf8_lossy(&output.stdout), &expected);
     let said = String::from_utf8_lossy(&output.stderr);
@@ -126,5 +166,23 @@ pub fn count(text: &str, tally: &mut Tally) {
         if let Some(number) = number {
             tally.tell(number, letter);
         }
+    }
+}
+
+fn count_report(report: &Report, tally: &mut Tally) {
+    tally.answers[0] += report.accepted;
+    for (sum, times) in tally.answers.iter_mut().zip(report.refused) {
+        *sum += times;
+    }
+    // In the order of the letters of M-103.
+    let kinds = [
+        report.taken,
+        report.cut,
+        report.gone,
+        report.ambiguous,
+        report.not_positive,
+    ];
+    for (sum, times) in tally.samples.iter_mut().zip(kinds) {
+        *sum += times;
     }
 }

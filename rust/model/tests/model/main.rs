@@ -12,6 +12,7 @@ mod number_two;
 mod p_cases;
 mod random;
 mod refusals;
+mod report;
 mod rig;
 mod samples;
 mod sampling;
