@@ -1,4 +1,4 @@
--- The laws that the proofs of `report` share, and the theorems of request M-105.
+-- The laws that the proofs of `report` share, and the theorems of requests M-105 and M-106.
 pub mod Buckets
 pub mod Adding
 pub mod Tallies
@@ -7,3 +7,6 @@ pub mod Exact
 pub mod Highest
 pub mod Totals
 pub mod Parts
+pub mod Alike
+pub mod Served
+pub mod Ambiguous

@@ -2,3 +2,4 @@
 pub mod Figures
 pub mod Tallies
 pub mod Statements
+pub mod Ambiguous

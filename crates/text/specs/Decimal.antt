@@ -8,6 +8,12 @@ use lib.ListN.{length}
 use lib.Seq.{sets}
 use Rattle.decide.specs.Branch.{ifLt}
 
+abbrev pub space : ℕ
+space = 32
+
+abbrev pub newline : ℕ
+newline = 10
+
 -- the code of `0`, which those of `1` to `9` follow
 abbrev pub zeroGlyph : ℕ
 zeroGlyph = 48
@@ -28,6 +34,14 @@ digitsIn (suc k) n = ifLt n 10 ((zeroGlyph + n) ∷ []) (digitsIn k (n / 10) ++ 
 -- the decimal digits of a number of 64 bits
 unfoldable pub decimal : ℕ → List ℕ
 decimal n = digitsIn digitsMost n
+
+-- a column of a line: a space and a number
+abbrev pub column : ℕ → List ℕ
+column n = space ∷ decimal n
+
+-- as many bytes as a column can have
+abbrev pub columnMost : ℕ
+columnMost = 1 + digitsMost
 
 -- a number below zero has a minus sign in front
 unfoldable pub signed : ℤ → List ℕ

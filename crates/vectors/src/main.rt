@@ -1,6 +1,7 @@
 // Replays the bundled logs, which its arguments name, one after another.
 use libc::STDOUT_FILENO;
 use player::Input;
+use player::Task;
 
 // What stands behind the lines of a log that was not replayed to its end.
 fn report(input: Input) {
@@ -23,7 +24,7 @@ fn replay_one(index: usize) {
     io::write_all(STDOUT_FILENO, &path[..length]);
     io::write_all(STDOUT_FILENO, b"\n");
     let fd = os::open_read(&path[..length]);
-    report(player::replay_from(fd, false));
+    report(player::replay_from(fd, Task::Lines { progress: false }));
     libc::close(fd);
 }
 

@@ -1,0 +1,2 @@
+-- What the contracts of `sheet` cite.
+pub mod Sheet
