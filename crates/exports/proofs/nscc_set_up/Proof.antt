@@ -7,9 +7,6 @@ use Rattle.exports.proofs.nscc_set_up.Tie as tie
 returns : tie.Need-returns
 returns c = few-settings _ _ _ _ _ _ _ (c .if1 .taken)
 
-cast-settings-of : tie.Need-cast-settings-of
-cast-settings-of c = search needs
-
 settings-of-requires : tie.Need-settings-of-requires
 settings-of-requires c κs = search needs
 
@@ -66,7 +63,6 @@ nscc-set-up-spec =
     tie.close
     (tie.spec
     returns
-    cast-settings-of
     settings-of-requires
     in-range-requires
     returns-2
