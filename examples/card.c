@@ -11,8 +11,8 @@
 #include <stdlib.h>
 #include <string.h>
 
-/* A power of two, 64..4096. */
-enum { SLOTS = 64 };
+/* Powers of two: 64..4096 slots, 256..4096 EVs. */
+enum { SLOTS = 64, EVS = NSCC_EVS_MIN };
 
 /* All the memory of one context. It is the card's: the library keeps nothing between calls. */
 struct card {
@@ -21,12 +21,12 @@ struct card {
     uint32_t size[SLOTS];
     uint64_t sent[SLOTS];
     uint8_t resent[SLOTS];
-    uint64_t evs[NSCC_EVS];
+    uint64_t evs[EVS];
 };
 
 /* What every call is lent: each array with its length. */
 #define LENT(card)                                                                                                                                           \
-    (card)->state, NSCC_WORDS, (card)->status, SLOTS, (card)->size, SLOTS, (card)->sent, SLOTS, (card)->resent, SLOTS, (card)->evs, NSCC_EVS
+    (card)->state, NSCC_WORDS, (card)->status, SLOTS, (card)->size, SLOTS, (card)->sent, SLOTS, (card)->resent, SLOTS, (card)->evs, EVS
 
 /* Settings E of the requirements, in the order of enum nscc_setting. */
 static const uint64_t settings[NSCC_SETTINGS] = {4096, 614400, 96, 72, 4096, 1024, 224, 819, 512, 96, 32768, 288};
@@ -91,7 +91,7 @@ int main(void)
 {
     static struct card card;
     puts("call ans inflight cwnd flying waiting backlog state");
-    show("set-up", nscc_set_up(settings, NSCC_SETTINGS, 0, false, LENT(&card)), &card);
+    show("set-up", nscc_set_up(settings, NSCC_SETTINGS, 0, false, EVS, LENT(&card)), &card);
 
     /* The worked example. */
     show("new-data", nscc_new_data(LENT(&card), 0, 8192), &card);

@@ -1,7 +1,7 @@
 /*
  * nscc.h: a proved sender-side NSCC congestion controller, for network card firmware.
  *
- * One context is a state of NSCC_WORDS words, a ring of four arrays and NSCC_EVS times, all of them the caller's memory. Nothing is allocated, nothing is kept
+ * One context is a state of NSCC_WORDS words, a ring of four arrays and a time for each EV, all of them the caller's memory. Nothing is allocated, nothing is kept
  * between calls, no function blocks; each may be called from any thread as long as no two calls share memory.
  *
  * Every function answers for every number that is handed in. The answer is 0, or the number of a refusal (nscc_refusal); an answer of 64 bits has it in the
@@ -11,7 +11,8 @@
  *   - no two arrays of one call overlap;
  *   - a pointer is not null, also where its length is 0, and is aligned for its type.
  *
- * The ring has as many slots as its four arrays have elements: a power of two from 64 to 4096, the same for all four. Time is in ticks of 128 ns.
+ * The ring has as many slots as its four arrays have elements: a power of two from 64 to 4096, the same for all four. The EVs are as many as setting up was
+ * told, a power of two from NSCC_EVS_MIN to NSCC_EVS_MAX, and so many times are lent with every call. Time is in ticks of 128 ns.
  */
 #ifndef NSCC_H
 #define NSCC_H
@@ -42,7 +43,7 @@ enum nscc_refusal {
     NSCC_BAD_BYTES = 20,   /* new data of 0 bytes, or a backlog over 2^40 */
     NSCC_BAD_COUNT = 21,   /* a received count of 2^24 or more */
     NSCC_BAD_REASON = 22,  /* a NACK's reason over 2 */
-    NSCC_BAD_EV = 23,      /* an EV over 255 */
+    NSCC_BAD_EV = 23,      /* an EV that is not below the EV count */
     NSCC_BAD_TRIGGER = 24, /* an ACK that does not cover its trigger */
     NSCC_TOO_LONG = 28     /* nscc_chunk: with the chunk the log would have 2^48 bytes or more */
 };
@@ -105,22 +106,25 @@ enum nscc_word {
     NSCC_LAST_ADJUST,
     NSCC_LAST_DEC,
     NSCC_CLOCK,
-    NSCC_CURSOR,
+    NSCC_CURSOR,          /* the EV from which the next path is looked for: below the EV count */
     NSCC_PHASE,           /* 0 IDLE, 1 PENDING, 2 READY, 3 ACTIVE */
-    NSCC_WORDS            /* how many there are: 39 */
+    NSCC_EV_COUNT,        /* how many EVs there are, and EV times: 256, 512, 1024, 2048 or 4096 */
+    NSCC_WORDS            /* how many there are: 40 */
 };
 
 /* What is added to in-flight in its word. */
 #define NSCC_IN_FLIGHT_ADDED 16777216
 
-/* The EV times: exactly so many. */
-#define NSCC_EVS 256
+/* The EV count is a power of two from the one to the other. */
+#define NSCC_EVS_MIN 256
+#define NSCC_EVS_MAX 4096
 
 /*
- * Sets a context up: 1, then 2 on lengths; settings that are not NSCC_SETTINGS numbers can't be read, and are 2 before all else. Clears the ring and the EV
- * times and writes the state's words; a refusal changes nothing. settings_len is NSCC_SETTINGS, state_len NSCC_WORDS, evs_len NSCC_EVS.
+ * Sets a context up: 1, then 2 on lengths; settings that are not NSCC_SETTINGS numbers can't be read, and are 2 before all else. An EV count that is not
+ * allowed is 1 like a setting outside its range. Clears the ring and the EV times and writes the state's words; a refusal changes nothing. settings_len is
+ * NSCC_SETTINGS, state_len NSCC_WORDS, evs_len the EV count.
  */
-uint32_t nscc_set_up(const uint64_t *settings, size_t settings_len, uint32_t first_psn, bool quick_adapt_off,
+uint32_t nscc_set_up(const uint64_t *settings, size_t settings_len, uint32_t first_psn, bool quick_adapt_off, uint32_t ev_count,
                      uint64_t *state, size_t state_len, uint8_t *status, size_t status_len, uint32_t *size, size_t size_len,
                      uint64_t *sent, size_t sent_len, uint8_t *resent, size_t resent_len, uint64_t *evs, size_t evs_len);
 
@@ -176,8 +180,9 @@ enum nscc_place {
  * NSCC_ANSWERED is 0. Answers 0, or 2 with nothing changed: a wrong length of place or state, NSCC_STOPPED over 1, more records done than NSCC_AT, or a state
  * and buffers that don't hold together. An answer is the record's number of refusal in its low 32 bits, and above them the EV of an accepted path choice, or
  * what the sample of an accepted ACK or NACK is (nscc_sample), and 0 for every other record; the room behind the answers given is left as it was.
- * The first record sets the context up: the state's words are looked at only between an accepted settings record and a stop. A first record that is refused
- * with 1 leaves the words of a state of zeros.
+ * The first record sets the context up: the state's words are looked at only between an accepted settings record and a stop. Settings whose EV count is not
+ * the number of times lent are refused with 2, which is that record's answer and stops the replay. A first record that is refused with 1 or 2 leaves the
+ * words of a state of zeros.
  */
 uint32_t nscc_replay(uint64_t *place, size_t place_len, uint64_t *state, size_t state_len, uint8_t *status, size_t status_len,
                      uint32_t *size, size_t size_len, uint64_t *sent, size_t sent_len, uint8_t *resent, size_t resent_len,
@@ -195,7 +200,7 @@ enum nscc_part {
 };
 
 /* The room of the piece, which holds the record that is not whole yet: exactly so many bytes. */
-#define NSCC_PIECE 57
+#define NSCC_PIECE 61
 
 /*
  * Replays a log that comes in chunks of any length, possibly of none, with records cut anywhere: the piece's bytes, then the chunk's. ended says that the log

@@ -71,7 +71,7 @@ static uint64_t call(const struct request *request)
     const uint64_t *a = request->argument, *n = request->length;
     switch (request->function) {
     case SET_UP:
-        return nscc_set_up(LENT(FIRST), a[0], a[1], CONTEXT);
+        return nscc_set_up(LENT(FIRST), a[0], a[1], a[2], CONTEXT);
     case NEW_DATA:
         return nscc_new_data(CONTEXT, a[0], a[1]);
     case SEND:

@@ -20,6 +20,7 @@ use Rattle.serial.specs.Psn.{unsentOrOld}
 use Rattle.serial.specs.Count.{counts, half, isOld, forwardOf}
 use Rattle.serial.proofs.Wraps.{minus-none, minus-self}
 use Rattle.serial.proofs.Counts.{old-zero, old-behind, took}
+use Rattle.window.specs.declared.Settings.{Settings}
 use Rattle.ledger.specs.Packets.{coverAll}
 use Rattle.ledger.specs.Bounds.{unit, inFlightLeast, fallen, sinks}
 use Rattle.ledger.specs.Ring.{Ledger, packets}
@@ -34,7 +35,7 @@ use Rattle.sender.specs.declared.Ack.{Ack}
 use Rattle.demands.specs.Events.{ack}
 use Rattle.demands.specs.Burst.{Arrival, deliver, Timely, Newest, Of, Arrives, coversPsn, psnOf, wasCovered}
 use Rattle.demands.specs.Demands.{Burst}
-use Rattle.demands.proofs.Runs.{step-ledger, step-clock}
+use Rattle.demands.proofs.Runs.{step-ledger, step-clock, step-settings}
 use Rattle.demands.proofs.Sounded.{Holds, holds-facts, step-holds}
 use Rattle.demands.proofs.Ledgers.{cover-agree, settledBy, settled-same, ack-cases, badFields, fields-count, Fine, accepted-fine, fine-rows, fine-accepted, heldIn, inFlightIn, deliver-settles}
 
@@ -116,15 +117,16 @@ lag-self n = minus-self counts n (omega arith)
 -- ---- a burst
 
 -- a world of a burst whose newest is n: `rest` is what is left of in-flight once n is taken in
-record Good (n : Ack) (next : ℕ) (rest : ℤ) (w : World) : Type 0 where
+record Good (n : Ack) (evs next : ℕ) (rest : ℤ) (w : World) : Type 0 where
   holds : Holds w
+  evs-is : w .state .settings .«ev_count» ≡ evs
   next-is : w .state .flow .next ≡ next
   near : lag (n .count) (heldIn w) < half
   left : fallen (inFlightIn w) (unit * lag (n .count) (heldIn w)) ≡ rest
 
 -- after a member that came at the time t
-record Went (n : Ack) (next : ℕ) (rest : ℤ) (before t : ℕ) (w : World) : Type 0 where
-  good : Good n next rest w
+record Went (n : Ack) (evs next : ℕ) (rest : ℤ) (before t : ℕ) (w : World) : Type 0 where
+  good : Good n evs next rest w
   nearer : lag (n .count) (heldIn w) ≤ before
   clocked : w .state .clock ≤ t
 
@@ -132,10 +134,10 @@ timely-from : (ds : List Arrival) (c t : ℕ) → c ≤ t → Timely t ds → Ti
 timely-from [] c t le h = tt
 timely-from (d ∷ ds) c t le h = (omega arith, h .1, h .2)
 
-module _ (n : Ack) (next : ℕ) (rest : ℤ) (fields : badFields n ≡ false)
+module _ (n : Ack) (evs next : ℕ) (rest : ℤ) (fields : badFields evs n ≡ false)
     (sent : unsentOrOld next (n .cum) (n .map) ≡ false) (afloat : ltZ rest inFlightLeast ≡ false) where
   -- a member that is accepted
-  module _ (w : World) (t : ℕ) (a : Ack) (g : Good n next rest w) (close : lag (n .count) (a .count) < half)
+  module _ (w : World) (t : ℕ) (a : Ack) (g : Good n evs next rest w) (close : lag (n .count) (a .count) < half)
       (rows : firstOf (ackAllRows t a (w .state)) ≡ 0) where
     took-a : Took (n .count) (heldIn w) (a .count)
     took-a = taken (n .count) (heldIn w) (a .count) (g .near) close
@@ -152,12 +154,13 @@ module _ (n : Ack) (next : ℕ) (rest : ℤ) (fields : badFields n ≡ false)
     unfolding ackedOf
     next-same = ap (λ (l : Ledger). l .flow .next) (step-ledger (ack t a) w)
 
-    member : Went n next rest (lag (n .count) (heldIn w)) t (ackStep t a w)
+    member : Went n evs next rest (lag (n .count) (heldIn w)) t (ackStep t a w)
     member =
         record {
           good =
               record {
                 holds = step-holds (ack t a) w (g .holds) rows;
+                evs-is = ap (λ (x : Settings). x .«ev_count») (step-settings (ack t a) w) ∙ g .evs-is;
                 next-is = next-same ∙ g .next-is;
                 near = rw held-is (omega (arith, took-a .less, g .near));
                 left =
@@ -173,20 +176,20 @@ module _ (n : Ack) (next : ℕ) (rest : ℤ) (fields : badFields n ≡ false)
     caught-up = rw held-is (took-a .caught)
 
   -- any member
-  went : (w : World) (t : ℕ) (a : Ack) → Good n next rest w → lag (n .count) (a .count) < half → w .state .clock ≤ t
-      → Went n next rest (lag (n .count) (heldIn w)) t (onAck t a w .after)
+  went : (w : World) (t : ℕ) (a : Ack) → Good n evs next rest w → lag (n .count) (a .count) < half → w .state .clock ≤ t
+      → Went n evs next rest (lag (n .count) (heldIn w)) t (onAck t a w .after)
   went w t a g close h =
-      ack-cases (λ x. Went n next rest (lag (n .count) (heldIn w)) t (x .after)) t a w (member w t a g close)
+      ack-cases (λ x. Went n evs next rest (lag (n .count) (heldIn w)) t (x .after)) t a w (member w t a g close)
       (λ k z. record { good = g; nearer = omega arith; clocked = h })
 
   -- the newest is never refused
-  newest-fine : (w : World) (t : ℕ) → Good n next rest w → w .state .clock ≤ t → t < timeEnd → Fine t n (w .state .clock) (ledgerOf w)
+  newest-fine : (w : World) (t : ℕ) → Good n evs next rest w → w .state .clock ≤ t → t < timeEnd → Fine t n (w .state .settings .«ev_count») (w .state .clock) (ledgerOf w)
   unfolding sinks
   newest-fine w t g h k =
       record {
         later = h;
         early = k;
-        fields = fields;
+        fields = rw (g .evs-is) fields;
         sent = rw (g .next-is) sent;
         afloat = no-sink (n .count) (heldIn w) (n .count) (g .near) (omega (arith, lag-self (n .count))) (inFlightIn w) (rw (g .left) afloat);
       }
@@ -195,8 +198,8 @@ module _ (n : Ack) (next : ℕ) (rest : ℤ) (fields : badFields n ≡ false)
   Close ds = (d : Arrival) → List·Memᴰ d ds → lag (n .count) (d .ack .count) < half
 
   -- a run of members
-  goes : (ds : List Arrival) (w : World) → Good n next rest w → Close ds → Timely (w .state .clock) ds
-      → Good n next rest (deliver w ds) × (lag (n .count) (heldIn (deliver w ds)) ≤ lag (n .count) (heldIn w))
+  goes : (ds : List Arrival) (w : World) → Good n evs next rest w → Close ds → Timely (w .state .clock) ds
+      → Good n evs next rest (deliver w ds) × (lag (n .count) (heldIn (deliver w ds)) ≤ lag (n .count) (heldIn w))
   goes [] w g c h = (g, omega arith)
   goes (d ∷ ds) w g c h =
       let v = onAck (d .time) (d .ack) w .after in
@@ -208,14 +211,14 @@ module _ (n : Ack) (next : ℕ) (rest : ℤ) (fields : badFields n ≡ false)
   abbrev Ends : World → List Arrival → Type 0
   Ends w ds = (lag (n .count) (heldIn (deliver w ds)) ≤ 0) × ((p : ℕ) → coversPsn n p ≡ true → wasCovered w ds p ≡ true)
 
-  ends : (ds : List Arrival) (w : World) → Good n next rest w → Close ds → Timely (w .state .clock) ds → Arrives n ds → Ends w ds
+  ends : (ds : List Arrival) (w : World) → Good n evs next rest w → Close ds → Timely (w .state .clock) ds → Arrives n ds → Ends w ds
   ends [] w g c h x = absurd (List·Memᴰ·not-nil (x .1))
   ends (d ∷ ds) w g c h x = ⊎-elim first (λ m. later (ends ds v (s .good) c' h' (x .0, m, x .2))) (List·Memᴰ·cases-cons (x .1))
     where
       v : World
       v = onAck (d .time) (d .ack) w .after
 
-      s : Went n next rest (lag (n .count) (heldIn w)) (d .time) v
+      s : Went n evs next rest (lag (n .count) (heldIn w)) (d .time) v
       s = went w (d .time) (d .ack) g (c d (List·Memᴰ·head refl)) (h .0)
 
       c' : Close ds
@@ -267,15 +270,15 @@ bool-same false false f g = refl
 -- ---- the theorem
 
 module _ (w : World) (at : ℕ) (n : Ack) (others : List Ack) (H : Holds w) (nw : Newest w at n others) where
-  fine : Fine at n (w .state .clock) (ledgerOf w)
+  fine : Fine at n (w .state .settings .«ev_count») (w .state .clock) (ledgerOf w)
   fine = accepted-fine at n w (nw .accepted)
 
   rest : ℤ
   rest = fallen (inFlightIn w) (unit * lag (n .count) (heldIn w))
 
-  start : Good n (w .state .flow .next) rest w
+  start : Good n (w .state .settings .«ev_count») (w .state .flow .next) rest w
   unfolding rest
-  start = record { holds = H; next-is = refl; near = nw .not-behind; left = refl }
+  start = record { holds = H; evs-is = refl; next-is = refl; near = nw .not-behind; left = refl }
 
   rest-afloat : ltZ rest inFlightLeast ≡ false
   unfolding rest newlyOf sinks
@@ -296,20 +299,23 @@ module _ (w : World) (at : ℕ) (n : Ack) (others : List Ack) (H : Holds w) (nw 
       close : (d : Arrival) → List·Memᴰ d ds → lag (n .count) (d .ack .count) < half
       close d m = ⊎-elim (λ q. rw q (omega (arith, lag-self (n .count)))) (λ k. nw .others-behind (d .ack) k) (o d m)
 
+      evs : ℕ
+      evs = w .state .settings .«ev_count»
+
       next : ℕ
       next = w .state .flow .next
 
-      g : Good n next rest (deliver w ds)
-      g = goes n next rest (fine .fields) (fine .sent) rest-afloat ds w start close tm .0
+      g : Good n evs next rest (deliver w ds)
+      g = goes n evs next rest (fine .fields) (fine .sent) rest-afloat ds w start close tm .0
 
-      e : Ends n next rest (fine .fields) (fine .sent) rest-afloat w ds
-      e = ends n next rest (fine .fields) (fine .sent) rest-afloat ds w start close tm ar
+      e : Ends n evs next rest (fine .fields) (fine .sent) rest-afloat w ds
+      e = ends n evs next rest (fine .fields) (fine .sent) rest-afloat ds w start close tm ar
 
       none-left : lag (n .count) (heldIn (deliver w ds)) ≡ 0
       none-left = omega (arith, e .0)
 
       held-n : heldIn (deliver w ds) ≡ n .count
-      held-n = minus-none counts (n .count) (heldIn (deliver w ds)) (fields-count n (fine .fields)) (holds-facts (g .holds) .held) none-left
+      held-n = minus-none counts (n .count) (heldIn (deliver w ds)) (fields-count evs n (fine .fields)) (holds-facts (g .holds) .held) none-left
 
       in-flight-n : inFlightIn (deliver w ds) ≡ rest
       in-flight-n = sym (fall-none (inFlightIn (deliver w ds))) ∙ (rw none-left at (g .left))

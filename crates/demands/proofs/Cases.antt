@@ -10,7 +10,7 @@ use Rattle.serial.specs.Wrap.{minus}
 use Rattle.serial.specs.Psn.{plus, bitOf, covered, backOf, spanOf, unsentOrOld}
 use Rattle.serial.specs.Count.{aheadOf, isOld, forwardOf}
 use Rattle.window.specs.Limits.{ceilingOf}
-use Rattle.window.specs.Range.{inRange}
+use Rattle.window.specs.Range.{isEvCount, inRange}
 use Rattle.window.specs.Held.{isHeld, freshOf}
 use Rattle.window.specs.Delays.{oneSend, sampleOf, averageOf, fedBy, feedOf, loweredOf, measuredOf}
 use Rattle.window.specs.Cases.{calmOf, fastOf, incBy, risenOf, factorOf, cutOf, caseOf}
@@ -30,7 +30,7 @@ use Rattle.demands.specs.Cases.{agree, same, cases, settingsE, windowOf,
 
 pub cases-hold : agree cases ≡ true
 unfolding agree same cases settingsE windowOf ticksOf measuredBy worldOf deliveredOf acknowledged chosen isDelivered ifSo ifLt ifEq inside firstOf minus plus
-    bitOf covered backOf spanOf unsentOrOld aheadOf isOld forwardOf leadingZeros ceilingOf inRange isHeld freshOf oneSend sampleOf averageOf fedBy
+    bitOf covered backOf spanOf unsentOrOld aheadOf isOld forwardOf leadingZeros ceilingOf isEvCount inRange isHeld freshOf oneSend sampleOf averageOf fedBy
     feedOf loweredOf measuredOf calmOf fastOf incBy risenOf factorOf cutOf caseOf turnedOf adjustedOf avoids avoided firstFree steps landed choice isFlying isDone
     isOut flyingOne markedOne markedSize sumOf coverOne coverAll doneRun inBounds sinks packetAt tabulate placeOf ageOf lay laid queueOf longOf packets
     offsetOf packetOf allTo isCapacity isRing isLive isZero slotOk headOk stands tallies coherent heldOf newlyOf ackedOf hasRoom phaseOf phaseNumber

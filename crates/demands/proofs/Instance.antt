@@ -16,9 +16,10 @@ use Rattle.decide.specs.Test.{inside}
 use Rattle.serial.specs.Wrap.{minus}
 use Rattle.serial.specs.Psn.{psns, plus, bitOf, covered, backOf, spanOf, unsentOrOld}
 use Rattle.serial.specs.Count.{counts, half, aheadOf, isOld, forwardOf}
-use Rattle.window.specs.Range.{inRange}
+use Rattle.window.specs.Range.{isEvCount, inRange}
 use Rattle.window.specs.Held.{isHeld, freshOf}
 use Rattle.window.specs.Limits.{ceilingOf}
+use Rattle.window.specs.declared.Settings.{Settings}
 use Rattle.ledger.specs.Packets.{isFlying, isMarked, isDone, isOut, flyingOne, markedOne, markedSize, sumOf, coverOne, coverAll, doneRun}
 use Rattle.ledger.specs.Bounds.{inBounds, sinks}
 use Rattle.ledger.specs.Ring.{Ledger, packetAt, tabulate, placeOf, ageOf, lay, laid, queueOf, longOf, packets}
@@ -34,7 +35,7 @@ use Rattle.sender.specs.declared.Ack.{Ack}
 use Rattle.demands.specs.Events.{ack}
 use Rattle.demands.specs.Burst.{Arrival, deliver, Timely, Outstanding, psnOf, coversPsn, Of, Arrives}
 use Rattle.demands.specs.Cases.{settingsE}
-use Rattle.demands.proofs.Runs.{step-ledger, step-clock}
+use Rattle.demands.proofs.Runs.{step-ledger, step-clock, step-settings}
 use Rattle.demands.proofs.Sounded.{Holds, step-holds}
 use Rattle.demands.proofs.Ledgers.{Fine, fine-accepted, fine-rows}
 use Rattle.demands.proofs.Bursts.{burst}
@@ -55,7 +56,7 @@ start =
     (replicate 256 0)
 
 start-sound : sound start ≡ true
-unfolding start settingsE sound inRange inside isHeld ceilingOf freshOf coherent stands isRing isCapacity longOf minus allTo slotOk ifLt ifSo ifEq isLive isZero headOk tallies sumOf flyingOne markedOne markedSize inBounds packets queueOf tabulate packetAt placeOf plus ageOf lay laid isDone timesOk namedOk phaseOf phaseNumber hasRoom stateOf
+unfolding start settingsE sound isEvCount inRange inside isHeld ceilingOf freshOf coherent stands isRing isCapacity longOf minus allTo slotOk ifLt ifSo ifEq isLive isZero headOk tallies sumOf flyingOne markedOne markedSize inBounds packets queueOf tabulate packetAt placeOf plus ageOf lay laid isDone timesOk namedOk phaseOf phaseNumber hasRoom stateOf
 start-sound = refl
 
 start-holds : Holds start
@@ -141,8 +142,8 @@ module _ {A : Type 0} (P : A → Type 0) where
 
 -- ---- the newest, at the start
 
-newest-fine : Fine 110 newest (start .state .clock) (ledgerOf start)
-unfolding start stateOf covered bitOf minus plus unsentOrOld backOf spanOf sinks newlyOf forwardOf aheadOf ifLt leadingZeros
+newest-fine : Fine 110 newest (start .state .settings .«ev_count») (start .state .clock) (ledgerOf start)
+unfolding start settingsE stateOf covered bitOf minus plus unsentOrOld backOf spanOf sinks newlyOf forwardOf aheadOf ifLt leadingZeros
 newest-fine = record { later = omega arith; early = omega arith; fields = refl; sent = refl; afloat = refl }
 
 newest-accepted : onAck 110 newest start ≡ record { number = 0; after = ackStep 110 newest start }
@@ -244,12 +245,17 @@ left-is : ledgerOf (ackStep 110 newest start) ≡ left
 unfolding left
 left-is = step-ledger (ack 110 newest) start
 
-module _ (a : Ack) (f : Fine 120 a 110 left) where
+abbrev evs : ℕ
+evs = start .state .settings .«ev_count»
+
+module _ (a : Ack) (f : Fine 120 a evs 110 left) where
   abbrev w : World
   w = ackStep 110 newest start
 
-  fine-here : Fine 120 a (w .state .clock) (ledgerOf w)
-  fine-here = subst (Fine 120 a (w .state .clock)) (sym left-is) (subst (λ (c : ℕ). Fine 120 a c left) (sym (step-clock (ack 110 newest) start)) f)
+  fine-here : Fine 120 a (w .state .settings .«ev_count») (w .state .clock) (ledgerOf w)
+  fine-here =
+      subst (λ (s : Settings). Fine 120 a (s .«ev_count») (w .state .clock) (ledgerOf w)) (sym (step-settings (ack 110 newest) start))
+      (subst (Fine 120 a evs (w .state .clock)) (sym left-is) (subst (λ (c : ℕ). Fine 120 a evs c left) (sym (step-clock (ack 110 newest) start)) f))
 
   both-leave : ledgerOf (deliver start (newestThen a)) ≡ ackedOf (a .cum) (a .map) (a .count) left
   both-leave =
@@ -266,8 +272,8 @@ module _ (a : Ack) (f : Fine 120 a 110 left) where
       ne (sym e ∙ ap number (sym both-leave ∙ s ∙ ap (λ (x : Answered). ledgerOf (x .after)) newest-accepted ∙ left-is) ∙ g)
 
 -- both of the others below are accepted there
-then-fine : Fine 120 ahead 110 left × Fine 120 farther 110 left
-unfolding left ackedOf start stateOf covered bitOf minus plus unsentOrOld backOf spanOf sinks newlyOf forwardOf aheadOf isOld heldOf ifLt ifSo leadingZeros
+then-fine : Fine 120 ahead evs 110 left × Fine 120 farther evs 110 left
+unfolding left ackedOf start settingsE stateOf covered bitOf minus plus unsentOrOld backOf spanOf sinks newlyOf forwardOf aheadOf isOld heldOf ifLt ifSo leadingZeros
 then-fine = (
   record { later = omega arith; early = omega arith; fields = refl; sent = refl; afloat = refl },
   record { later = omega arith; early = omega arith; fields = refl; sent = refl; afloat = refl },

@@ -27,7 +27,7 @@ use Rattle.ledger.proofs.Geometry.{laid-cap}
 use Rattle.ledger.proofs.Facts.{Facts, packets-long, packets-laid}
 use Rattle.ledger.proofs.Queues.{plus-none, plus-next, cover-no, cover-stays, cover-long, OfOut, flying-out, marked-out, bytes-out, cover-sum, run-le, run-stop, run-end, either, goneOf, leftOf, settle-twice, covered-twice}
 use Rattle.ledger.proofs.Judging.{ack-0, ack-facts}
-use Rattle.sender.specs.Limits.{timeEnd, evCount}
+use Rattle.sender.specs.Limits.{timeEnd}
 use Rattle.sender.specs.World.{World, Answered, ledgerOf}
 use Rattle.sender.specs.Rows.{withSound, ackAllRows}
 use Rattle.sender.specs.Steps.{ackStep}
@@ -187,26 +187,26 @@ ack-cases P time a w f g =
     let rows = ackAllRows time a (w .state) in
     eq-both P (firstOf (withSound w rows)) 0 _ _ (λ e. f (none-here 2 _ rows (omega arith) e .1)) (g (firstOf (withSound w rows)))
 
--- the tests of the rows for an ACK's fields, 21, 23 and 24
-abbrev pub badFields : Ack → Bool
-badFields a = leb counts (a .count) || leb evCount (a .ev) || not (covered (a .cum) (a .map) (a .trigger))
+-- the tests of the rows for an ACK's fields, 21, 23 and 24, of so many EVs
+abbrev pub badFields : ℕ → Ack → Bool
+badFields evs a = leb counts (a .count) || leb evs (a .ev) || not (covered (a .cum) (a .map) (a .trigger))
 
-pub fields-count : (a : Ack) → badFields a ≡ false → a .count < counts
-fields-count a e =
-    leb-false counts (a .count) (neither (leb counts (a .count)) (leb evCount (a .ev)) (neither (leb counts (a .count) || leb evCount (a .ev)) _ e .0) .0)
+pub fields-count : (evs : ℕ) (a : Ack) → badFields evs a ≡ false → a .count < counts
+fields-count evs a e =
+    leb-false counts (a .count) (neither (leb counts (a .count)) (leb evs (a .ev)) (neither (leb counts (a .count) || leb evs (a .ev)) _ e .0) .0)
 
--- When an ACK is accepted in a sound world: told by the clock and the ledger alone
-pub record Fine (time : ℕ) (a : Ack) (clock : ℕ) (l : Ledger) : Type 0 where
+-- When an ACK is accepted in a sound world: told by the number of EVs, the clock and the ledger alone
+pub record Fine (time : ℕ) (a : Ack) (evs clock : ℕ) (l : Ledger) : Type 0 where
   pub later : clock ≤ time
   pub early : time < timeEnd
-  pub fields : badFields a ≡ false
+  pub fields : badFields evs a ≡ false
   pub sent : unsentOrOld (l .flow .next) (a .cum) (a .map) ≡ false
   pub afloat : sinks (l .totals .«in_flight») (newlyOf (a .count) (l .flow .held)) ≡ false
 
 module _ (time : ℕ) (a : Ack) (w : World) where
-  pub accepted-fine : onAck time a w .number ≡ 0 → Fine time a (w .state .clock) (ledgerOf w)
+  pub accepted-fine : onAck time a w .number ≡ 0 → Fine time a (w .state .settings .«ev_count») (w .state .clock) (ledgerOf w)
   accepted-fine =
-      ack-cases (λ x. x .number ≡ 0 → Fine time a (w .state .clock) (ledgerOf w)) time a w
+      ack-cases (λ x. x .number ≡ 0 → Fine time a (w .state .settings .«ev_count») (w .state .clock) (ledgerOf w)) time a w
       (λ rows e.
       let t = time-facts time (w .state) _ rows in
       let k = none-here 21 _ _ (omega arith) (t .1) in
@@ -216,7 +216,7 @@ module _ (time : ℕ) (a : Ack) (w : World) where
       record { later = t .0 .later; early = t .0 .early; fields = rw (k .0, v .0, g .0); sent = s .0; afloat = s .1 })
       (λ n h e. absurd (h e))
 
-  module _ (f : Fine time a (w .state .clock) (ledgerOf w)) where
+  module _ (f : Fine time a (w .state .settings .«ev_count») (w .state .clock) (ledgerOf w)) where
     pub fine-rows : firstOf (ackAllRows time a (w .state)) ≡ 0
     fine-rows =
         sym (first-later 0 3 _ _ (ap₂ _||_ (le-ltb time (w .state .clock) (f .later)) (lt-leb timeEnd time (f .early)))
@@ -224,11 +224,11 @@ module _ (time : ℕ) (a : Ack) (w : World) where
         (first-later 0 23 _ _ (both-ok .1)
         (first-later 0 24 _ _ (ok .1) (ack-0 (w .state .flow) (w .state .totals .«in_flight») (a .cum) (a .map) (a .count) (f .sent) (f .afloat))))))
       where
-        ok : ((leb counts (a .count) || leb evCount (a .ev)) ≡ false) × (not (covered (a .cum) (a .map) (a .trigger)) ≡ false)
-        ok = neither (leb counts (a .count) || leb evCount (a .ev)) _ (f .fields)
+        ok : ((leb counts (a .count) || leb (w .state .settings .«ev_count») (a .ev)) ≡ false) × (not (covered (a .cum) (a .map) (a .trigger)) ≡ false)
+        ok = neither (leb counts (a .count) || leb (w .state .settings .«ev_count») (a .ev)) _ (f .fields)
 
-        both-ok : (leb counts (a .count) ≡ false) × (leb evCount (a .ev) ≡ false)
-        both-ok = neither (leb counts (a .count)) (leb evCount (a .ev)) (ok .0)
+        both-ok : (leb counts (a .count) ≡ false) × (leb (w .state .settings .«ev_count») (a .ev) ≡ false)
+        both-ok = neither (leb counts (a .count)) (leb (w .state .settings .«ev_count») (a .ev)) (ok .0)
 
     pub fine-accepted : Holds w → onAck time a w ≡ record { number = 0; after = ackStep time a w }
     unfolding onAck decided

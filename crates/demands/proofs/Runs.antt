@@ -123,3 +123,13 @@ step-clock (ack time a) w = refl
 step-clock (nack time a) w = refl
 step-clock (loss time a) w = refl
 step-clock (path time) w = refl
+
+-- no event changes the settings
+pub step-settings : (e : Event) (w : World) → stepOf e w .state .settings ≡ w .state .settings
+unfolding newDataStep newDataState sendStep ackStep nackStep lossStep pathStep pathState settled stateOf
+step-settings (newData time bytes) w = refl
+step-settings (send time a) w = refl
+step-settings (ack time a) w = refl
+step-settings (nack time a) w = refl
+step-settings (loss time a) w = refl
+step-settings (path time) w = refl

@@ -47,10 +47,10 @@ unfoldable pub agree : List Case → Bool
 agree [] = true
 agree (c ∷ cs) = same (c .got) (c .wanted) && agree cs
 
--- "settings E = 4096, 614400, 96, 72, 4096, 1024, 224, 819, 512, 96, 32768, 288, PSN 0"
+-- "settings E = 4096, 614400, 96, 72, 4096, 1024, 224, 819, 512, 96, 32768, 288, PSN 0", and 256 EVs
 unfoldable pub settingsE : Settings
 settingsE =
-    record { mtu = 4096; maxwnd = 614400; «config_base_rtt» = 96; «target_qdelay» = 72; fi = 4096; eta = 1024; alpha = 224; gamma = 819; «max_md_jump» = 512; «adjust_period» = 96; «adjust_bytes» = 32768; «qa_threshold» = 288; «first_psn» = 0; «quick_adapt_off» = false }
+    record { mtu = 4096; maxwnd = 614400; «config_base_rtt» = 96; «target_qdelay» = 72; fi = 4096; eta = 1024; alpha = 224; gamma = 819; «max_md_jump» = 512; «adjust_period» = 96; «adjust_bytes» = 32768; «qa_threshold» = 288; «first_psn» = 0; «quick_adapt_off» = false; «ev_count» = 256 }
 
 -- a fresh window of these settings (base is 96), but for cwnd, the average in 1/1,024 tick, and inc_bytes
 unfoldable pub windowOf : ℕ → ℕ → ℕ → Window

@@ -7,8 +7,8 @@ use sender::Phase;
 use window::Settings;
 use window::Window;
 
-// Settings E of document 01, in its order.
-pub const E: [u64; 12] = [
+// Settings E of document 01, in its order, and 256 EVs.
+pub const E: [u64; 13] = [
     4096,
     614400,
     96,
@@ -21,6 +21,7 @@ pub const E: [u64; 12] = [
     96,
     32768,
     288,
+    256,
 ];
 
 // A setting by its name, for `with_setting`: its place in document 01's order.
@@ -47,6 +48,8 @@ pub const ADJUST_PERIOD: usize = 9;
 pub const ADJUST_BYTES: usize = 10;
 
 pub const QA_THRESHOLD: usize = 11;
+
+pub const EV_COUNT: usize = 12;
 
 // A number of the window by its name, for `with_number`: its place among the fields, the two modes left out.
 pub const CWND: u32 = 0;
@@ -76,7 +79,7 @@ pub const LAST_DEC: u32 = 11;
 // The clock of the worlds here.
 pub const CLOCK: u64 = 1000;
 
-pub(crate) fn settings_of(n: [u64; 12]) -> Settings {
+pub(crate) fn settings_of(n: [u64; 13]) -> Settings {
     Settings {
         mtu: n[0],
         maxwnd: n[1],
@@ -92,13 +95,14 @@ pub(crate) fn settings_of(n: [u64; 12]) -> Settings {
         qa_threshold: n[11],
         first_psn: 0,
         quick_adapt_off: false,
+        ev_count: n[12],
     }
 }
 
 // Settings E with number k (from 0, in document 01's order) at a value.
 pub(crate) fn settings_with(k: usize, value: u64) -> Settings {
     let mut n = E;
-    if k < 12 {
+    if k < 13 {
         n[k] = value;
     }
     settings_of(n)
@@ -127,7 +131,7 @@ pub(crate) fn quiet_window(cwnd: u64, base: u64) -> Window {
 // The state that a refused setting up answers.
 pub(crate) fn no_state() -> Controller {
     Controller {
-        settings: settings_of([0; 12]),
+        settings: settings_of([0; 13]),
         flow: Flow {
             low: 0,
             next: 0,

@@ -67,6 +67,18 @@ pub(crate) fn settings() {
     ends(make::ADJUST_PERIOD, 1, 1048576);
     ends(make::ADJUST_BYTES, 1, 67108864);
     ends(make::QA_THRESHOLD, 0, 1048576);
+    counts();
+}
+
+// Numbers of EVs; 256 EV times are lent, so that 512 and 4,096 are refused for the length alone.
+fn counts() {
+    setting(make::EV_COUNT, 255);
+    setting(make::EV_COUNT, 256);
+    setting(make::EV_COUNT, 257);
+    setting(make::EV_COUNT, 512);
+    setting(make::EV_COUNT, 4096);
+    setting(make::EV_COUNT, 8192);
+    setting(make::EV_COUNT, u64::MAX);
 }
 
 // The first PSN may be any, and quick adapt off.

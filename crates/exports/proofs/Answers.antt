@@ -83,36 +83,36 @@ module _ (ws : List ℕ) (given : Unpacked) (given-is : given ≡ unpacked ws) w
 
 -- ---- setting up, by the tests in their order
 
-module _ (ns : List ℕ) (psn : ℕ) (off : Bool) (ws : List ℕ) (r : Ring) (t : List ℕ) where
-  pub few-settings : (length ns ≡ settingsCount → ⊥) → called 2 ws r t ≡ onSetUpWords ns psn off ws r t
+module _ (ns : List ℕ) (psn : ℕ) (off : Bool) (evs : ℕ) (ws : List ℕ) (r : Ring) (t : List ℕ) where
+  pub few-settings : (length ns ≡ settingsCount → ⊥) → called 2 ws r t ≡ onSetUpWords ns psn off evs ws r t
   unfolding onSetUpWords
   few-settings h = so-no _ _ _ _ (ne-eqb (length ns) settingsCount h) refl
 
   module _
-      (enough : length ns ≡ settingsCount) (g : Settings) (g-is : g ≡ settingsFrom ns psn off) (range : Bool) (range-is : range ≡ inRange g)
+      (enough : length ns ≡ settingsCount) (g : Settings) (g-is : g ≡ settingsFrom ns psn off evs) (range : Bool) (range-is : range ≡ inRange g)
     where
-      range-same : inRange (settingsFrom ns psn off) ≡ range
+      range-same : inRange (settingsFrom ns psn off evs) ≡ range
       range-same = sym (range-is ∙ ap inRange g-is)
 
-      pub out-of-range : not range ≡ true → called 1 ws r t ≡ onSetUpWords ns psn off ws r t
+      pub out-of-range : not range ≡ true → called 1 ws r t ≡ onSetUpWords ns psn off evs ws r t
       unfolding onSetUpWords
       out-of-range e = so-yes _ _ _ _ (eq-eqb (length ns) settingsCount enough) (so-no _ _ _ _ (range-same ∙ not-true range e) refl)
 
       module _ (in-range : not range ≡ false) where
         past-range :
-            (x : Called) → x ≡ ifSo (eqb (length ws) wordCount) (packed ws (onSetUp (settingsFrom ns psn off) r t)) (called 2 ws r t) →
-            x ≡ onSetUpWords ns psn off ws r t
+            (x : Called) → x ≡ ifSo (eqb (length ws) wordCount) (packed ws (onSetUp (settingsFrom ns psn off evs) r t)) (called 2 ws r t) →
+            x ≡ onSetUpWords ns psn off evs ws r t
         unfolding onSetUpWords
         past-range x e =
             so-yes _ _ _ _ (eq-eqb (length ns) settingsCount enough) (so-yes _ _ _ _ (range-same ∙ not-false range in-range) e)
 
-        pub wrong-words : (length ws ≡ wordCount → ⊥) → called 2 ws r t ≡ onSetUpWords ns psn off ws r t
+        pub wrong-words : (length ws ≡ wordCount → ⊥) → called 2 ws r t ≡ onSetUpWords ns psn off evs ws r t
         wrong-words h = past-range _ (so-no _ _ _ _ (ne-eqb (length ws) wordCount h) refl)
 
         pub set-up-on :
             length ws ≡ wordCount → (a : Answer) (s : Ring) (u : List ℕ) → answered (numberOf (a .outcome)) (a .state) s u ≡ onSetUp g r t →
             (n : ℕ) (xs : List ℕ) → (n ≡ numberOf (a .outcome)) × (xs ≡ wordsAfter n ws (a .state)) →
-            called n xs s u ≡ onSetUpWords ns psn off ws r t
+            called n xs s u ≡ onSetUpWords ns psn off evs ws r t
         set-up-on h a s u e n xs k =
             past-range _
             (so-yes _ _ _ _ (eq-eqb (length ws) wordCount h)

@@ -121,10 +121,10 @@ module _ (ws : List ℕ) (r : Ring) (t : List ℕ) where
     pub path-untouched : SparedBeside (onBesideWords ws r t (pathBeside time))
     path-untouched = refused-beside (pathBeside time) (path-word time) (λ w h. path-same time w h .0)
 
-  pub set-up-untouched : (ns : List ℕ) (psn : ℕ) (off : Bool) → Spared (onSetUpWords ns psn off ws r t)
+  pub set-up-untouched : (ns : List ℕ) (psn : ℕ) (off : Bool) (evs : ℕ) → Spared (onSetUpWords ns psn off evs ws r t)
   unfolding onSetUpWords
-  set-up-untouched ns psn off =
-      let g = settingsFrom ns psn off in
+  set-up-untouched ns psn off evs =
+      let g = settingsFrom ns psn off evs in
       let a = onSetUp g r t in
       so-both Spared _ _ _
       (λ _.

@@ -99,10 +99,10 @@ unfoldable pub onBesideWords : List ℕ → Ring → List ℕ → (World → Bes
 onBesideWords ws r t event = ifSo (wordsOk ws) (packedBeside ws (event (world (stateFrom ws) r t))) (called 2 ws r t)
 
 -- setting up: 1, then 2 on lengths. Settings that are not twelve numbers can't be read: 2
-unfoldable pub onSetUpWords : List ℕ → ℕ → Bool → List ℕ → Ring → List ℕ → Called
-onSetUpWords ns psn off ws r t =
+unfoldable pub onSetUpWords : List ℕ → ℕ → Bool → ℕ → List ℕ → Ring → List ℕ → Called
+onSetUpWords ns psn off evs ws r t =
     ifSo (eqb (length ns) settingsCount)
-    (ifSo (inRange (settingsFrom ns psn off))
-    (ifSo (eqb (length ws) wordCount) (packed ws (onSetUp (settingsFrom ns psn off) r t)) (called 2 ws r t))
+    (ifSo (inRange (settingsFrom ns psn off evs))
+    (ifSo (eqb (length ws) wordCount) (packed ws (onSetUp (settingsFrom ns psn off evs) r t)) (called 2 ws r t))
     (called 1 ws r t))
     (called 2 ws r t)

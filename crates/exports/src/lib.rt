@@ -1,4 +1,4 @@
-// The library for C: every event over lent words. Slices only: the state's 39 words (`words`), the ring's four slices, the EV times, a log's bytes.
+// The library for C: every event over lent words. Slices only: the state's 40 words (`words`), the ring's four slices, the EV times, a log's bytes.
 // A call is a replay's batch of one event (`replay::once`), so that the archive has the rules once, in the replay's loop.
 // No function has a `requires`; what no proof can see, that pointers and lengths are true and that nothing overlaps, is said in include/nscc.h.
 
@@ -62,12 +62,13 @@ fn take<'a, 'b, 'c, 'd, 'e, 'f>(
     word
 }
 
-// Setting up: the twelve settings, the first PSN, the flag that disables quick adapt.
+// Setting up: the twelve settings, the first PSN, the flag that disables quick adapt, the number of EVs.
 #[no_mangle]
 pub extern "C" fn nscc_set_up(
     settings: &[u64],
     first_psn: u32,
     quick_adapt_off: bool,
+    ev_count: u32,
     state: &mut [u64],
     status: &mut [u8],
     size: &mut [u32],
@@ -75,12 +76,12 @@ pub extern "C" fn nscc_set_up(
     resent: &mut [u8],
     evs: &mut [u64],
 ) -> u32
-    ensures { λ r. ⌜ called r (now (state .exit)) (ring (now (status .exit)) (now (size .exit)) (now (sent .exit)) (now (resent .exit))) (now (evs .exit)) ≡ onSetUpWords (now (settings .entry)) «first_psn» «quick_adapt_off» (now (state .entry)) (ring (now (status .entry)) (now (size .entry)) (now (sent .entry)) (now (resent .entry))) (now (evs .entry)) ⌝ }
+    ensures { λ r. ⌜ called r (now (state .exit)) (ring (now (status .exit)) (now (size .exit)) (now (sent .exit)) (now (resent .exit))) (now (evs .exit)) ≡ onSetUpWords (now (settings .entry)) «first_psn» «quick_adapt_off» «ev_count» (now (state .entry)) (ring (now (status .entry)) (now (size .entry)) (now (sent .entry)) (now (resent .entry))) (now (evs .entry)) ⌝ }
 {
     if settings.len() != words::SETTINGS {
         return UNSOUND;
     }
-    let given = words::settings_of(settings, first_psn, quick_adapt_off);
+    let given = words::settings_of(settings, first_psn, quick_adapt_off, ev_count as u64);
     if !window::bounds::in_range(given) {
         return SETTING;
     }

@@ -1,5 +1,6 @@
 // Every entry point on lent slices of any lengths.
 use crate::make;
+use crate::make::Evs;
 use sender::Ack;
 use sender::Answer;
 use sender::Controller;
@@ -10,7 +11,7 @@ use sender::Routed;
 use sender::Send;
 use window::Settings;
 
-// An entry point; the events are calls on the empty ledger that no row but 2 or 10 refuses.
+// An entry point; the events are calls on the empty ledger that no row but 2, 10 or, by its EV, 23 refuses.
 pub enum Call {
     SetUp(Settings),
     NewData,
@@ -64,23 +65,23 @@ fn a_send() -> Send {
 }
 
 // An ACK of the packet before low, with the held count: nothing new.
-fn an_ack() -> Ack {
+fn an_ack(ev: u32) -> Ack {
     Ack {
         cum: 4,
         map: 0,
         trigger: 4,
         count: 7,
         service: 0,
-        ev: 0,
+        ev,
         marked: false,
         retx: false,
     }
 }
 
-fn a_nack() -> Nack {
+fn a_nack(ev: u32) -> Nack {
     Nack {
         psn: 5,
-        ev: 0,
+        ev,
         reason: 2,
         marked: false,
         retx: false,
@@ -90,6 +91,7 @@ fn a_nack() -> Nack {
 // The calls that only read what is lent.
 fn reading<'a>(
     call: Call,
+    e: Evs,
     status: &'a [u8],
     size: &'a [u32],
     sent: &'a [u64],
@@ -97,7 +99,7 @@ fn reading<'a>(
     evs: &'a [u64],
 ) -> Got {
     let time = make::CLOCK;
-    let before = make::empty();
+    let before = make::empty(e);
     match call {
         Call::NewData => of_answer(before.new_data(status, size, sent, resent, evs, time, 1)),
         _ => of_routed(before.path(status, size, sent, resent, evs, time)),
@@ -107,6 +109,7 @@ fn reading<'a>(
 // Those that change marks and EV times, and those that only read.
 fn marking<'a, 'b, 'c>(
     call: Call,
+    e: Evs,
     status: &'a mut [u8],
     size: &'b [u32],
     sent: &'b [u64],
@@ -114,9 +117,9 @@ fn marking<'a, 'b, 'c>(
     evs: &'c mut [u64],
 ) -> Got {
     let time = make::CLOCK;
-    let before = make::empty();
+    let before = make::empty(e);
     match call {
-        Call::Nack => of_heard(before.nack(status, size, sent, resent, evs, time, a_nack())),
+        Call::Nack => of_heard(before.nack(status, size, sent, resent, evs, time, a_nack(e.ev))),
         Call::Loss => of_answer(before.loss(
             status,
             size,
@@ -124,15 +127,16 @@ fn marking<'a, 'b, 'c>(
             resent,
             evs,
             time,
-            Loss { psn: 5, ev: 0 },
+            Loss { psn: 5, ev: e.ev },
         )),
-        _ => reading(call, status, size, sent, resent, evs),
+        _ => reading(call, e, status, size, sent, resent, evs),
     }
 }
 
 // All of them.
 pub(crate) fn answered<'a, 'b, 'c, 'd, 'e>(
     call: Call,
+    e: Evs,
     status: &'a mut [u8],
     size: &'b mut [u32],
     sent: &'c mut [u64],
@@ -140,19 +144,19 @@ pub(crate) fn answered<'a, 'b, 'c, 'd, 'e>(
     evs: &'e mut [u64],
 ) -> Got {
     let time = make::CLOCK;
-    let before = make::empty();
+    let before = make::empty(e);
     match call {
         Call::SetUp(s) => of_answer(sender::start::set_up(s, status, size, sent, resent, evs)),
         Call::Send => of_answer(before.send(status, size, sent, resent, evs, time, a_send())),
-        Call::Ack => of_heard(before.ack(status, size, sent, resent, evs, time, an_ack())),
-        _ => marking(call, status, size, sent, resent, evs),
+        Call::Ack => of_heard(before.ack(status, size, sent, resent, evs, time, an_ack(e.ev))),
+        _ => marking(call, e, status, size, sent, resent, evs),
     }
 }
 
 // The state that a call must answer: where an event is accepted any will do.
-pub(crate) fn wanted(call: Call, number: u32) -> Controller {
+pub(crate) fn wanted(call: Call, e: Evs, number: u32) -> Controller {
     let Call::SetUp(settings) = call else {
-        return make::empty();
+        return make::empty(e);
     };
     if number == 0 {
         return make::fresh(settings);

@@ -1,14 +1,24 @@
 // Refusal 2 on lengths: each slice too short, too long, or no power of two, to setting up and to every event.
 use crate::calls::Call;
 use crate::make;
+use crate::make::Evs;
 use crate::room;
 use crate::room::Lengths;
 use crate::say;
 use window::Settings;
 
+// 256 EVs, as where nothing else is said.
+fn plain() -> Evs {
+    some_evs(256, 0, 0)
+}
+
+fn some_evs(count: u64, cursor: u32, ev: u32) -> Evs {
+    Evs { count, cursor, ev }
+}
+
 // Memory that held sevens is cleared, or where setting up is refused left alone.
 fn set_up(label: &[u8], settings: Settings, k: Lengths) {
-    let v = room::lend(Call::SetUp(settings), 7, k);
+    let v = room::lend(Call::SetUp(settings), plain(), 7, k);
     say::text(label);
     say::text(b":");
     say::also(v.number);
@@ -21,28 +31,37 @@ fn set_up(label: &[u8], settings: Settings, k: Lengths) {
 }
 
 // The ring is empty: zeros.
-fn event(call: Call, k: Lengths) {
-    let v = room::lend(call, 0, k);
+fn event(call: Call, e: Evs, k: Lengths) {
+    let v = room::lend(call, e, 0, k);
     say::also(v.number);
     if v.number != 0 {
         say::verdict(v.as_wanted);
     }
 }
 
-// Setting up, and every event: two lines.
-fn both(label: &[u8], k: Lengths) {
-    say::text(b"2 set up ");
-    set_up(label, make::settings(4096), k);
-    say::text(b"2 lengths ");
+// Every event, to the end of the line.
+fn events(label: &[u8], e: Evs, k: Lengths) {
     say::text(label);
     say::text(b":");
-    event(Call::NewData, k);
-    event(Call::Send, k);
-    event(Call::Ack, k);
-    event(Call::Nack, k);
-    event(Call::Loss, k);
-    event(Call::Path, k);
+    event(Call::NewData, e, k);
+    event(Call::Send, e, k);
+    event(Call::Ack, e, k);
+    event(Call::Nack, e, k);
+    event(Call::Loss, e, k);
+    event(Call::Path, e, k);
     say::text(b"\n");
+}
+
+// Setting up with a number of EVs, and every event: two lines.
+fn counted(label: &[u8], count: u64, k: Lengths) {
+    say::text(b"2 set up ");
+    set_up(label, make::settings(4096, count), k);
+    say::text(b"2 lengths ");
+    events(label, some_evs(count, 0, 0), k);
+}
+
+fn both(label: &[u8], k: Lengths) {
+    counted(label, 256, k);
 }
 
 // A capacity for all four, and a number of EV times.
@@ -99,9 +118,45 @@ fn differing() {
     uneven(b"resent longer", 64, 64, 64, 65);
 }
 
+// Numbers of EVs: one that is not allowed is refusal 1 of setting up, whatever is lent; of one that is allowed exactly so many times must be lent.
+fn counts() {
+    counted(b"255 EVs, 255 times", 255, even(64, 255));
+    counted(b"256 EVs, 256 times", 256, even(64, 256));
+    counted(b"257 EVs, 257 times", 257, even(64, 257));
+    counted(b"512 EVs, 256 times", 512, even(64, 256));
+    counted(b"512 EVs, 511 times", 512, even(64, 511));
+    counted(b"512 EVs, 512 times", 512, even(64, 512));
+    counted(b"512 EVs, 513 times", 512, even(64, 513));
+    counted(b"4096 EVs, 4095 times", 4096, even(64, 4095));
+    counted(b"4096 EVs, 4096 times", 4096, even(64, 4096));
+    counted(b"4096 EVs, 4097 times", 4096, even(64, 4097));
+    counted(b"8192 EVs, 8192 times", 8192, even(64, 8192));
+}
+
+// Feedback's EV and the cursor, at the chosen number.
+fn chosen() {
+    events(b"23 EV 511 of 512", some_evs(512, 0, 511), even(64, 512));
+    events(b"23 EV 512 of 512", some_evs(512, 0, 512), even(64, 512));
+    events(
+        b"23 EV 4095 of 4096",
+        some_evs(4096, 0, 4095),
+        even(64, 4096),
+    );
+    events(
+        b"23 EV 4096 of 4096",
+        some_evs(4096, 0, 4096),
+        even(64, 4096),
+    );
+    events(b"2 cursor 511 of 512", some_evs(512, 511, 0), even(64, 512));
+    events(b"2 cursor 512 of 512", some_evs(512, 512, 0), even(64, 512));
+}
+
 // Refusal 1 comes before 2: an MTU of 1023, and lengths that are refused.
 pub(crate) fn run() {
     capacities();
     differing();
-    set_up(b"order 1 2", make::settings(1023), even(63, 255));
+    counts();
+    chosen();
+    set_up(b"order 1 2", make::settings(1023, 256), even(63, 255));
+    set_up(b"order 1 2 EVs", make::settings(4096, 8192), even(63, 255));
 }

@@ -9,8 +9,15 @@ use window::Window;
 // The clock of the empty ledger.
 pub const CLOCK: u64 = 1000;
 
-// Settings E of document 01, with an MTU.
-pub(crate) fn settings(mtu: u64) -> Settings {
+// What a case says of EVs: how many the settings have, where the cursor stands, and the EV of feedback.
+pub struct Evs {
+    pub count: u64,
+    pub cursor: u32,
+    pub ev: u32,
+}
+
+// Settings E of document 01, with an MTU and a number of EVs.
+pub(crate) fn settings(mtu: u64, ev_count: u64) -> Settings {
     Settings {
         mtu,
         maxwnd: 614400,
@@ -26,6 +33,7 @@ pub(crate) fn settings(mtu: u64) -> Settings {
         qa_threshold: 288,
         first_psn: 0,
         quick_adapt_off: false,
+        ev_count,
     }
 }
 
@@ -45,6 +53,7 @@ fn no_settings() -> Settings {
         qa_threshold: 0,
         first_psn: 0,
         quick_adapt_off: false,
+        ev_count: 0,
     }
 }
 
@@ -69,7 +78,7 @@ fn quiet_window(cwnd: u64, base: u64) -> Window {
 }
 
 // No packet flying or marked, and the window that settings start with.
-fn quiet(settings: Settings, flow: Flow, clock: u64, phase: Phase) -> Controller {
+fn quiet(settings: Settings, flow: Flow, clock: u64, cursor: u32, phase: Phase) -> Controller {
     let window = quiet_window(settings.maxwnd, settings.config_base_rtt);
     Controller {
         settings,
@@ -82,7 +91,7 @@ fn quiet(settings: Settings, flow: Flow, clock: u64, phase: Phase) -> Controller
         },
         window,
         clock,
-        cursor: 0,
+        cursor,
         phase,
     }
 }
@@ -95,7 +104,7 @@ pub(crate) fn fresh(settings: Settings) -> Controller {
         held: 0,
         backlog: 0,
     };
-    quiet(settings, flow, 0, Phase::Idle)
+    quiet(settings, flow, 0, 0, Phase::Idle)
 }
 
 // The state that a refused setting up answers.
@@ -104,12 +113,12 @@ pub(crate) fn no_state() -> Controller {
 }
 
 // An empty ledger at PSN 5 with a backlog, named READY; its ring is zeros of whatever length is lent.
-pub(crate) fn empty() -> Controller {
+pub(crate) fn empty(e: Evs) -> Controller {
     let flow = Flow {
         low: 5,
         next: 5,
         held: 7,
         backlog: 8192,
     };
-    quiet(settings(4096), flow, CLOCK, Phase::Ready)
+    quiet(settings(4096, e.count), flow, CLOCK, e.cursor, Phase::Ready)
 }

@@ -2,6 +2,7 @@
 use crate::calls;
 use crate::calls::Call;
 use crate::calls::Got;
+use crate::make::Evs;
 use crate::same;
 ghost use Prim.Native.Nat.{_≤_};
 
@@ -35,6 +36,7 @@ fn fill_after(number: u32, fill: u8) -> u8 {
 // What became of memory that held one number.
 fn verdict_of<'a>(
     call: Call,
+    e: Evs,
     fill: u8,
     got: Got,
     status: &'a [u8],
@@ -47,13 +49,14 @@ fn verdict_of<'a>(
     let left = fill_after(number, fill);
     Verdict {
         number,
-        as_wanted: same::same_state(got.state, calls::wanted(call, number))
+        as_wanted: same::same_state(got.state, calls::wanted(call, e, number))
             & same::all(status, size, sent, resent, evs, left),
     }
 }
 
 fn judged<'a, 'b, 'c, 'd, 'e>(
     call: Call,
+    e: Evs,
     fill: u8,
     status: &'a mut [u8],
     size: &'b mut [u32],
@@ -61,12 +64,12 @@ fn judged<'a, 'b, 'c, 'd, 'e>(
     resent: &'d mut [u8],
     evs: &'e mut [u64],
 ) -> Verdict {
-    let got = calls::answered(call, status, size, sent, resent, evs);
-    verdict_of(call, fill, got, status, size, sent, resent, evs)
+    let got = calls::answered(call, e, status, size, sent, resent, evs);
+    verdict_of(call, e, fill, got, status, size, sent, resent, evs)
 }
 
 // A call on fresh memory of these lengths.
-pub(crate) fn lend(call: Call, fill: u8, k: Lengths) -> Verdict {
+pub(crate) fn lend(call: Call, evs_of: Evs, fill: u8, k: Lengths) -> Verdict {
     let a = cut(k.status);
     let b = cut(k.size);
     let c = cut(k.sent);
@@ -79,6 +82,7 @@ pub(crate) fn lend(call: Call, fill: u8, k: Lengths) -> Verdict {
     let mut evs = [fill as u64; 8192];
     judged(
         call,
+        evs_of,
         fill,
         &mut status[0..a],
         &mut size[0..b],

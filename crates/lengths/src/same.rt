@@ -6,8 +6,8 @@ pub(crate) fn same_state(a: Controller, b: Controller) -> bool {
     same_words(words::pack(a), words::pack(b))
 }
 
-fn same_words(a: [u64; 39], b: [u64; 39]) -> bool {
-    for k in 0..39 {
+fn same_words(a: [u64; 40], b: [u64; 40]) -> bool {
+    for k in 0..40 {
         if a[k] != b[k] {
             return false;
         }

@@ -1,5 +1,6 @@
 -- The laws that the proofs of `player` share.
 pub mod Moving
+pub mod Opened
 pub mod Playing
 pub mod Reading
 pub mod Standing

@@ -9,7 +9,7 @@ use lib.Seq.{ext-getD, getD-take, getD-drop}
 use native.Mathlib.Omega.{arith}
 use Rattle.decide.specs.Branch.{ifLt, ifEq, so-yes, so-both, lt-yes, lt-no, lt-both}
 use Rattle.little.specs.Little.{littleEndian, numberAt}
-use Rattle.eventlog.specs.Layout.{Row, Maker, newData, send, ack, nack, loss, path, settings, table, key, keyOf, lookUp, readFields, read}
+use Rattle.eventlog.specs.Layout.{Row, Maker, newData, send, ack, nack, loss, path, settings, settingsEvs, table, key, keyOf, lookUp, readFields, read}
 use Rattle.eventlog.specs.Parse.{lenAt, kindAt, properOf, checked, wholeOf, frontOf, parseAt}
 use Rattle.eventlog.specs.declared.Record.{Record}
 use Rattle.eventlog.specs.declared.Record.the-variants.{Ack}
@@ -44,7 +44,7 @@ module _ (bs cs : List ℕ) (long : length bs ≡ length cs) where
       getD-take width (drop at bs) i 0 near
       ∙ (getD-drop at bs i 0 ∙ (same (at + i) (omega arith) (omega arith) ∙ sym (getD-take width (drop at cs) i 0 near ∙ getD-drop at cs i 0)))))
 
-  fields-alike : (ws : List ℕ) (make : Maker ws) (at : ℕ) → Alike bs cs at (at + total ws) → readFields ws make bs at ≡ readFields ws make cs at
+  fields-alike : (ws : List ℕ) (make : Maker Record ws) (at : ℕ) → Alike bs cs at (at + total ws) → readFields ws make bs at ≡ readFields ws make cs at
   fields-alike [] make at same = refl
   fields-alike (w ∷ ws) make at same =
       ap (λ (n : ℕ). readFields ws (make n) bs (at + w)) (number-alike at w (λ i from past. same i from (omega arith)))
@@ -92,7 +92,7 @@ module _ (at : ℕ) (bs : List ℕ) (x : Row) (r : Record) (next : ℕ) where
 
 -- the fields of each row end where its length says
 ends : Each (λ x. headSize + total (x .fields) ≤ x .len + 2) table
-ends = (omega arith, (omega arith, (omega arith, (omega arith, (omega arith, (omega arith, (omega arith, tt)))))))
+ends = (omega arith, (omega arith, (omega arith, (omega arith, (omega arith, (omega arith, (omega arith, (omega arith, tt))))))))
 
 module _ (at : ℕ) (bs cs : List ℕ) (long : length bs ≡ length cs) (r : Record) (next : ℕ) (same : Alike bs cs headSize (next - at)) where
   row-alike : (x : Row) → headSize + total (x .fields) ≤ x .len + 2 → wholeOf at bs x ≡ Whole r next → wholeOf at cs x ≡ Whole r next
@@ -145,7 +145,7 @@ module _ (at : ℕ) (bs : List ℕ) (time cum map trigger count service ev flags
           (λ _. not-acked send (λ e. cc)),
           (
             (λ is e. (is, told at bs ack heard next e)),
-            ((λ _. not-acked nack (λ e. cc)), ((λ _. not-acked loss (λ e. cc)), ((λ _. not-acked path (λ e. cc)), ((λ _. not-acked settings (λ e. cc)), tt)))),
+            ((λ _. not-acked nack (λ e. cc)), ((λ _. not-acked loss (λ e. cc)), ((λ _. not-acked path (λ e. cc)), ((λ _. not-acked settings (λ e. cc)), ((λ _. not-acked settingsEvs (λ e. cc)), tt))))),
           ),
         ),
       )

@@ -201,6 +201,7 @@ module _ (log other : List ℕ) (long : length log ≡ length other) where
     match-whole (rec.Loss time psn ev) next q = match-other _ next q refl
     match-whole (rec.Path time) next q = match-other _ next q refl
     match-whole (rec.SetUp s) next q = match-other _ next q refl
+    match-whole (rec.SetUpEvs s evs) next q = match-other _ next q refl
 
     match-refused : foundAt (logged log) (p .at) ≡ found.Malformed → Match p w
     unfolding ackStands onFound placeAfter ifEq

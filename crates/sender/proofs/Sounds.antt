@@ -19,7 +19,7 @@ use Rattle.window.specs.Range.{inRange, InRange}
 use Rattle.window.specs.Held.{isHeld, Held}
 use Rattle.window.specs.declared.Settings.{Settings}
 use Rattle.window.specs.declared.Window.{Window}
-use Rattle.window.proofs.Tests.{range-facts, range-test, held-facts, held-test}
+use Rattle.window.proofs.Tests.{ev-count-bounds, range-facts, range-test, held-facts, held-test}
 use Rattle.window.proofs.Ceilings.{ceiling-high}
 use Rattle.paths.specs.Path.{Early}
 use Rattle.ledger.specs.Ring.{Ring, Ledger, ledger}
@@ -28,7 +28,7 @@ use Rattle.ledger.specs.declared.Flow.{Flow}
 use Rattle.ledger.specs.declared.Totals.{Totals}
 use Rattle.ledger.proofs.Signs.{coheres-flown}
 use Rattle.ledger.proofs.Facts.{coherent-coheres, coheres-facts}
-use Rattle.sender.specs.Limits.{timeEnd, evCount}
+use Rattle.sender.specs.Limits.{timeEnd}
 use Rattle.sender.specs.World.{World, world, ledgerOf}
 use Rattle.sender.specs.Named.{phaseOf, phaseNumber}
 use Rattle.sender.specs.Sound.{timesOk, namedOk, sound}
@@ -127,9 +127,9 @@ pub record SoundFacts (w : World) : Type 0 where
   pub held : Held (w .state .settings) (w .state .clock) (w .state .window)
   pub coheres : coherent (w .state .settings .mtu) (w .state .settings .maxwnd) (w .state .clock) (ledgerOf w) ≡ true
   pub clock-ok : w .state .clock < timeEnd
-  pub times-long : length (w .times) ≡ evCount
+  pub times-long : length (w .times) ≡ w .state .settings .«ev_count»
   pub times-ok : timesOk (w .times) ≡ true
-  pub cursor-ok : w .state .cursor < evCount
+  pub cursor-ok : w .state .cursor < w .state .settings .«ev_count»
   pub named : w .state .phase ≡ phaseOf (w .state .settings .mtu) (w .state .window .cwnd) (w .state .flow) (w .state .totals)
 
 pub name-facts : (c : Controller) → namedOk c ≡ true → c .phase ≡ phaseOf (c .settings .mtu) (c .window .cwnd) (c .flow) (c .totals)
@@ -145,9 +145,9 @@ unfolding sound
 sound-facts w e =
     let c = w .state in
     let name = both _ (namedOk c) e in
-    let cursor = both _ (ltb (c .cursor) evCount) (name .0) in
+    let cursor = both _ (ltb (c .cursor) (c .settings .«ev_count»)) (name .0) in
     let times = both _ (timesOk (w .times)) (cursor .0) in
-    let long = both _ (eqb (length (w .times)) evCount) (times .0) in
+    let long = both _ (eqb (length (w .times)) (c .settings .«ev_count»)) (times .0) in
     let clock = both _ (ltb (c .clock) timeEnd) (long .0) in
     let ledger = both _ (coherent (c .settings .mtu) (c .settings .maxwnd) (c .clock) (ledgerOf w)) (clock .0) in
     let first = both (inRange (c .settings)) (isHeld (c .settings) (c .clock) (c .window)) (ledger .0) in
@@ -156,9 +156,9 @@ sound-facts w e =
       held = held-facts (c .settings) (c .clock) (c .window) (first .1);
       coheres = ledger .1;
       clock-ok = ltb-true (c .clock) timeEnd (clock .1);
-      times-long = eqb-true (length (w .times)) evCount (long .1);
+      times-long = eqb-true (length (w .times)) (c .settings .«ev_count») (long .1);
       times-ok = times .1;
-      cursor-ok = ltb-true (c .cursor) evCount (cursor .1);
+      cursor-ok = ltb-true (c .cursor) (c .settings .«ev_count») (cursor .1);
       named = name-facts c (name .1);
     }
 
@@ -175,9 +175,9 @@ facts-sound w S =
     (whole (range-test (c .settings) (S .range)) (held-test (c .settings) (c .clock) (c .window) (S .held)))
     (S .coheres))
     (lt-ltb (c .clock) timeEnd (S .clock-ok)))
-    (eq-eqb (length (w .times)) evCount (S .times-long)))
+    (eq-eqb (length (w .times)) (c .settings .«ev_count») (S .times-long)))
     (S .times-ok))
-    (lt-ltb (c .cursor) evCount (S .cursor-ok)))
+    (lt-ltb (c .cursor) (c .settings .«ev_count») (S .cursor-ok)))
     (name-test c (S .named))
 
 -- ---- what judging and stepping rely on
@@ -196,6 +196,7 @@ module _ (w : World) (R : InRange (w .state .settings))
         flown = coheres-flown parts-coheres;
         backlog-high = coheres-facts parts-coheres .backlog;
         mtu-high = omega (arith, R .mtu-high);
+        evs-high = ev-count-bounds (w .state .settings .«ev_count») (R .evs-allowed) .1;
         cwnd-high = omega (arith, H .cwnd-high, ceiling-high R (w .state .window .base) (H .base-high), R .maxwnd-high);
       }
 
@@ -236,7 +237,7 @@ module _ (w : World) (range : Bool) (range-is : range ≡ inRange (w .state .set
         pub tests-left :
             (ok : Bool) (m n : ℕ) (name : Phase) → ok ≡ timesOk (w .times) → m ≡ phaseNumber (w .state .phase) → n ≡ phaseNumber name →
             name ≡ phaseOf (w .state .settings .mtu) (w .state .window .cwnd) (w .state .flow) (w .state .totals) →
-            (ltb (w .state .clock) timeEnd && eqb (length (w .times)) evCount && ok && ltb (w .state .cursor) evCount && eqb m n) ≡ sound w
+            (ltb (w .state .clock) timeEnd && eqb (length (w .times)) (w .state .settings .«ev_count») && ok && ltb (w .state .cursor) (w .state .settings .«ev_count») && eqb m n) ≡ sound w
         unfolding sound namedOk
         tests-left ok m n name t p q is =
             rw (sym range-is ∙ not-false range r, sym held-is ∙ not-false held h, sym books-is ∙ not-false books l, t, p, q, is)
@@ -247,7 +248,7 @@ module _ (w : World) (range : Bool) (range-is : range ≡ inRange (w .state .set
 pub stated-sound :
     (s : Settings) (f : Flow) (t : Totals) (v : Window) (time cursor : ℕ) (r : Ring) (times : List ℕ) →
     InRange s → Held s time v → coherent (s .mtu) (s .maxwnd) time (ledger f t r) ≡ true → time < timeEnd →
-    length times ≡ evCount → timesOk times ≡ true → cursor < evCount → sound (world (stateOf s f t v time cursor) r times) ≡ true
+    length times ≡ s .«ev_count» → timesOk times ≡ true → cursor < s .«ev_count» → sound (world (stateOf s f t v time cursor) r times) ≡ true
 unfolding stateOf
 stated-sound s f t v time cursor r times range held coheres clock long ok at =
     facts-sound (world (stateOf s f t v time cursor) r times)
@@ -265,6 +266,6 @@ stated-sound s f t v time cursor r times range held coheres clock long ok at =
 pub settled-sound :
     (time : ℕ) (c : Controller) (l : Ledger) (v : Window) (times : List ℕ) →
     InRange (c .settings) → Held (c .settings) time v → coherent (c .settings .mtu) (c .settings .maxwnd) time l ≡ true → time < timeEnd →
-    length times ≡ evCount → timesOk times ≡ true → c .cursor < evCount → sound (settled time c l v times) ≡ true
+    length times ≡ c .settings .«ev_count» → timesOk times ≡ true → c .cursor < c .settings .«ev_count» → sound (settled time c l v times) ≡ true
 unfolding settled
 settled-sound time c l v times = stated-sound (c .settings) (l .flow) (l .totals) v time (c .cursor) (l .slots) times

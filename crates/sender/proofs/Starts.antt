@@ -19,13 +19,12 @@ use Rattle.serial.proofs.Wraps.{minus-self}
 use Rattle.window.specs.Range.{inRange}
 use Rattle.window.specs.Held.{freshOf}
 use Rattle.window.specs.declared.Settings.{Settings}
-use Rattle.window.proofs.Tests.{range-facts, fresh-held}
+use Rattle.window.proofs.Tests.{ev-count-bounds, range-facts, fresh-held}
 use Rattle.ledger.specs.Packets.{none, sumOf}
 use Rattle.ledger.specs.Ring.{Ring, ring, ledger, capOf, packetAt, queueOf, tabulate, laid, longOf}
 use Rattle.ledger.specs.Coherent.{isCapacity, isRing, coherent, Even}
 use Rattle.ledger.proofs.Geometry.{cap-facts, laid-queue}
 use Rattle.ledger.proofs.Facts.{ring-even, stands-laid, packets-laid, tallies-test, coherent-whole}
-use Rattle.sender.specs.Limits.{evCount}
 use Rattle.sender.specs.World.{world, Answered, answered}
 use Rattle.sender.specs.Named.{phaseOf}
 use Rattle.sender.specs.Sound.{timesOk, sound}
@@ -129,40 +128,40 @@ module _ (s : Settings) (r : Ring) (times : List ℕ) where
   fresh-named = sym (so-yes _ _ _ _ refl (eq-yes _ _ _ _ _ refl refl))
 
   -- the fresh state with a cleared ring and cleared EV times holds together
-  pub fresh-sound : inRange s ≡ true → (isRing r && eqb (length times) evCount) ≡ true → sound (world (freshState s) (clearRing r) (zeros times)) ≡ true
+  pub fresh-sound : inRange s ≡ true → (isRing r && eqb (length times) (s .«ev_count»)) ≡ true → sound (world (freshState s) (clearRing r) (zeros times)) ≡ true
   unfolding freshState
   fresh-sound range lengths =
       let R = range-facts s range in
-      let p = both (isRing r) (eqb (length times) evCount) lengths in
+      let p = both (isRing r) (eqb (length times) (s .«ev_count»)) lengths in
       facts-sound (world (freshState s) (clearRing r) (zeros times))
       (record {
         range = R;
         held = fresh-held R;
         coheres = fresh-coherent (s .mtu) (s .maxwnd) (s .«first_psn») r (p .0);
         clock-ok = omega arith;
-        times-long = length-replicate {A = ℕ} (length times) 0 ∙ eqb-true (length times) evCount (p .1);
+        times-long = length-replicate {A = ℕ} (length times) 0 ∙ eqb-true (length times) (s .«ev_count») (p .1);
         times-ok = times-zero (length times);
-        cursor-ok = omega arith;
+        cursor-ok = omega (arith, ev-count-bounds (s .«ev_count») (R .evs-allowed));
         named = sym fresh-named;
       })
 
   -- an accepted setting up: the settings are in range, the lengths are good, and the world after is the fresh one
   pub set-up-fresh :
       onSetUp s r times .number ≡ 0 →
-      (inRange s ≡ true) × ((isRing r && eqb (length times) evCount) ≡ true)
+      (inRange s ≡ true) × ((isRing r && eqb (length times) (s .«ev_count»)) ≡ true)
       × (onSetUp s r times .after ≡ world (freshState s) (clearRing r) (zeros times))
   unfolding onSetUp
   set-up-fresh =
       eq-both
       (λ (a : Answered).
       a .number ≡ 0 →
-      (inRange s ≡ true) × ((isRing r && eqb (length times) evCount) ≡ true)
+      (inRange s ≡ true) × ((isRing r && eqb (length times) (s .«ev_count»)) ≡ true)
       × (a .after ≡ world (freshState s) (clearRing r) (zeros times)))
       (firstOf (setUpRows s r times)) 0 _ _
       (λ e _.
       let p = none-here 1 (not (inRange s)) _ (omega arith) e in
-      let q = none-here 2 (not (isRing r && eqb (length times) evCount)) _ (omega arith) (p .1) in
-      (not-false (inRange s) (p .0), not-false (isRing r && eqb (length times) evCount) (q .0), refl))
+      let q = none-here 2 (not (isRing r && eqb (length times) (s .«ev_count»))) _ (omega arith) (p .1) in
+      (not-false (inRange s) (p .0), not-false (isRing r && eqb (length times) (s .«ev_count»)) (q .0), refl))
       (λ e n. absurd (e n))
 
   -- AN ACCEPTED SETTING UP leaves a sound world
@@ -181,17 +180,17 @@ module _ (s : Settings) (r : Ring) (times : List ℕ) where
       refused-range k e = refused-so (k ∙ first-here 1 1 (not (inRange s)) _ (ap not (sym range-is) ∙ e) refl) (omega (arith, k))
 
       pub refused-lengths :
-          n ≡ 2 → not range ≡ false → (even : Bool) → even ≡ isRing r → not (even && eqb (length times) evCount) ≡ true →
+          n ≡ 2 → not range ≡ false → (even : Bool) → even ≡ isRing r → not (even && eqb (length times) (s .«ev_count»)) ≡ true →
           answered n c r times ≡ onSetUp s r times
       refused-lengths k e even even-is f =
           refused-so
           (k
           ∙ first-later 2 1 (not (inRange s)) _ (ap not (sym range-is) ∙ e)
-          (first-here 2 2 (not (isRing r && eqb (length times) evCount)) _ (rw (← even-is) f) refl))
+          (first-here 2 2 (not (isRing r && eqb (length times) (s .«ev_count»))) _ (rw (← even-is) f) refl))
           (omega (arith, k))
 
     pub accepted-so :
-        not range ≡ false → (even : Bool) → even ≡ isRing r → not (even && eqb (length times) evCount) ≡ false →
+        not range ≡ false → (even : Bool) → even ≡ isRing r → not (even && eqb (length times) (s .«ev_count»)) ≡ false →
         (c : Controller) (slots : Ring) (evs : List ℕ) → c ≡ freshState s → slots ≡ clearRing r → evs ≡ zeros times →
         answered 0 c slots evs ≡ onSetUp s r times
     unfolding onSetUp
@@ -199,5 +198,5 @@ module _ (s : Settings) (r : Ring) (times : List ℕ) where
         eq-yes (firstOf (setUpRows s r times)) 0 _ _ _
         (sym
         (first-later 0 1 (not (inRange s)) _ (ap not (sym range-is) ∙ e)
-        (first-later 0 2 (not (isRing r && eqb (length times) evCount)) _ (rw (← even-is) f) first-none)))
+        (first-later 0 2 (not (isRing r && eqb (length times) (s .«ev_count»))) _ (rw (← even-is) f) first-none)))
         (rw (a, b, d))

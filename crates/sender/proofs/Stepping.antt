@@ -47,7 +47,7 @@ use Rattle.ledger.proofs.Judging.{resend-facts, mark-facts}
 use Rattle.ledger.proofs.Sends.{supply-keeps, new-room, push-keeps, resend-keeps, flies}
 use Rattle.ledger.proofs.Marks.{mark-keeps}
 use Rattle.ledger.proofs.Acked.{ack-keeps}
-use Rattle.sender.specs.Limits.{timeEnd, evCount, reasonMost}
+use Rattle.sender.specs.Limits.{timeEnd, reasonMost}
 use Rattle.sender.specs.World.{World, world, ledgerOf}
 use Rattle.sender.specs.Named.{hasRoom}
 use Rattle.sender.specs.Rows.{timeRow, newDataRows, sendAllRows, ackAllRows, nackAllRows, lossAllRows}
@@ -109,7 +109,7 @@ send-facts time a c r e =
 pub record Ackable (time : ℕ) (a : Ack) (c : Controller) : Type 0 where
   pub timely : Timely time c
   pub count-ok : a .count < counts
-  pub ev-ok : a .ev < evCount
+  pub ev-ok : a .ev < c .settings .«ev_count»
   pub rows : firstOf (ackRows (c .flow) (c .totals .«in_flight») (a .cum) (a .map) (a .count)) ≡ 0
 
 pub ack-facts : (time : ℕ) (a : Ack) (c : Controller) → firstOf (ackAllRows time a c) ≡ 0 → Ackable time a c
@@ -118,12 +118,12 @@ ack-facts time a c e =
     let k = none-here 21 _ _ (omega arith) (t .1) in
     let v = none-here 23 _ _ (omega arith) (k .1) in
     let g = none-here 24 _ _ (omega arith) (v .1) in
-    record { timely = t .0; count-ok = leb-false counts (a .count) (k .0); ev-ok = leb-false evCount (a .ev) (v .0); rows = g .1 }
+    record { timely = t .0; count-ok = leb-false counts (a .count) (k .0); ev-ok = leb-false (c .settings .«ev_count») (a .ev) (v .0); rows = g .1 }
 
 -- a NACK or a loss
 pub record Markable (time psn ev : ℕ) (c : Controller) (r : Ring) : Type 0 where
   pub timely : Timely time c
-  pub ev-ok : ev < evCount
+  pub ev-ok : ev < c .settings .«ev_count»
   pub rows : firstOf (markRows (c .flow) (c .totals .«in_flight») r psn) ≡ 0
 
 pub nack-facts : (time : ℕ) (a : Nack) (c : Controller) (r : Ring) → firstOf (nackAllRows time a c r) ≡ 0 → Markable time (a .psn) (a .ev) c r
@@ -131,13 +131,13 @@ nack-facts time a c r e =
     let t = time-facts time c _ e in
     let k = none-here 22 _ _ (omega arith) (t .1) in
     let v = none-here 23 _ _ (omega arith) (k .1) in
-    record { timely = t .0; ev-ok = leb-false evCount (a .ev) (v .0); rows = v .1 }
+    record { timely = t .0; ev-ok = leb-false (c .settings .«ev_count») (a .ev) (v .0); rows = v .1 }
 
 pub loss-facts : (time : ℕ) (a : Loss) (c : Controller) (r : Ring) → firstOf (lossAllRows time a c r) ≡ 0 → Markable time (a .psn) (a .ev) c r
 loss-facts time a c r e =
     let t = time-facts time c _ e in
     let v = none-here 23 _ _ (omega arith) (t .1) in
-    record { timely = t .0; ev-ok = leb-false evCount (a .ev) (v .0); rows = v .1 }
+    record { timely = t .0; ev-ok = leb-false (c .settings .«ev_count») (a .ev) (v .0); rows = v .1 }
 
 -- ---- after the ledger's step: what the window's rules and the state's name ask
 
@@ -190,7 +190,7 @@ module _ {w : World} (S : SoundFacts w) where
       (omega (arith, S .held .cwnd-high, ceiling-high (S .range) (w .state .window .base) (S .held .base-high)))
 
   -- the EV and the base of an event that changes an EV's time
-  pub avoid-asks : {time ev : ℕ} → Timely time (w .state) → ev < evCount
+  pub avoid-asks : {time ev : ℕ} → Timely time (w .state) → ev < w .state .settings .«ev_count»
       → (ev < length (w .times)) × (time < 2 ^ 48) × (w .state .window .base ≤ 2 ^ 14)
   avoid-asks t h = (omega (arith, S .times-long), t .early, omega (arith, S .held .base-high, S .range .rtt-high))
 
@@ -337,8 +337,8 @@ module _ (out : Bool) (resent : ℕ) (retx : Bool) (time sent service : ℕ) {p 
 
 -- ---- a path choice stays among the EVs
 
-pub taken-inside : (time cursor : ℕ) (evs : List ℕ) {x : Choice} → x ≡ choice time cursor evs → length evs ≡ evCount → cursor < evCount
-    → (x .ev < evCount) × (x .cursor < evCount)
+pub taken-inside : (time cursor : ℕ) (evs : List ℕ) {n : ℕ} {x : Choice} → x ≡ choice time cursor evs → length evs ≡ n → cursor < n
+    → (x .ev < n) × (x .cursor < n)
 taken-inside time cursor evs e long at =
     let i = choice-inside time cursor evs (omega arith) in
     rw e (omega (arith, i .ev-inside), omega (arith, i .cursor-inside))

@@ -11,6 +11,7 @@ pub record Bounded (c : Controller) : Type 0 where
   pub backlog-high : c .flow .backlog ≤ backlogMost
   pub mtu-high : c .settings .mtu ≤ 2 ^ 14
   pub cwnd-high : c .window .cwnd ≤ 2 ^ 26
+  pub evs-high : c .settings .«ev_count» ≤ 4096
 
 -- a number that is given already, or 6 where there is no room
 unfoldable pub roomAfter : Controller → ℕ → ℕ

@@ -6,10 +6,6 @@ use Prim.Native.Nat.{ℕ, _^_}
 abbrev pub timeEnd : ℕ
 timeEnd = 2 ^ 48
 
--- "EV space: exactly 256 lent times"
-abbrev pub evCount : ℕ
-evCount = 256
-
 -- "NACK reason over 2"
 abbrev pub reasonMost : ℕ
 reasonMost = 2

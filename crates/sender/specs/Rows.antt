@@ -16,7 +16,7 @@ use Rattle.ledger.specs.Bounds.{sizeLeast, backlogMost}
 use Rattle.ledger.specs.Ring.{Ring}
 use Rattle.ledger.specs.Coherent.{isRing}
 use Rattle.ledger.specs.Rows.{sendRows, ackRows, markRows}
-use Rattle.sender.specs.Limits.{timeEnd, evCount, reasonMost}
+use Rattle.sender.specs.Limits.{timeEnd, reasonMost}
 use Rattle.sender.specs.World.{World}
 use Rattle.sender.specs.Named.{hasRoom}
 use Rattle.sender.specs.Sound.{sound}
@@ -42,26 +42,26 @@ sendAllRows time a c r =
     ∷ (sendRows (c .flow) r (a .psn) (a .size) (a .resend)
     ++ (row (not (hasRoom (c .settings .mtu) (c .window .cwnd) (c .totals .«in_flight»))) 6 ∷ []))
 
--- "count 2^24 or more" (21); "EV over 255" (23); "ACK's trigger PSN not covered by that ACK" (24)
+-- "count 2^24 or more" (21); an EV that is not below the number of EVs (23: "EV over 255", and by request M-110 the chosen number); "ACK's trigger PSN not covered by that ACK" (24)
 abbrev pub ackAllRows : ℕ → Ack → Controller → List Row
 ackAllRows time a c =
     timeRow time c
     ∷ row (leb counts (a .count)) 21
-    ∷ row (leb evCount (a .ev)) 23
+    ∷ row (leb (c .settings .«ev_count») (a .ev)) 23
     ∷ row (not (covered (a .cum) (a .map) (a .trigger))) 24
     ∷ ackRows (c .flow) (c .totals .«in_flight») (a .cum) (a .map) (a .count)
 
--- "NACK reason over 2" (22); "EV over 255" (23)
+-- "NACK reason over 2" (22); the EV (23)
 abbrev pub nackAllRows : ℕ → Nack → Controller → Ring → List Row
 nackAllRows time a c r =
     timeRow time c
     ∷ row (ltb reasonMost (a .reason)) 22
-    ∷ row (leb evCount (a .ev)) 23
+    ∷ row (leb (c .settings .«ev_count») (a .ev)) 23
     ∷ markRows (c .flow) (c .totals .«in_flight») r (a .psn)
 
--- "EV over 255" (23)
+-- the EV (23)
 abbrev pub lossAllRows : ℕ → Loss → Controller → Ring → List Row
-lossAllRows time a c r = timeRow time c ∷ row (leb evCount (a .ev)) 23 ∷ markRows (c .flow) (c .totals .«in_flight») r (a .psn)
+lossAllRows time a c r = timeRow time c ∷ row (leb (c .settings .«ev_count») (a .ev)) 23 ∷ markRows (c .flow) (c .totals .«in_flight») r (a .psn)
 
 abbrev pub pathRows : ℕ → Controller → List Row
 pathRows time c = timeRow time c ∷ []
@@ -70,6 +70,6 @@ pathRows time c = timeRow time c ∷ []
 abbrev pub withSound : World → List Row → List Row
 withSound w rows = row (not (sound w)) 2 ∷ rows
 
--- "setting up tests 1, then 2 on lengths only"
+-- "setting up tests 1, then 2 on lengths only": those of the ring, and as many EV times as the settings say
 abbrev pub setUpRows : Settings → Ring → List ℕ → List Row
-setUpRows s r times = row (not (inRange s)) 1 ∷ row (not (isRing r && eqb (length times) evCount)) 2 ∷ []
+setUpRows s r times = row (not (inRange s)) 1 ∷ row (not (isRing r && eqb (length times) (s .«ev_count»))) 2 ∷ []

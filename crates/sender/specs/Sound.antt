@@ -9,7 +9,7 @@ use Rattle.window.specs.Limits.{laterEnd}
 use Rattle.window.specs.Range.{inRange}
 use Rattle.window.specs.Held.{isHeld}
 use Rattle.ledger.specs.Coherent.{coherent}
-use Rattle.sender.specs.Limits.{timeEnd, evCount}
+use Rattle.sender.specs.Limits.{timeEnd}
 use Rattle.sender.specs.World.{World, ledgerOf}
 use Rattle.sender.specs.Named.{phaseOf, phaseNumber}
 use Rattle.sender.specs.declared.Controller.{Controller}
@@ -30,7 +30,7 @@ sound w =
     && isHeld (c .settings) (c .clock) (c .window)
     && coherent (c .settings .mtu) (c .settings .maxwnd) (c .clock) (ledgerOf w)
     && ltb (c .clock) timeEnd
-    && eqb (length (w .times)) evCount
+    && eqb (length (w .times)) (c .settings .«ev_count»)
     && timesOk (w .times)
-    && ltb (c .cursor) evCount
+    && ltb (c .cursor) (c .settings .«ev_count»)
     && namedOk c

@@ -21,7 +21,7 @@ use Rattle.sender.specs.declared.Phase.the-variants.{Idle}
 -- every number 0, modes off
 unfoldable pub noSettings : Settings
 noSettings =
-    record { mtu = 0; maxwnd = 0; «config_base_rtt» = 0; «target_qdelay» = 0; fi = 0; eta = 0; alpha = 0; gamma = 0; «max_md_jump» = 0; «adjust_period» = 0; «adjust_bytes» = 0; «qa_threshold» = 0; «first_psn» = 0; «quick_adapt_off» = false }
+    record { mtu = 0; maxwnd = 0; «config_base_rtt» = 0; «target_qdelay» = 0; fi = 0; eta = 0; alpha = 0; gamma = 0; «max_md_jump» = 0; «adjust_period» = 0; «adjust_bytes» = 0; «qa_threshold» = 0; «first_psn» = 0; «quick_adapt_off» = false; «ev_count» = 0 }
 
 abbrev pub freshFlow : ℕ → Flow
 freshFlow psn = record { low = psn; next = psn; held = 0; backlog = 0 }

@@ -12,7 +12,7 @@ use Rattle.ledger.specs.Bounds.{backlogMost}
 use Rattle.ledger.specs.Packets.{isMarked}
 use Rattle.ledger.specs.Ring.{Ring, capOf, longOf, packetOf}
 use Rattle.ledger.specs.Rows.{ackRows, markRows}
-use Rattle.sender.specs.Limits.{timeEnd, evCount, reasonMost}
+use Rattle.sender.specs.Limits.{timeEnd, reasonMost}
 use Rattle.sender.specs.World.{World}
 use Rattle.sender.specs.Named.{hasRoom}
 use Rattle.sender.specs.Sound.{sound}
@@ -56,17 +56,17 @@ plainNewData time bytes c = timeRow time c ∷ row (eqb bytes 0 || ltb backlogMo
 abbrev pub plainAck : ℕ → Ack → Controller → List Row
 plainAck time a c =
     timeRow time c
-    ∷ row (leb counts (a .count) || leb evCount (a .ev) || not (covered (a .cum) (a .map) (a .trigger))) 4
+    ∷ row (leb counts (a .count) || leb (c .settings .«ev_count») (a .ev) || not (covered (a .cum) (a .map) (a .trigger))) 4
     ∷ ackRows (c .flow) (c .totals .«in_flight») (a .cum) (a .map) (a .count)
 
 abbrev pub plainNack : ℕ → Nack → Controller → Ring → List Row
 plainNack time a c r =
     timeRow time c
-    ∷ row (ltb reasonMost (a .reason) || leb evCount (a .ev)) 4
+    ∷ row (ltb reasonMost (a .reason) || leb (c .settings .«ev_count») (a .ev)) 4
     ∷ markRows (c .flow) (c .totals .«in_flight») r (a .psn)
 
 abbrev pub plainLoss : ℕ → Loss → Controller → Ring → List Row
-plainLoss time a c r = timeRow time c ∷ row (leb evCount (a .ev)) 4 ∷ markRows (c .flow) (c .totals .«in_flight») r (a .psn)
+plainLoss time a c r = timeRow time c ∷ row (leb (c .settings .«ev_count») (a .ev)) 4 ∷ markRows (c .flow) (c .totals .«in_flight») r (a .psn)
 
 -- the new rows refuse what the old ones refuse, and give every number but 4 as they gave it
 pub record Apart (old new : List Row) : Type 0 where

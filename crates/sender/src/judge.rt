@@ -115,6 +115,7 @@ pub fn judge_ack(c: Controller, time: u64, a: Ack) -> u32
     requires { ⌜ Bounded c ⌝ }
     ensures { λ r. ⌜ r ≡ firstOf (ackAllRows time a c) ⌝ }
 {
+    let settings = c.settings;
     let flow = c.flow;
     let totals = c.totals;
     if bad_time(time, c.clock) {
@@ -123,7 +124,7 @@ pub fn judge_ack(c: Controller, time: u64, a: Ack) -> u32
     if serial::COUNTS <= a.count {
         return BAD_COUNT;
     }
-    if crate::EVS <= a.ev {
+    if settings.ev_count <= a.ev as u64 {
         return BAD_EV;
     }
     if !serial::covers(a.cum, a.map, a.trigger) {
@@ -146,6 +147,7 @@ pub fn judge_nack<'a>(
     requires { ⌜ Even (ring (now status) (now size) (now sent) (now resent)) ⌝ }
     ensures { λ r. ⌜ r ≡ firstOf (nackAllRows time a c (ring (now (status .entry)) (now (size .entry)) (now (sent .entry)) (now (resent .entry)))) ⌝ }
 {
+    let settings = c.settings;
     let flow = c.flow;
     let totals = c.totals;
     if bad_time(time, c.clock) {
@@ -154,7 +156,7 @@ pub fn judge_nack<'a>(
     if crate::REASON_MOST < a.reason {
         return BAD_REASON;
     }
-    if crate::EVS <= a.ev {
+    if settings.ev_count <= a.ev as u64 {
         return BAD_EV;
     }
     ledger::judge::judge_mark(Books { flow, totals }, status, size, sent, resent, a.psn)
@@ -174,12 +176,13 @@ pub fn judge_loss<'a>(
     requires { ⌜ Even (ring (now status) (now size) (now sent) (now resent)) ⌝ }
     ensures { λ r. ⌜ r ≡ firstOf (lossAllRows time a c (ring (now (status .entry)) (now (size .entry)) (now (sent .entry)) (now (resent .entry)))) ⌝ }
 {
+    let settings = c.settings;
     let flow = c.flow;
     let totals = c.totals;
     if bad_time(time, c.clock) {
         return BAD_TIME;
     }
-    if crate::EVS <= a.ev {
+    if settings.ev_count <= a.ev as u64 {
         return BAD_EV;
     }
     ledger::judge::judge_mark(Books { flow, totals }, status, size, sent, resent, a.psn)

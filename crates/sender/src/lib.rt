@@ -25,9 +25,6 @@ ghost use Rattle.sender.specs.Events.{onNewData, onSend, onAck, ackSays,
 // "Time is in ticks of 128 ns, below 2^48."
 pub const TIME_END: u64 = 1 << 48;
 
-// "EV space: exactly 256 lent times."
-pub const EVS: u32 = 256;
-
 // The largest NACK reason: 0 trimmed, 1 trimmed at the last hop, 2 other.
 pub const REASON_MOST: u32 = 2;
 

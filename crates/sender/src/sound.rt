@@ -56,8 +56,8 @@ pub fn is_sound<'a>(
         return false;
     }
     (c.clock < crate::TIME_END)
-        & (evs.len() == crate::EVS as usize)
+        & (evs.len() as u64 == settings.ev_count)
         & times_ok(evs)
-        & (c.cursor < crate::EVS)
+        & ((c.cursor as u64) < settings.ev_count)
         & (phase_number(phase) == phase_number(phase_of(settings.mtu, window.cwnd, flow, totals)))
 }

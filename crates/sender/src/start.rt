@@ -63,6 +63,7 @@ pub fn no_settings() -> Settings
         qa_threshold: 0,
         first_psn: 0,
         quick_adapt_off: false,
+        ev_count: 0,
     }
 }
 
@@ -133,7 +134,8 @@ pub fn set_up<'a, 'b, 'c, 'd, 'e>(
     if !window::bounds::in_range(settings) {
         return not_set_up(Refusal::Setting);
     }
-    if !(ledger::whole::is_ring(status, size, sent, resent) & (evs.len() == crate::EVS as usize)) {
+    if !(ledger::whole::is_ring(status, size, sent, resent)
+        & (evs.len() as u64 == settings.ev_count)) {
         return not_set_up(Refusal::Unsound);
     }
     clear(status, size, sent, resent, evs);

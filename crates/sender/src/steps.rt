@@ -22,7 +22,7 @@ ghost use Rattle.sender.specs.World.{world};
 ghost use Rattle.sender.specs.Sound.{timesOk, sound};
 ghost use Rattle.sender.specs.Rows.{newDataRows, sendAllRows, ackAllRows, nackAllRows, lossAllRows};
 ghost use Rattle.paths.specs.Path.{choice};
-ghost use Rattle.sender.specs.Limits.{timeEnd, evCount};
+ghost use Rattle.sender.specs.Limits.{timeEnd};
 ghost use Rattle.sender.specs.Bounds.{Bounded};
 ghost use Rattle.sender.specs.Steps.{avoidedIn, newDataState, sendStep, ackSampling, ackStep, nackSampling, nackStep, lossStep, pathState};
 
@@ -213,7 +213,7 @@ pub fn loss<'a, 'b, 'c>(
 // The next path.
 pub fn path(c: Controller, evs: &[u64], time: u64) -> Stepped
     requires { ⌜ Bounded c ⌝ }
-    requires { ⌜ (length (now evs) ≡ evCount) × (c .cursor < evCount) ⌝ }
+    requires { ⌜ (length (now evs) ≡ c .settings .«ev_count») × (c .cursor < c .settings .«ev_count») ⌝ }
     requires { ⌜ (timesOk (now evs) ≡ true) × (time < timeEnd) ⌝ }
     ensures { λ r. ⌜ (r .state ≡ pathState time (choice time (c .cursor) (now (evs .entry)) .cursor) c) × (r .ev ≡ choice time (c .cursor) (now (evs .entry)) .ev) ⌝ }
 {

@@ -1,7 +1,7 @@
 -- The tests of refusals 1 and 2 hold exactly where the facts do; the fresh window is held; a sample exists exactly as document 01 has it.
 -- Assumes nothing.
 use mathlib.Core.Path.{_≡_, refl, sym, ap}
-use mathlib.Core.Bool.{Bool, true, false, _&&_}
+use mathlib.Core.Bool.{Bool, true, false, _&&_, _||_}
 use mathlib.Core.Logic.{_⊎_, inl, inr}
 use Prim.Native.Nat.{ℕ, _+_, _-_, _≤_, _<_, min}
 use lib.Dec.{eqb}
@@ -12,7 +12,7 @@ use Rattle.decide.specs.Branch.{so-both, lt-both, so-yes, so-no, lt-yes, lt-no}
 use Rattle.decide.specs.Test.{inside, both, whole, inside-tells, inside-yes}
 use Rattle.window.specs.Limits.{mtuLeast, mtuMost, windowMost, delayMost, gainMost, alphaMost, parts, periodMost, thresholdMost}
 use Rattle.window.specs.Limits.{sampleMost, avgMost, incStop, tallyStop, laterEnd, ceilingOf}
-use Rattle.window.specs.Range.{inRange, InRange}
+use Rattle.window.specs.Range.{isEvCount, inRange, InRange}
 use Rattle.window.specs.Held.{isHeld, Held, freshOf}
 use Rattle.window.specs.Delays.{oneSend, sampleOf, cutOf, samplingOf, sampleIn, Sampled}
 use Rattle.window.specs.declared.Settings.{Settings}
@@ -28,10 +28,31 @@ row rest low x high e =
     let p = both rest (inside low x high) e in
     (p .0, inside-tells low x high (p .1))
 
+-- either part of a test holds where the whole does
+either : {A : Type 0} (a b : Bool) → (a ≡ true → A) → (b ≡ true → A) → (a || b) ≡ true → A
+either true b f g e = f refl
+either false b f g e = g e
+
+-- a number of EVs is at least 256 and at most 4,096
+pub ev-count-bounds : (n : ℕ) → isEvCount n ≡ true → (256 ≤ n) × (n ≤ 4096)
+unfolding isEvCount
+ev-count-bounds n =
+    either _ _
+    (either _ _
+    (either _ _
+    (either _ _ (is 256 (omega arith) (omega arith)) (is 512 (omega arith) (omega arith)))
+    (is 1024 (omega arith) (omega arith)))
+    (is 2048 (omega arith) (omega arith)))
+    (is 4096 (omega arith) (omega arith))
+  where
+    is : (k : ℕ) → 256 ≤ k → k ≤ 4096 → eqb n k ≡ true → (256 ≤ n) × (n ≤ 4096)
+    is k low high e = omega (arith, eqb-true n k e)
+
 pub range-facts : (s : Settings) → inRange s ≡ true → InRange s
 unfolding inRange
 range-facts s e =
-    let threshold = row _ 0 (s .«qa_threshold») thresholdMost e in
+    let evs = both _ (isEvCount (s .«ev_count»)) e in
+    let threshold = row _ 0 (s .«qa_threshold») thresholdMost (evs .0) in
     let bytes = row _ 1 (s .«adjust_bytes») windowMost (threshold .0) in
     let period = row _ 1 (s .«adjust_period») periodMost (bytes .0) in
     let jump = row _ 0 (s .«max_md_jump») parts (period .0) in
@@ -43,7 +64,27 @@ range-facts s e =
     let rtt = row _ 1 (s .«config_base_rtt») delayMost (target .0) in
     let maxwnd = row (inside mtuLeast (s .mtu) mtuMost) (s .mtu) (s .maxwnd) windowMost (rtt .0) in
     let mtu = inside-tells mtuLeast (s .mtu) mtuMost (maxwnd .0) in
-    omega arith
+    record {
+      mtu-low = mtu .0;
+      mtu-high = mtu .1;
+      maxwnd-low = maxwnd .1 .0;
+      maxwnd-high = maxwnd .1 .1;
+      rtt-low = rtt .1 .0;
+      rtt-high = rtt .1 .1;
+      target-low = target .1 .0;
+      target-high = target .1 .1;
+      fi-high = fi .1 .1;
+      eta-high = eta .1 .1;
+      alpha-high = alpha .1 .1;
+      gamma-high = gamma .1 .1;
+      jump-high = jump .1 .1;
+      period-low = period .1 .0;
+      period-high = period .1 .1;
+      bytes-low = bytes .1 .0;
+      bytes-high = bytes .1 .1;
+      threshold-high = threshold .1 .1;
+      evs-allowed = evs .1;
+    }
 
 pub range-test : (s : Settings) → InRange s → inRange s ≡ true
 unfolding inRange

@@ -1,10 +1,16 @@
--- Refusal 1: "a setting is outside its range". The ranges, row by row as document 01 gives them.
+-- Refusal 1: "a setting is outside its range". The ranges, row by row as document 01 gives them, and the number of EVs by request M-110.
 -- Assumes nothing.
-use Prim.Native.Nat.{_≤_}
-use mathlib.Core.Bool.{Bool, _&&_}
+use mathlib.Core.Path.{_≡_}
+use Prim.Native.Nat.{ℕ, _≤_}
+use mathlib.Core.Bool.{Bool, true, _&&_, _||_}
+use lib.Dec.{eqb}
 use Rattle.decide.specs.Test.{inside}
 use Rattle.window.specs.Limits.{mtuLeast, mtuMost, windowMost, delayMost, gainMost, alphaMost, parts, periodMost, thresholdMost}
 use Rattle.window.specs.declared.Settings.{Settings}
+
+-- request M-110: "Allow any power of two from 256 to 4,096"
+unfoldable pub isEvCount : ℕ → Bool
+isEvCount n = eqb n 256 || eqb n 512 || eqb n 1024 || eqb n 2048 || eqb n 4096
 
 unfoldable pub inRange : Settings → Bool
 inRange s =
@@ -20,6 +26,7 @@ inRange s =
     && inside 1 (s .«adjust_period») periodMost
     && inside 1 (s .«adjust_bytes») windowMost
     && inside 0 (s .«qa_threshold») thresholdMost
+    && isEvCount (s .«ev_count»)
 
 -- the same as facts
 pub record InRange (s : Settings) : Type 0 where
@@ -41,3 +48,4 @@ pub record InRange (s : Settings) : Type 0 where
   pub bytes-low : 1 ≤ s .«adjust_bytes»
   pub bytes-high : s .«adjust_bytes» ≤ windowMost
   pub threshold-high : s .«qa_threshold» ≤ thresholdMost
+  pub evs-allowed : isEvCount (s .«ev_count») ≡ true

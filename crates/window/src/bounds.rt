@@ -6,7 +6,7 @@ use decide::within;
 ghost use mathlib.Core.Path.{_≡_};
 ghost use Prim.Native.Nat.{_≤_};
 ghost use Rattle.window.specs.Limits.{ceilingOf};
-ghost use Rattle.window.specs.Range.{inRange, InRange};
+ghost use Rattle.window.specs.Range.{isEvCount, inRange, InRange};
 ghost use Rattle.window.specs.Held.{isHeld, freshOf};
 
 // max_wnd: the ceiling of the window at a base round trip. An inner step: in these bounds the product does not overflow.
@@ -18,6 +18,13 @@ pub fn ceiling(s: Settings, base: u64) -> u64
     let maxwnd = s.maxwnd;
     let rtt = s.config_base_rtt;
     most(s.mtu, maxwnd * base / rtt)
+}
+
+// Whether a number of EVs is allowed, by request M-110.
+fn is_ev_count(n: u64) -> bool
+    ensures { λ r. ⌜ r ≡ isEvCount n ⌝ }
+{
+    (n == 256) | (n == 512) | (n == 1024) | (n == 2048) | (n == 4096)
 }
 
 // Whether every setting is in its range; where not, setting up is refused with 1.
@@ -36,6 +43,7 @@ pub fn in_range(s: Settings) -> bool
         & within(1, s.adjust_period, crate::PERIOD_MOST)
         & within(1, s.adjust_bytes, crate::WINDOW_MOST)
         & within(0, s.qa_threshold, crate::THRESHOLD_MOST)
+        & is_ev_count(s.ev_count)
 }
 
 // Whether the window's numbers are in their bounds at a clock: the window's part of refusal 2. An inner step: the settings are in range. The base is tested

@@ -57,6 +57,8 @@ pub struct Settings {
     pub qa_threshold: u64,
     pub first_psn: u32,
     pub quick_adapt_off: bool,
+    // Request M-110: how many EVs there are.
+    pub ev_count: u64,
 }
 
 // What the window rules hold between events. `avg` is in 1/1,024 tick; `qa_end` is quick adapt's end; `fast` is fast mode.

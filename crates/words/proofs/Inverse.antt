@@ -20,7 +20,7 @@ use Rattle.sender.specs.World.{World}
 use Rattle.sender.specs.declared.Controller.{Controller}
 use Rattle.sender.specs.declared.Phase.{Phase}
 use Rattle.sender.specs.declared.Phase.the-variants.{Idle, Pending, Ready, Active}
-use Rattle.sender.proofs.Sounds.{sound-facts, sound-coheres}
+use Rattle.sender.proofs.Sounds.{sound-facts, sound-coheres, sound-bounded}
 use Rattle.words.specs.Layout.{wordCount, fieldEnd, bit, stateWords, word, settingsFrom, flowFrom, totalsFrom, windowFrom, phaseFrom, stateFrom, wordsOk}
 use Rattle.words.specs.Statements.{WordsFacts, Machine}
 use Rattle.words.proofs.Checked.{words-facts, facts-words}
@@ -89,7 +89,7 @@ pack-unpack ws ok =
 
 -- ---- a state to words and back
 
--- a state has 39 words
+-- a state has 40 words
 pub long : (c : Controller) → length (stateWords c) ≡ wordCount
 unfolding stateWords
 long c = refl
@@ -141,6 +141,6 @@ sound-machine w e psn low next =
       held = omega (arith, coheres-facts C .held);
       flying = omega (arith, C .flying-most);
       marked = omega (arith, C .marked-most);
-      cursor = omega (arith, sound-facts w e .cursor-ok);
+      cursor = omega (arith, sound-facts w e .cursor-ok, sound-bounded w e .evs-high);
       flown = coheres-flown C;
     }

@@ -1,5 +1,5 @@
 -- The controller's state as words, in this order: the settings in document 01's order, the first PSN and the flag that disables quick adapt; low, next, held
--- and backlog; flying, marked, marked bytes and in-flight; the window; the clock, the path cursor and the state's name.
+-- and backlog; flying, marked, marked bytes and in-flight; the window; the clock, the path cursor and the state's name; the number of EVs (request M-110).
 -- Assumes nothing.
 use mathlib.Core.Bool.{Bool, true, false, _&&_}
 use mathlib.Core.List.{List, [], _∷_}
@@ -22,7 +22,7 @@ use Rattle.words.specs.declared.Unpacked.{Unpacked}
 
 -- how many words a state has
 abbrev pub wordCount : ℕ
-wordCount = 39
+wordCount = 40
 
 -- how many numbers the settings have, which come first
 abbrev pub settingsCount : ℕ
@@ -94,6 +94,7 @@ stateWords c =
     ∷ c .clock
     ∷ c .cursor
     ∷ phaseNumber (c .phase)
+    ∷ c .settings .«ev_count»
     ∷ []
 
 -- ---- the state of words
@@ -105,9 +106,9 @@ word ws i = getD ws i 0
 abbrev pub flag : List ℕ → ℕ → Bool
 flag ws i = eqb (word ws i) 1
 
--- the twelve numbers, the first PSN and the flag that disables quick adapt
-unfoldable pub settingsFrom : List ℕ → ℕ → Bool → Settings
-settingsFrom ws psn off =
+-- the twelve numbers, the first PSN, the flag that disables quick adapt and the number of EVs
+unfoldable pub settingsFrom : List ℕ → ℕ → Bool → ℕ → Settings
+settingsFrom ws psn off evs =
     record {
       mtu = word ws 0;
       maxwnd = word ws 1;
@@ -123,6 +124,7 @@ settingsFrom ws psn off =
       «qa_threshold» = word ws 11;
       «first_psn» = psn;
       «quick_adapt_off» = off;
+      «ev_count» = evs;
     }
 
 unfoldable pub flowFrom : List ℕ → Flow
@@ -157,7 +159,7 @@ phaseFrom n = ifEq n 0 Idle (ifEq n 1 Pending (ifEq n 2 Ready Active))
 unfoldable pub stateFrom : List ℕ → Controller
 stateFrom ws =
     record {
-      settings = settingsFrom ws (word ws 12) (flag ws 13);
+      settings = settingsFrom ws (word ws 12) (flag ws 13) (word ws 39);
       flow = flowFrom ws;
       totals = totalsFrom ws;
       window = windowFrom ws;

@@ -1,4 +1,4 @@
-// The controller's state as words, for callers that hold it as plain memory: 39 numbers of 64 bits in the order of `Layout.stateWords`.
+// The controller's state as words, for callers that hold it as plain memory: 40 numbers of 64 bits in the order of `Layout.stateWords`.
 use ledger::Flow;
 use ledger::Totals;
 use sender::Controller;
@@ -12,7 +12,7 @@ ghost use Rattle.words.specs.Layout.{wordCount, settingsCount, bit, inFl
 ghost use Rattle.words.specs.Statements.{WordsFacts};
 
 // How many words a state has.
-pub const WORDS: usize = 39;
+pub const WORDS: usize = 40;
 
 // How many numbers the settings have, which come first.
 pub const SETTINGS: usize = 12;
@@ -55,7 +55,7 @@ fn in_flight_word(z: i64) -> u64
 }
 
 // A state's words.
-pub fn pack(state: Controller) -> [u64; 39]
+pub fn pack(state: Controller) -> [u64; 40]
     ensures { λ r. ⌜ r ≡ stateWords state ⌝ }
 {
     let s = state.settings;
@@ -103,6 +103,7 @@ pub fn pack(state: Controller) -> [u64; 39]
         state.clock,
         state.cursor as u64,
         sender::naming::phase_number(phase) as u64,
+        s.ev_count,
     ]
 }
 
@@ -127,10 +128,11 @@ fn words_ok(ws: &[u64]) -> bool
         & (ws[38] < 4)
 }
 
-// The settings: twelve numbers in document 01's order, the first PSN and the flag that disables quick adapt. An inner step: the caller proves that there are twelve.
-pub fn settings_of(ws: &[u64], first_psn: u32, quick_adapt_off: bool) -> Settings
+// The settings: twelve numbers in document 01's order, the first PSN, the flag that disables quick adapt and the number of EVs. An inner step: the caller proves
+// that there are twelve.
+pub fn settings_of(ws: &[u64], first_psn: u32, quick_adapt_off: bool, ev_count: u64) -> Settings
     requires { ⌜ settingsCount ≤ length (now ws) ⌝ }
-    ensures { λ r. ⌜ r ≡ settingsFrom (now (ws .entry)) «first_psn» «quick_adapt_off» ⌝ }
+    ensures { λ r. ⌜ r ≡ settingsFrom (now (ws .entry)) «first_psn» «quick_adapt_off» «ev_count» ⌝ }
 {
     Settings {
         mtu: ws[0],
@@ -147,6 +149,7 @@ pub fn settings_of(ws: &[u64], first_psn: u32, quick_adapt_off: bool) -> Setting
         qa_threshold: ws[11],
         first_psn,
         quick_adapt_off,
+        ev_count,
     }
 }
 
@@ -213,7 +216,7 @@ fn state_from(ws: &[u64]) -> Controller
     ensures { λ r. ⌜ r ≡ stateFrom (now (ws .entry)) ⌝ }
 {
     Controller {
-        settings: settings_of(ws, ws[12] as u32, ws[13] == 1),
+        settings: settings_of(ws, ws[12] as u32, ws[13] == 1, ws[39]),
         flow: flow_from(ws),
         totals: totals_from(ws),
         window: window_from(ws),
@@ -239,7 +242,7 @@ pub fn unpack(ws: &[u64]) -> Unpacked
     }
 }
 
-// Stores a state's words over those that were lent. An inner step: the caller proves that there are 39.
+// Stores a state's words over those that were lent. An inner step: the caller proves that there are 40.
 pub fn store(ws: &mut [u64], state: Controller)
     requires { ⌜ length (now ws) ≡ wordCount ⌝ }
     ensures { λ _. ⌜ now (ws .exit) ≡ stateWords state ⌝ }

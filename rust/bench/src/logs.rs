@@ -92,6 +92,7 @@ fn start(more: u32) -> Vec<Record> {
             numbers,
             first_psn: 0,
             flags: 0,
+            ev_count: 256,
         },
         Record::NewData { time: 0, bytes },
     ];

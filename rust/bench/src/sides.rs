@@ -30,6 +30,7 @@ pub fn set_up_ours(context: &mut Context, settings: &Settings) {
         &settings.numbers(),
         settings.first_psn,
         settings.quick_adapt_off,
+        settings.ev_count,
     );
     assert_eq!(number, 0);
 }

@@ -9,6 +9,7 @@ pub enum Call {
         settings: Vec<u64>,
         first_psn: u32,
         quick_adapt_off: bool,
+        ev_count: u32,
     },
     NewData {
         time: u64,
@@ -38,6 +39,7 @@ impl Call {
             settings: settings.numbers().to_vec(),
             first_psn: settings.first_psn,
             quick_adapt_off: settings.quick_adapt_off,
+            ev_count: settings.ev_count,
         }
     }
 
@@ -48,7 +50,8 @@ impl Call {
                 settings,
                 first_psn,
                 quick_adapt_off,
-            } => lent.set_up(settings, *first_psn, *quick_adapt_off),
+                ev_count,
+            } => lent.set_up(settings, *first_psn, *quick_adapt_off, *ev_count),
             Call::NewData { time, bytes } => lent.new_data(*time, *bytes),
             Call::Send {
                 time,
@@ -164,7 +167,7 @@ fn narrow_ev(ev: u32) -> u16 {
 pub fn answer_of(outcome: Outcome) -> u64 {
     let sample = outcome
         .sampling
-        .map(|sampling| sample_of(sampling).number());
+        .map(|sampling| sample_of(sampling).number().into());
     let above = outcome.ev.or(sample).unwrap_or(0);
     u64::from(outcome.number) | u64::from(above) << 32
 }

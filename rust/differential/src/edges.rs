@@ -20,7 +20,7 @@ impl Source {
             8 | 9 => Call::Nack(Nack {
                 time,
                 psn: self.edge_psn(view),
-                ev: self.edge_ev(),
+                ev: self.edge_ev(view),
                 reason: self.rng.pick(&[0, 1, 2, 2, 3, 256, 1 << 16, u32::MAX]),
                 marked: self.rng.one_in(2),
                 retx: self.rng.one_in(2),
@@ -28,7 +28,7 @@ impl Source {
             10 => Call::Loss {
                 time,
                 psn: self.edge_psn(view),
-                ev: self.edge_ev(),
+                ev: self.edge_ev(view),
             },
             _ => Call::Path { time },
         }
@@ -77,10 +77,13 @@ impl Source {
         ])
     }
 
-    fn edge_ev(&mut self) -> u32 {
-        let any = self.ev();
-        self.rng
-            .pick(&[0, 255, 256, 1 << 16, u32::MAX, any, any, any, any, any])
+    fn edge_ev(&mut self, view: &View) -> u32 {
+        let evs = view.evs();
+        let any = self.ev(view);
+        let wide = self.rng.pick(&[1 << 16, evs << 16, u32::MAX]);
+        let edges = [0, 255, 256, evs - 1, evs - 1, evs, evs + 1, wide];
+        let edge = self.rng.pick(&edges);
+        self.rng.pick(&[edge, any])
     }
 
     fn edge_send(&mut self, view: &View, time: u64) -> Call {
@@ -132,7 +135,7 @@ impl Source {
             trigger,
             count: self.edge_count(view),
             service: self.edge_service(view, time, trigger),
-            ev: self.edge_ev(),
+            ev: self.edge_ev(view),
             marked: self.rng.one_in(2),
             retx: self.rng.one_in(2),
         }

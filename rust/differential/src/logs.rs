@@ -1,6 +1,7 @@
 //! Logs for both sides, and their records.
 
-use crate::numbers::edge;
+use crate::numbers::{any_ev_count, edge, lent_evs};
+use model::replay::evs_lent;
 use model::{gen, parse, Rng};
 
 /// The capacity for which logs are generated: the program's.
@@ -9,13 +10,19 @@ pub const CAPACITY: usize = model::replay::CAPACITY;
 /// A log of any generator.
 pub fn generated(rng: &mut Rng, records: usize) -> Vec<u8> {
     let seed = rng.next_u64();
-    match rng.below(8) {
+    match rng.below(10) {
         0 => gen::traffic(seed, records),
         1 => gen::lossy(seed, records),
         2 => gen::marked(seed, records),
         3 => gen::bulk(seed, records),
+        4 | 5 => gen::wide(seed, records),
         _ => gen::hostile(seed, records),
     }
+}
+
+/// How many EV times to lend to a log: mostly as many as the program does.
+pub fn evs_for(rng: &mut Rng, log: &[u8]) -> usize {
+    lent_evs(rng, evs_lent(log) as u32)
 }
 
 /// One seed in so many has a long log.
@@ -63,6 +70,9 @@ pub fn damage(rng: &mut Rng, log: &[u8]) -> Vec<u8> {
             _ => damage_piece(rng, &mut pieces[i]),
         }
     }
+    if let Some(first) = pieces.first_mut().filter(|_| rng.one_in(8)) {
+        recount(rng, first);
+    }
     let mut log = pieces.concat();
     match rng.below(8) {
         0 => log.truncate(rng.below(log.len() as u64 + 1) as usize),
@@ -71,6 +81,22 @@ pub fn damage(rng: &mut Rng, log: &[u8]) -> Vec<u8> {
         _ => {}
     }
     log
+}
+
+/// Settings say another EV count, or none; their length is that of the longer record, or the other.
+fn recount(rng: &mut Rng, piece: &mut Vec<u8>) {
+    const SHORT: usize = 57;
+    if piece.len() < SHORT || piece[2..4] != [16, 0] {
+        return;
+    }
+    piece.truncate(SHORT);
+    if !rng.one_in(4) {
+        let count = rng.pick(&[256, 256, 255, 8_192, u32::MAX]);
+        let other = any_ev_count(rng);
+        piece.extend(rng.pick(&[count, other]).to_le_bytes());
+    }
+    let told = piece.len() as u8 - 2;
+    piece[0] = rng.pick(&[told, told, told, told, told, told, 55, 59]);
 }
 
 /// Fields change more often than lengths and kinds, since replay stops at those. The last byte often

@@ -1,5 +1,6 @@
 //! Numbers at which rules change.
 
+use model::bounds::{EVS_MAX, EVS_MIN};
 use model::{Rng, Settings, State};
 
 /// The exponents of 01's bounds.
@@ -74,5 +75,42 @@ pub fn settings(rng: &mut Rng, edges: bool) -> Settings {
             usual
         };
     }
-    Settings::from_numbers(numbers, first_psn(rng), rng.one_in(4))
+    let settings = Settings::from_numbers(numbers, first_psn(rng), rng.one_in(4));
+    settings.with_evs(ev_count(rng))
+}
+
+/// An EV count that is allowed. Few EVs are faster to compare.
+pub fn ev_count(rng: &mut Rng) -> u32 {
+    rng.pick(&[256, 256, 256, 256, 512, 512, 1_024, 2_048, 4_096])
+}
+
+/// An EV count that is allowed, beside one that is, or any.
+pub fn any_ev_count(rng: &mut Rng) -> u32 {
+    let good = ev_count(rng);
+    let (any, at_edge) = (rng.next_u32(), edge(rng) as u32);
+    rng.pick(&[
+        0,
+        1,
+        EVS_MIN / 2,
+        EVS_MIN - 1,
+        EVS_MIN,
+        EVS_MAX,
+        EVS_MAX + 1,
+        2 * EVS_MAX,
+        u32::MAX,
+        good,
+        good - 1,
+        good + 1,
+        good + good / 2,
+        good << 16,
+        at_edge,
+        any,
+    ])
+}
+
+/// How many EV times to lend where so many are asked for: mostly as many.
+pub fn lent_evs(rng: &mut Rng, asked: u32) -> usize {
+    let other = any_ev_count(rng);
+    let evs = rng.pick(&[asked, asked, asked, asked, asked, asked, other]);
+    evs.min(2 * EVS_MAX) as usize
 }

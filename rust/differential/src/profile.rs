@@ -69,7 +69,7 @@ pub const PROFILES: [Profile; 9] = [
     },
     Profile {
         name: "ring",
-        weights: [2, 80, 6, 4, 2, 2, 1],
+        weights: [2, 120, 6, 2, 2, 2, 1],
         small: true,
         window: 1000,
         ..MIXED

@@ -4,7 +4,7 @@ use crate::call::Call;
 use crate::words::{state_of, words_of};
 use model::{Memory, Outcome, Refusal, Settings, State};
 use nscc::raw::Lent;
-use nscc::{Word, WORDS};
+use nscc::{Word, EVS_MIN, WORDS};
 
 const UNSOUND: u8 = Refusal::NotTogether as u8;
 
@@ -16,10 +16,15 @@ pub struct Model {
 }
 
 impl Model {
+    /// A ring of so many slots, and 256 EV times.
     pub fn empty(capacity: usize) -> Model {
+        Model::with_evs(capacity, EVS_MIN as usize)
+    }
+
+    pub fn with_evs(capacity: usize, evs: usize) -> Model {
         Model {
             words: vec![0; WORDS],
-            memory: Memory::new(capacity),
+            memory: Memory::with_evs(capacity, evs),
         }
     }
 
@@ -57,6 +62,7 @@ impl Model {
             settings,
             first_psn,
             quick_adapt_off,
+            ev_count,
         } = call
         else {
             return UNSOUND;
@@ -65,6 +71,7 @@ impl Model {
             return UNSOUND;
         };
         let settings = Settings::from_numbers(numbers, *first_psn, *quick_adapt_off);
+        let settings = settings.with_evs(*ev_count);
         if !settings.in_range() {
             return Refusal::Setting.number();
         }

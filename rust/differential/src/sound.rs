@@ -23,7 +23,7 @@ pub fn sound(rng: &mut Rng, capacity: usize) -> Model {
     };
     set_window(rng, &mut state);
     set_times(rng, &mut state);
-    let mut memory = Memory::new(capacity);
+    let mut memory = Memory::with_evs(capacity, state.settings.ev_count as usize);
     set_ring(rng, &mut state, &mut memory);
     set_in_flight(rng, &mut state);
     set_ev_times(rng, &state, &mut memory);
@@ -56,7 +56,7 @@ fn set_window(rng: &mut Rng, state: &mut State) {
     state.ignored = tally(rng, state.bytes_to_ignore);
     state.fast_mode = rng.one_in(2);
     state.trigger = rng.one_in(2);
-    state.cursor = within(rng, 0, 255);
+    state.cursor = within(rng, 0, u64::from(settings.ev_count) - 1);
 }
 
 /// Around the number that it is compared with, or around its stop.
@@ -168,9 +168,11 @@ fn set_in_flight(rng: &mut Rng, state: &mut State) {
 
 /// None avoided, about half of them, or most.
 fn set_ev_times(rng: &mut Rng, state: &State, memory: &mut Memory) {
-    let avoided = rng.pick(&[0, 1, 127, 128, 129, 255, 256]);
-    let turn = rng.below(256) as usize;
-    for i in 0..memory.ev_times.len() {
+    let evs = memory.ev_times.len();
+    let half = evs / 2;
+    let avoided = rng.pick(&[0, 1, half - 1, half, half + 1, evs - 1, evs]);
+    let turn = rng.below(evs as u64) as usize;
+    for i in 0..evs {
         let later = state.clock + rng.pick(&[1, 1, 2, 100, state.base]);
         let earlier = rng.below(state.clock + 1);
         let furthest = LATER_END - 1;
@@ -179,7 +181,7 @@ fn set_ev_times(rng: &mut Rng, state: &State, memory: &mut Memory) {
         } else {
             rng.pick(&[0, earlier, state.clock])
         };
-        memory.ev_times[(i * 77 + turn) % 256] = time;
+        memory.ev_times[(i * 77 + turn) % evs] = time;
     }
 }
 

@@ -24,6 +24,10 @@ impl View<'_> {
         self.state.next.wrapping_sub(self.state.low)
     }
 
+    pub fn evs(&self) -> u32 {
+        self.state.settings.ev_count
+    }
+
     pub fn slot(&self, psn: u32) -> usize {
         psn as usize % self.capacity()
     }
@@ -173,7 +177,7 @@ impl Source {
         Call::Nack(Nack {
             time: time.max(due).min(TIME_END - 1),
             psn,
-            ev: self.ev(),
+            ev: self.ev(view),
             reason: self.rng.below(3) as u32,
             marked: self.rng.below(8) < self.profile.marked,
             retx: (resent == 1) != self.rng.one_in(8),
@@ -184,12 +188,12 @@ impl Source {
         let Some(psn) = view.packet(&mut self.rng, &[FLYING]) else {
             return self.new_packet(view, time);
         };
-        let ev = self.ev();
+        let ev = self.ev(view);
         Call::Loss { time, psn, ev }
     }
 
-    pub fn ev(&mut self) -> u32 {
-        self.rng.below(256) as u32
+    pub fn ev(&mut self, view: &View) -> u32 {
+        self.rng.below(view.evs().into()) as u32
     }
 
     /// An ACK whose delay lies at one of the places where the rules change: the time is late enough
@@ -209,7 +213,7 @@ impl Source {
             trigger,
             count: self.count(view, cum, map),
             service: time.saturating_sub(due).try_into().unwrap_or(0),
-            ev: self.ev(),
+            ev: self.ev(view),
             marked: self.rng.below(8) < self.profile.marked,
             retx: (view.memory.resent[slot] == 1) != self.rng.one_in(16),
         }

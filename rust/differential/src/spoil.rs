@@ -1,11 +1,11 @@
 //! Something in a context spoilt.
 
-use crate::numbers::{instead_of, least_base};
+use crate::numbers::{any_ev_count, instead_of, least_base, lent_evs};
 use crate::sides::Model;
 use crate::sound::settle;
 use model::bounds::{
-    AVG_MAX, BACKLOG_MAX, COUNT_END, EVS, INC_BYTES_MAX, LATER_END, RESENT_MAX, SIZE_MIN,
-    TALLY_MAX, TIME_END,
+    AVG_MAX, BACKLOG_MAX, COUNT_END, EVS_MAX, EVS_MIN, INC_BYTES_MAX, LATER_END, RESENT_MAX,
+    SIZE_MIN, TALLY_MAX, TIME_END,
 };
 use model::lent::{DONE, FLYING, MARKED};
 use model::{Rng, Settings, State};
@@ -17,9 +17,10 @@ pub fn spoil(rng: &mut Rng, model: &mut Model) {
     let Some(state) = model.state() else {
         return;
     };
-    match rng.below(8) {
-        0..=3 => spoil_word(rng, model, &state),
-        4..=6 => spoil_element(rng, model, &state),
+    match rng.below(16) {
+        0..=7 => spoil_word(rng, model, &state),
+        8..=12 => spoil_element(rng, model, &state),
+        13 => spoil_evs(rng, model),
         _ => spoil_length(rng, model),
     }
     if let Some(mut state) = model.state().filter(|_| rng.one_in(2)) {
@@ -64,7 +65,8 @@ fn limits(word: Word, state: &State) -> (u64, u64) {
         Word::QaEnd => (0, LATER_END - 1),
         Word::LastAdjust | Word::LastDec => (0, state.clock),
         Word::Clock => (state.last_adjust.max(state.last_dec), TIME_END - 1),
-        Word::Cursor => (0, EVS as u64 - 1),
+        Word::Cursor => (0, u64::from(settings.ev_count).wrapping_sub(1)),
+        Word::EvCount => (EVS_MIN.into(), EVS_MAX.into()),
         Word::Phase => (0, 3),
         // PSNs, and totals that have no bound of their own.
         _ => (0, u32::MAX.into()),
@@ -127,6 +129,20 @@ fn change<T: Copy>(numbers: &mut [T], at: u64, with: impl FnOnce(T) -> T) {
     }
 }
 
+/// Another EV count, which may be allowed, and mostly as many EV times. The cursor may be at its end.
+fn spoil_evs(rng: &mut Rng, model: &mut Model) {
+    let count = any_ev_count(rng);
+    let lent = lent_evs(rng, count);
+    model.memory.ev_times.resize(lent, 0);
+    if let Some(word) = model.words.get_mut(Word::EvCount as usize) {
+        *word = count.into();
+    }
+    let end = u64::from(count);
+    if let Some(word) = model.words.get_mut(Word::Cursor as usize) {
+        *word = rng.pick(&[*word, *word, end, end.wrapping_sub(1)]);
+    }
+}
+
 /// One slice longer or shorter, or the whole ring of a capacity that none has.
 pub fn spoil_length(rng: &mut Rng, model: &mut Model) {
     let memory = &mut model.memory;
@@ -146,8 +162,9 @@ pub fn spoil_length(rng: &mut Rng, model: &mut Model) {
         2 => memory.sent.resize(length, 0),
         3 => memory.resent.resize(length, 0),
         4 => {
-            let length = rng.pick(&[0, 1, EVS - 1, EVS + 1, 2 * EVS]);
-            memory.ev_times.resize(length, 0);
+            let evs = memory.ev_times.len();
+            let lengths = [0, 1, 256, evs / 2, evs.saturating_sub(1), evs + 1, 2 * evs];
+            memory.ev_times.resize(rng.pick(&lengths), 0);
         }
         5 => {
             let length = rng.pick(&[0, 1, WORDS - 1, WORDS + 1, 2 * WORDS]);

@@ -35,6 +35,10 @@ pub struct Seen {
     pub psn_wraps: u64,
     pub count_wraps: u64,
     pub below_zero: u64,
+    /// EVs over 255 that were taken.
+    pub far_paths: u64,
+    /// The last EV was taken.
+    pub cursor_wraps: u64,
     /// inc_bytes or a tally has come to its stop.
     pub stops: u64,
 }
@@ -93,6 +97,9 @@ impl Seen {
         self.psn_wraps += u64::from(is(Word::Next) < was(Word::Next));
         self.count_wraps += u64::from(is(Word::Held) < was(Word::Held));
         self.below_zero += u64::from(is(Word::InFlight) < IN_FLIGHT_ADDED as u64);
+        let behind = changed(Word::Cursor).then_some(is(Word::Cursor));
+        self.far_paths += u64::from(behind.is_some_and(|cursor| cursor > 256));
+        self.cursor_wraps += u64::from(behind == Some(0));
         self.stops += u64::from(stop);
     }
 }
@@ -115,7 +122,7 @@ impl fmt::Display for Tally {
             write!(
                 f,
                 "; cuts {}, quick adapts {}, fast modes {}, clamps {}, PSN wraps {}, \
-                 count wraps {}, below zero {}, stops {}",
+                 count wraps {}, below zero {}, EVs over 255 {}, cursor wraps {}, stops {}",
                 seen.cuts,
                 seen.quick_adapts,
                 seen.fast_modes,
@@ -123,6 +130,8 @@ impl fmt::Display for Tally {
                 seen.psn_wraps,
                 seen.count_wraps,
                 seen.below_zero,
+                seen.far_paths,
+                seen.cursor_wraps,
                 seen.stops
             )?;
         }

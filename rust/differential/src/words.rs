@@ -34,6 +34,7 @@ pub fn words_of(state: &State) -> [u64; WORDS] {
         (Word::Clock, state.clock),
         (Word::Cursor, state.cursor),
         (Word::Phase, phase_of(state.name)),
+        (Word::EvCount, state.settings.ev_count.into()),
     ];
     for (word, number) in others {
         words[word as usize] = number;
@@ -98,7 +99,8 @@ impl Words<'_> {
         let (numbers, _) = self.0.split_first_chunk::<SETTINGS>()?;
         let first_psn = self.narrow(Word::FirstPsn)?;
         let quick_adapt_off = self.flag(Word::QuickAdaptOff)?;
-        Some(Settings::from_numbers(*numbers, first_psn, quick_adapt_off))
+        let settings = Settings::from_numbers(*numbers, first_psn, quick_adapt_off);
+        Some(settings.with_evs(self.narrow(Word::EvCount)?))
     }
 }
 

@@ -49,7 +49,8 @@ fn streams() {
     let seen = &tally.seen;
     let rules = [seen.cuts, seen.quick_adapts, seen.fast_modes, seen.clamps];
     often(&tally, &rules, 100);
-    often(&tally, &[seen.psn_wraps, seen.below_zero], 10);
+    let rare = [seen.psn_wraps, seen.below_zero, seen.far_paths];
+    often(&tally, &rare, 10);
     often(&tally, &tally.samples, 100);
 }
 
@@ -69,6 +70,8 @@ fn states() {
     let seen = &tally.seen;
     let rare = [seen.stops, seen.clamps, seen.count_wraps, seen.psn_wraps];
     often(&tally, &rare, 100);
+    let paths = [seen.far_paths, seen.cursor_wraps];
+    often(&tally, &paths, 100);
     often(&tally, &tally.samples, 100);
 }
 
@@ -83,7 +86,7 @@ fn spoilt() {
 #[test]
 fn replay() {
     let tally = run(Kind::Replay, 2_400);
-    all_met(&tally, &[0, 1, 3, 5, 6, 8, 9, 10, 11, 12], 5);
+    all_met(&tally, &[0, 1, 2, 3, 5, 6, 8, 9, 10, 11, 12], 5);
     all_met(&tally, &FIELDS, 5);
     often(&tally, &tally.samples, 100);
 }

@@ -1,7 +1,7 @@
 //! The words of the header and the model's state, there and back.
 
 use differential::{state_of, words_of};
-use model::{Name, Rng, State};
+use model::{Name, Rng, Settings, State};
 use nscc::{Word, WORDS};
 
 #[test]
@@ -9,7 +9,7 @@ fn every_word_is_named_in_its_place() {
     for (i, word) in Word::ALL.into_iter().enumerate() {
         assert_eq!(word as usize, i);
     }
-    assert_eq!(Word::Phase as usize, WORDS - 1);
+    assert_eq!(Word::EvCount as usize, WORDS - 1);
 }
 
 /// Words that all differ, so that no two can be exchanged unseen.
@@ -31,7 +31,13 @@ fn words_and_state_are_inverse() {
 fn words_that_no_state_has() {
     let words = words_of(&State::default());
     assert_eq!(state_of(&words[1..]), None);
-    let narrow = [Word::FirstPsn, Word::Low, Word::Next, Word::Held];
+    let narrow = [
+        Word::FirstPsn,
+        Word::Low,
+        Word::Next,
+        Word::Held,
+        Word::EvCount,
+    ];
     let flags = [Word::QuickAdaptOff, Word::Fast, Word::Trigger];
     let wide = narrow.map(|word| (word, 1 << 32));
     let strange = flags.map(|word| (word, 2));
@@ -46,7 +52,9 @@ fn words_that_no_state_has() {
 /// Written out against include/nscc.h by hand.
 #[test]
 fn some_words_by_number() {
+    let settings = Settings::default().with_evs(39);
     let state = State {
+        settings,
         low: 14,
         next: 15,
         held: 16,
@@ -60,7 +68,7 @@ fn some_words_by_number() {
         ..State::default()
     };
     let words = words_of(&state);
-    for i in [14, 15, 16, 17, 18, 22, 36, 37] {
+    for i in [14, 15, 16, 17, 18, 22, 36, 37, 39] {
         assert_eq!(words[i], i as u64);
     }
     assert_eq!((words[21], words[38]), (16_777_211, 3));

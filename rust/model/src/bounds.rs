@@ -25,7 +25,11 @@ pub const RESENT_MAX: u8 = 2;
 
 pub const CAPACITY_MIN: usize = 64;
 pub const CAPACITY_MAX: usize = 4096;
-pub const EVS: usize = 256;
+/// The least number of EVs, and the greatest. It is a power of two.
+pub const EVS_MIN: u32 = 256;
+pub const EVS_MAX: u32 = 4096;
+/// The number of EVs where a settings record tells none.
+pub const EVS_USUAL: u32 = 256;
 
 pub const SAMPLE_MAX: u64 = 1 << 20;
 /// The average is held in this part of a tick.

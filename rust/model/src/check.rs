@@ -2,15 +2,15 @@
 //! may rely on those before it, so that none can overflow or leave a slice.
 
 use crate::bounds::{
-    AVG_MAX, BACKLOG_MAX, COUNT_END, EVS, INC_BYTES_MAX, IN_FLIGHT_MIN, LATER_END, RESENT_MAX,
-    SIZE_MIN, TALLY_MAX, TIME_END,
+    AVG_MAX, BACKLOG_MAX, COUNT_END, INC_BYTES_MAX, IN_FLIGHT_MIN, LATER_END, RESENT_MAX, SIZE_MIN,
+    TALLY_MAX, TIME_END,
 };
 use crate::lent::{Lent, DONE, FLYING, MARKED};
 use crate::state::State;
 
 /// True when nothing that number 2 names is wrong.
 pub fn number_two(state: &State, lent: &Lent) -> bool {
-    lent.lengths_good()
+    lent.lengths_good(state.settings.ev_count)
         && state.settings.in_range()
         && numbers_good(state)
         && times_good(state, lent)
@@ -35,7 +35,7 @@ fn numbers_good(state: &State) -> bool {
         && state.inc_bytes <= INC_BYTES_MAX
         && tallies.iter().all(|&tally| tally <= TALLY_MAX)
         && state.bytes_to_ignore <= settings.max_wnd
-        && state.cursor < EVS as u64
+        && state.cursor < settings.ev_count.into()
 }
 
 fn times_good(state: &State, lent: &Lent) -> bool {

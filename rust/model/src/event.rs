@@ -4,7 +4,7 @@
 //!
 //! Within an event all refusals are tested, in the order of 01, before anything changes.
 
-use crate::bounds::{BACKLOG_MAX, COUNT_END, EVS, SIZE_MIN, TIME_END, UNIT};
+use crate::bounds::{BACKLOG_MAX, COUNT_END, SIZE_MIN, TIME_END, UNIT};
 use crate::check::number_two;
 use crate::ledger::covers;
 use crate::lent::{Lent, FLYING, MARKED};
@@ -115,7 +115,7 @@ impl From<Loss> for Event {
 #[derive(Clone, Copy, Debug, Default, PartialEq, Eq)]
 pub struct Outcome {
     pub number: u8,
-    pub ev: Option<u8>,
+    pub ev: Option<u16>,
     pub sampling: Option<Sampling>,
 }
 
@@ -137,7 +137,7 @@ impl State {
         if !settings.in_range() {
             return (Refusal::Setting.number(), State::default());
         }
-        if !lent.lengths_good() {
+        if !lent.lengths_good(settings.ev_count) {
             return (Refusal::NotTogether.number(), State::default());
         }
         lent.clear();
@@ -227,7 +227,7 @@ impl State {
     }
 }
 
-fn path_outcome(answer: Result<u8, Refusal>) -> Outcome {
+fn path_outcome(answer: Result<u16, Refusal>) -> Outcome {
     match answer {
         Ok(ev) => Outcome {
             ev: Some(ev),
@@ -297,7 +297,7 @@ impl State {
         let now = event.time;
         self.time_allowed(now)?;
         Refusal::Count.unless(event.count < COUNT_END)?;
-        ev_allowed(event.ev)?;
+        self.ev_allowed(event.ev)?;
         Refusal::Trigger.unless(covers(event.cum, event.map, event.trigger))?;
         Refusal::WrongAck.unless(self.names_sent(event.cum, event.map))?;
         let forward = self.forward_units(event.count);
@@ -323,7 +323,7 @@ impl State {
         let now = event.time;
         self.time_allowed(now)?;
         Refusal::Reason.unless(event.reason <= OTHER)?;
-        ev_allowed(event.ev)?;
+        self.ev_allowed(event.ev)?;
         let slot = self.lost_slot(lent, event.psn)?;
 
         let base_before = self.base;
@@ -346,7 +346,7 @@ impl State {
     fn try_loss(&mut self, lent: &mut Lent, event: &Loss) -> Result<(), Refusal> {
         let now = event.time;
         self.time_allowed(now)?;
-        ev_allowed(event.ev)?;
+        self.ev_allowed(event.ev)?;
         let slot = self.lost_slot(lent, event.psn)?;
 
         let size = self.mark(lent, slot);
@@ -357,7 +357,7 @@ impl State {
         Ok(())
     }
 
-    fn try_path(&mut self, lent: &Lent, time: u64) -> Result<u8, Refusal> {
+    fn try_path(&mut self, lent: &Lent, time: u64) -> Result<u16, Refusal> {
         self.time_allowed(time)?;
 
         let ev = self.take_path(lent, time);
@@ -373,6 +373,10 @@ impl State {
         Refusal::Time.unless(self.clock <= time && time < TIME_END)
     }
 
+    fn ev_allowed(&self, ev: u16) -> Result<(), Refusal> {
+        Refusal::Ev.unless(u32::from(ev) < self.settings.ev_count)
+    }
+
     /// The slot of a flying packet that in-flight allows to be taken out as lost.
     fn lost_slot(&self, lent: &Lent, psn: u32) -> Result<usize, Refusal> {
         let slot = self
@@ -386,8 +390,4 @@ impl State {
         self.clock = now;
         self.name = self.ruled_name();
     }
-}
-
-fn ev_allowed(ev: u16) -> Result<(), Refusal> {
-    Refusal::Ev.unless(usize::from(ev) < EVS)
 }

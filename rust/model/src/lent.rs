@@ -1,4 +1,4 @@
-use crate::bounds::{CAPACITY_MAX, CAPACITY_MIN, EVS};
+use crate::bounds::{CAPACITY_MAX, CAPACITY_MIN, EVS_USUAL};
 
 /// Slot of no packet.
 pub const EMPTY: u8 = 0;
@@ -9,7 +9,7 @@ pub const MARKED: u8 = 2;
 /// Covered by an ACK; kept until `low` has passed it.
 pub const DONE: u8 = 3;
 
-/// The lent memory: the ring as four slices of one length, and the 256 EV times.
+/// The lent memory: the ring as four slices of one length, and a time for each EV.
 #[derive(Debug, PartialEq, Eq)]
 pub struct Lent<'a> {
     pub status: &'a mut [u8],
@@ -24,14 +24,15 @@ impl Lent<'_> {
         self.status.len()
     }
 
-    pub fn lengths_good(&self) -> bool {
+    /// The lengths are a ring's and those of so many EVs.
+    pub fn lengths_good(&self, ev_count: u32) -> bool {
         let capacity = self.capacity();
         capacity.is_power_of_two()
             && (CAPACITY_MIN..=CAPACITY_MAX).contains(&capacity)
             && self.size.len() == capacity
             && self.sent.len() == capacity
             && self.resent.len() == capacity
-            && self.ev_times.len() == EVS
+            && self.ev_times.len() == ev_count as usize
     }
 
     /// Where PSN `psn` lives. The capacity must be a power of two.
@@ -73,13 +74,18 @@ pub struct Memory {
 }
 
 impl Memory {
+    /// A ring of so many slots, and 256 EV times.
     pub fn new(capacity: usize) -> Memory {
+        Memory::with_evs(capacity, EVS_USUAL as usize)
+    }
+
+    pub fn with_evs(capacity: usize, evs: usize) -> Memory {
         Memory {
             status: vec![EMPTY; capacity],
             size: vec![0; capacity],
             sent: vec![0; capacity],
             resent: vec![0; capacity],
-            ev_times: vec![0; EVS],
+            ev_times: vec![0; evs],
         }
     }
 

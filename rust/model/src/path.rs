@@ -1,12 +1,11 @@
 //! The next path of 01. An EV is avoided while its time is after now.
 
-use crate::bounds::EVS;
 use crate::lent::Lent;
 use crate::state::State;
 
 impl State {
     /// Takes the next EV and moves the cursor behind it.
-    pub(crate) fn take_path(&mut self, lent: &Lent, now: u64) -> u8 {
+    pub(crate) fn take_path(&mut self, lent: &Lent, now: u64) -> u16 {
         let cursor = self.cursor as usize;
         // A cursor that is not avoided is taken in either case, and saves the counting.
         let cursor_free = lent.ev_times[cursor] <= now;
@@ -15,14 +14,14 @@ impl State {
         } else {
             first_free(lent, now, cursor)
         };
-        self.cursor = (ev as u64 + 1) % EVS as u64;
-        ev as u8
+        self.cursor = (ev as u64 + 1) % u64::from(self.settings.ev_count);
+        ev as u16
     }
 }
 
 fn mostly_avoided(lent: &Lent, now: u64) -> bool {
     let avoided = lent.ev_times.iter().filter(|&&time| time > now).count();
-    2 * avoided > EVS
+    2 * avoided > lent.ev_times.len()
 }
 
 /// The first EV from the cursor on, circularly, that is not avoided.

@@ -1,3 +1,4 @@
+use crate::bounds::{EVS_MAX, EVS_MIN, EVS_USUAL};
 use std::ops::RangeInclusive;
 
 /// The settings of a context, in the order of 01.
@@ -18,10 +19,12 @@ pub struct Settings {
     pub qa_threshold: u64,
     pub first_psn: u32,
     pub quick_adapt_off: bool,
+    /// How many EVs there are (M-110).
+    pub ev_count: u32,
 }
 
 impl Settings {
-    /// From the twelve numbers in the order of 01.
+    /// From the twelve numbers in the order of 01, with 256 EVs.
     pub fn from_numbers(numbers: [u64; 12], first_psn: u32, quick_adapt_off: bool) -> Settings {
         Settings {
             mtu: numbers[0],
@@ -38,7 +41,13 @@ impl Settings {
             qa_threshold: numbers[11],
             first_psn,
             quick_adapt_off,
+            ev_count: EVS_USUAL,
         }
+    }
+
+    /// The same with so many EVs.
+    pub fn with_evs(self, ev_count: u32) -> Settings {
+        Settings { ev_count, ..self }
     }
 
     /// The twelve numbers in the order of 01.
@@ -83,5 +92,11 @@ impl Settings {
             .iter()
             .zip(self.numbers())
             .all(|(range, number)| range.contains(&number))
+            && Settings::evs_allowed(self.ev_count)
+    }
+
+    /// A power of two from 256 to 4,096.
+    pub fn evs_allowed(ev_count: u32) -> bool {
+        ev_count.is_power_of_two() && (EVS_MIN..=EVS_MAX).contains(&ev_count)
     }
 }

@@ -3,7 +3,7 @@ use crate::raw::Lent;
 use crate::refusal::{answer, Refusal};
 use crate::sample::{sampled, Sample};
 use crate::word::{
-    PartWord, Phase, PlaceWord, Word, EVS, IN_FLIGHT_ADDED, PART, PIECE, PLACE, WORDS,
+    PartWord, Phase, PlaceWord, Word, EVS_MAX, EVS_MIN, IN_FLIGHT_ADDED, PART, PIECE, PLACE, WORDS,
 };
 
 /// One congestion control context with its memory: the state's words, the ring and the EV times.
@@ -70,25 +70,33 @@ impl Part {
 }
 
 impl Context {
-    /// Memory of zeros, to be set up by a log's first record.
+    /// Memory of zeros, to be set up by a log's first record that asks for 256 EVs.
     pub fn empty(capacity: usize) -> Context {
+        Context::with_evs(capacity, EVS_MIN as usize)
+    }
+
+    /// Memory of zeros for a log that asks for so many EVs.
+    pub fn with_evs(capacity: usize, evs: usize) -> Context {
         Context {
             words: vec![0; WORDS],
             status: vec![0; capacity],
             size: vec![0; capacity],
             sent: vec![0; capacity],
             resent: vec![0; capacity],
-            evs: vec![0; EVS],
+            evs: vec![0; evs],
         }
     }
 
     /// The capacity of the ring is a power of two, 64..4,096.
     pub fn set_up(settings: &Settings, capacity: usize) -> Result<Context, Refusal> {
-        let mut context = Context::empty(capacity);
+        // A count that is not allowed is refused, whatever is lent.
+        let evs = settings.ev_count.min(EVS_MAX) as usize;
+        let mut context = Context::with_evs(capacity, evs);
         let number = context.lend().set_up(
             &settings.numbers(),
             settings.first_psn,
             settings.quick_adapt_off,
+            settings.ev_count,
         );
         accepted(number).map(|()| context)
     }
@@ -128,7 +136,7 @@ impl Context {
     }
 
     /// The EV of the next path.
-    pub fn path(&mut self, time: u64) -> Result<u8, Refusal> {
+    pub fn path(&mut self, time: u64) -> Result<u32, Refusal> {
         answer(self.lend().path(time))
     }
 

@@ -17,6 +17,7 @@ pub struct Settings {
     pub qa_threshold: u64,
     pub first_psn: u32,
     pub quick_adapt_off: bool,
+    pub ev_count: u32,
 }
 
 impl Settings {

@@ -15,5 +15,6 @@ pub use event::{Ack, Nack, Settings};
 pub use refusal::{answer, Refusal};
 pub use sample::{sampled, Sample};
 pub use word::{
-    PartWord, Phase, PlaceWord, Word, EVS, IN_FLIGHT_ADDED, PART, PIECE, PLACE, SETTINGS, WORDS,
+    PartWord, Phase, PlaceWord, Word, EVS_MAX, EVS_MIN, IN_FLIGHT_ADDED, PART, PIECE, PLACE,
+    SETTINGS, WORDS,
 };

@@ -72,7 +72,7 @@ impl fmt::Display for Refusal {
             Refusal::Bytes => "new data of 0 bytes, or a backlog over 2^40",
             Refusal::Count => "a received count of 2^24 or more",
             Refusal::Reason => "a NACK's reason over 2",
-            Refusal::Ev => "an EV over 255",
+            Refusal::Ev => "an EV that is not below the EV count",
             Refusal::Trigger => "an ACK does not cover its trigger",
             Refusal::TooLong => "a log would have 2^48 bytes or more",
         };
@@ -85,9 +85,9 @@ impl Error for Refusal {}
 /// What an answer says that has the number in its low 32 bits, and above them the EV of an accepted
 /// path choice or the number of an accepted ACK's or NACK's [`Sample`](crate::Sample) (0 in all
 /// others).
-pub fn answer(word: u64) -> Result<u8, Refusal> {
+pub fn answer(word: u64) -> Result<u32, Refusal> {
     match word as u32 {
-        0 => Ok((word >> 32) as u8),
+        0 => Ok((word >> 32) as u32),
         // The library is proved to answer with no other number.
         number => Err(Refusal::of(number).expect("a number of the header")),
     }

@@ -25,8 +25,9 @@ impl Sample {
     }
 
     /// `None` for 0, which answers other than of an accepted ACK or NACK have, and beyond 5.
-    pub fn of(number: u8) -> Option<Sample> {
-        Sample::ALL.into_iter().find(|s| s.number() == number)
+    pub fn of(number: u32) -> Option<Sample> {
+        let mut all = Sample::ALL.into_iter();
+        all.find(|sample| u32::from(sample.number()) == number)
     }
 }
 

@@ -46,6 +46,8 @@ pub enum Word {
     Cursor,
     /// A [`Phase`].
     Phase,
+    /// A power of two, [`EVS_MIN`]..[`EVS_MAX`].
+    EvCount,
 }
 
 impl Word {
@@ -89,6 +91,7 @@ impl Word {
         Word::Clock,
         Word::Cursor,
         Word::Phase,
+        Word::EvCount,
     ];
 }
 
@@ -122,7 +125,7 @@ pub enum Phase {
 }
 
 impl Phase {
-    /// Of the state's last word; `None` for a word that no state has.
+    /// Of the word [`Word::Phase`]; `None` for a word that no state has.
     pub fn of(word: u64) -> Option<Phase> {
         match word {
             0 => Some(Phase::Idle),
@@ -137,14 +140,15 @@ impl Phase {
 /// How many settings there are.
 pub const SETTINGS: usize = 12;
 /// How many words a state has.
-pub const WORDS: usize = 39;
+pub const WORDS: usize = 40;
 /// How many words a place has.
 pub const PLACE: usize = 4;
 /// How many words a log that comes in chunks has.
 pub const PART: usize = 6;
 /// How many bytes the room of its piece has.
-pub const PIECE: usize = 57;
-/// How many EV times there are.
-pub const EVS: usize = 256;
+pub const PIECE: usize = 61;
+/// The least EV count, and the greatest. It is a power of two.
+pub const EVS_MIN: u32 = 256;
+pub const EVS_MAX: u32 = 4096;
 /// What is added to in-flight in its word, since in-flight may be below zero.
 pub const IN_FLIGHT_ADDED: i64 = 1 << 24;

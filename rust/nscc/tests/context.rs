@@ -22,6 +22,7 @@ fn e() -> Settings {
         qa_threshold: 288,
         first_psn: 0,
         quick_adapt_off: false,
+        ev_count: 256,
     }
 }
 
@@ -127,7 +128,7 @@ fn answers() {
     for sample in Sample::ALL {
         let word = u64::from(sample.number()) << 32;
         assert_eq!(sampled(word), Ok(sample));
-        assert_eq!(answer(word), Ok(sample.number()));
+        assert_eq!(answer(word), Ok(sample.number().into()));
     }
     assert_eq!(sampled(9), Err(Refusal::UnsentOrOld));
     assert_eq!((Sample::of(0), Sample::of(6)), (None, None));
@@ -170,9 +171,56 @@ fn refused_settings_and_lengths() {
     let small = Settings { mtu: 1023, ..e() };
     assert_eq!(Context::set_up(&small, 64), Err(Refusal::Setting));
     assert_eq!(Context::set_up(&e(), 96), Err(Refusal::Unsound));
+    for ev_count in [0, 255, 300, 8192, u32::MAX] {
+        let odd = Settings { ev_count, ..e() };
+        assert_eq!(Context::set_up(&odd, 64), Err(Refusal::Setting));
+    }
     let mut context = Context::set_up(&e(), 64).expect("good settings");
     context.words[Word::Cwnd as usize] = 0;
     assert_eq!(context.path(0), Err(Refusal::Unsound));
+}
+
+/// The last EV, the first past it, and the cursor behind the last.
+#[test]
+fn more_evs() {
+    for ev_count in [256, 512, 1024, 2048, 4096] {
+        let settings = Settings { ev_count, ..e() };
+        let mut context = Context::set_up(&settings, 64).expect("good settings");
+        assert_eq!(context.evs.len(), ev_count as usize);
+        assert_eq!(context.word(Word::EvCount), ev_count.into());
+        assert_eq!(context.new_data(0, 100), Ok(()));
+        assert_eq!(context.send(0, 0, 100, false), Ok(()));
+        assert_eq!(context.loss(0, 0, ev_count), Err(Refusal::Ev));
+        assert_eq!(context.loss(0, 0, ev_count - 1), Ok(()));
+        assert_eq!(context.evs[ev_count as usize - 1], 96);
+        context.words[Word::Cursor as usize] = u64::from(ev_count) - 1;
+        assert_eq!(context.path(96), Ok(ev_count - 1));
+        assert_eq!(context.path(96), Ok(0));
+        context.words[Word::EvCount as usize] *= 2;
+        assert_eq!(context.path(96), Err(Refusal::Unsound));
+    }
+}
+
+/// Settings that ask for 512 EVs, and a path choice: 73 bytes.
+#[test]
+fn a_log_with_more_evs() {
+    let log = small_log();
+    let evs = 512u32.to_le_bytes();
+    let log = [&[59, 0, 16, 0], &log[4..57], &evs, &log[57..69]].concat();
+    let mut answers = [9; 2];
+    let mut context = Context::with_evs(64, 512);
+    let replayed = context.replay(&mut Place::default(), &log, &mut answers);
+    assert_eq!((replayed, answers.map(answer)), (Ok(2), [Ok(0), Ok(0)]));
+    assert_eq!(context.word(Word::EvCount), 512);
+    // Other times are lent: the settings are refused, and nothing more is replayed.
+    let mut place = Place::default();
+    let mut context = Context::empty(64);
+    let replayed = context.replay(&mut place, &log, &mut answers);
+    assert_eq!(
+        (replayed, answer(answers[0])),
+        (Ok(1), Err(Refusal::Unsound))
+    );
+    assert!(place.stopped());
 }
 
 /// Settings, a path choice and a cut end: 71 bytes.
@@ -214,7 +262,7 @@ fn a_log_in_chunks() {
     assert_eq!(context.chunk(&mut part, front, false, &mut answers), Ok(0));
     assert_eq!((part.taken(), part.word(PartWord::Piece)), (40, 40));
     assert_eq!(part.piece[..40], *front);
-    assert_eq!(part.piece[40..], [0; 17]);
+    assert_eq!(part.piece[40..], [0; 21]);
     assert_eq!(answers, [9]);
     // Room for the settings' answer alone: 17 bytes are taken, the others are handed in again.
     assert_eq!(context.chunk(&mut part, back, false, &mut answers), Ok(1));
@@ -229,7 +277,7 @@ fn a_log_in_chunks() {
     assert_eq!(answer(answers[0]), Err(Refusal::Malformed));
     assert!(part.stopped());
     let [at, done] = [PartWord::At, PartWord::Done].map(|word| part.word(word));
-    assert_eq!((at, done, part.piece), (69, 2, [0; 57]));
+    assert_eq!((at, done, part.piece), (69, 2, [0; 61]));
     assert_eq!(context.chunk(&mut part, &log, false, &mut answers), Ok(0));
     assert_eq!(part.taken(), log.len());
     assert_eq!(context.word(Word::Cursor), 1);
@@ -244,7 +292,7 @@ fn refused_chunks() {
     let before = part;
     assert_eq!(chunk(&mut part), Err(Refusal::TooLong));
     assert_eq!(part, before);
-    part.words[PartWord::Piece as usize] = 58;
+    part.words[PartWord::Piece as usize] = 62;
     let before = part;
     assert_eq!(chunk(&mut part), Err(Refusal::Unsound));
     assert_eq!(part, before);

@@ -1,8 +1,8 @@
 //! The names and numbers of the wrapper are those of `include/nscc.h`.
 
 use nscc::{
-    PartWord, PlaceWord, Refusal, Sample, Word, EVS, IN_FLIGHT_ADDED, PART, PIECE, PLACE, SETTINGS,
-    WORDS,
+    PartWord, PlaceWord, Refusal, Sample, Word, EVS_MAX, EVS_MIN, IN_FLIGHT_ADDED, PART, PIECE,
+    PLACE, SETTINGS, WORDS,
 };
 use std::fmt::Debug;
 
@@ -108,7 +108,8 @@ fn samples() {
 
 #[test]
 fn numbers() {
-    assert!(HEADER.contains(&format!("#define NSCC_EVS {EVS}\n")));
+    assert!(HEADER.contains(&format!("#define NSCC_EVS_MIN {EVS_MIN}\n")));
+    assert!(HEADER.contains(&format!("#define NSCC_EVS_MAX {EVS_MAX}\n")));
     assert!(HEADER.contains(&format!("#define NSCC_PIECE {PIECE}\n")));
     let added = format!("#define NSCC_IN_FLIGHT_ADDED {IN_FLIGHT_ADDED}\n");
     assert!(HEADER.contains(&added));

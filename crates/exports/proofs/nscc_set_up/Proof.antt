@@ -5,7 +5,7 @@ use Rattle.exports.proofs.nscc_set_up.Statement.{statement}
 use Rattle.exports.proofs.nscc_set_up.Tie as tie
 
 returns : tie.Need-returns
-returns c = few-settings _ _ _ _ _ _ (c .if1 .taken)
+returns c = few-settings _ _ _ _ _ _ _ (c .if1 .taken)
 
 settings-of-requires : tie.Need-settings-of-requires
 settings-of-requires c κs = search needs
@@ -15,11 +15,11 @@ in-range-requires c κs = search needs
 
 returns-2 : tie.Need-returns-2
 returns-2 c =
-    out-of-range _ _ _ _ _ _ (c .before .before .before .if1 .left) _ (c .before .before .settings-of .ensures) _ (c .before .in-range .ensures) (c .if2 .taken)
+    out-of-range _ _ _ _ _ _ _ (c .before .before .before .if1 .left) _ (c .before .before .settings-of .ensures) _ (c .before .in-range .ensures) (c .if2 .taken)
 
 returns-3 : tie.Need-returns-3
 returns-3 c =
-    wrong-words _ _ _ _ _ _ (c .before .before .before .before .if1 .left) _ (c .before .before .before .settings-of .ensures) _ (c .before .before .in-range .ensures) (c .before .if2 .left) (c .if3 .taken)
+    wrong-words _ _ _ _ _ _ _ (c .before .before .before .before .if1 .left) _ (c .before .before .before .settings-of .ensures) _ (c .before .before .in-range .ensures) (c .before .if2 .left) (c .if3 .taken)
 
 set-up-requires : tie.Need-set-up-requires
 set-up-requires c κs = search needs
@@ -55,7 +55,7 @@ returns-4 : tie.Need-returns-4
 returns-4 c =
     let a = c .before .before .before .before .before .before .before .before .before .before .before .before .before .before .before .before in
     let e = a .before .before .before .before .before .before in
-    set-up-on _ _ _ _ _ _ (e .before .before .before .before .if1 .left) _ (e .before .before .before .settings-of .ensures) _ (e .before .before .in-range .ensures) (e .before .if2 .left) (e .if3 .left)
+    set-up-on _ _ _ _ _ _ _ (e .before .before .before .before .if1 .left) _ (e .before .before .before .settings-of .ensures) _ (e .before .before .in-range .ensures) (e .before .if2 .left) (e .if3 .left)
     _ _ _ (a .set-up .ensures) _ _ (c .before .before .before .before .number-of .ensures, c .before .before .keep .ensures)
 
 pub nscc-set-up-spec : {M : Type 1} → statement M

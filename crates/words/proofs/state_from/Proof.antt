@@ -13,6 +13,9 @@ cast-settings-of c = search needs
 shared-slice-read-settings-of-2 : tie.Need-shared-slice-read-settings-of-2
 shared-slice-read-settings-of-2 c = search needs
 
+shared-slice-read-settings-of-3 : tie.Need-shared-slice-read-settings-of-3
+shared-slice-read-settings-of-3 c = search needs
+
 settings-of-requires : tie.Need-settings-of-requires
 settings-of-requires c κs = search needs
 
@@ -25,14 +28,14 @@ totals-from-requires c κs = search needs
 window-from-requires : tie.Need-window-from-requires
 window-from-requires c κs = search needs
 
-shared-slice-read-t13 : tie.Need-shared-slice-read-t13
-shared-slice-read-t13 c = search needs
-
 shared-slice-read-t15 : tie.Need-shared-slice-read-t15
 shared-slice-read-t15 c = search needs
 
-cast-t16 : tie.Need-cast-t16
-cast-t16 c = search needs
+shared-slice-read-t17 : tie.Need-shared-slice-read-t17
+shared-slice-read-t17 c = search needs
+
+cast-t18 : tie.Need-cast-t18
+cast-t18 c = search needs
 
 shared-slice-read-phase-from : tie.Need-shared-slice-read-phase-from
 shared-slice-read-phase-from c = search needs
@@ -58,13 +61,14 @@ state-from-spec =
     shared-slice-read-settings-of
     cast-settings-of
     shared-slice-read-settings-of-2
+    shared-slice-read-settings-of-3
     settings-of-requires
     flow-from-requires
     totals-from-requires
     window-from-requires
-    shared-slice-read-t13
     shared-slice-read-t15
-    cast-t16
+    shared-slice-read-t17
+    cast-t18
     shared-slice-read-phase-from
     phase-from-requires
     returns)

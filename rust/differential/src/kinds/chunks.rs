@@ -2,7 +2,7 @@ use super::capacity;
 use super::replay::report;
 use super::streams::used;
 use crate::call::answer_of;
-use crate::logs::{damage, generated, long, CAPACITY, LONG_EVERY};
+use crate::logs::{damage, evs_for, generated, long, CAPACITY, LONG_EVERY};
 use crate::numbers::edge;
 use crate::sides::{same, Fenced, Model, Ours, ODD};
 use crate::spoil::{spoil, spoil_length};
@@ -29,7 +29,8 @@ pub fn run(seed: u64, tally: &mut Tally) -> Result<(), String> {
             capacity(&mut rng),
         )
     };
-    let start = used(&mut rng, capacity);
+    let evs = evs_for(&mut rng, &log);
+    let start = used(&mut rng, capacity, evs);
     let cuts = rng.next_u64();
     tally.cases += 1;
     compare(&log, &start, cuts, tally).map_err(|difference| {
@@ -208,7 +209,7 @@ impl Chunks {
         let any = edge(rng) as u8;
         let i = rng.below(self.piece.len() as u64) as usize;
         if let Some(byte) = self.piece.get_mut(i) {
-            *byte = rng.pick(&[0, 1, 6, 10, 16, any]);
+            *byte = rng.pick(&[0, 1, 6, 10, 16, 55, 59, any]);
         }
     }
 

@@ -3,6 +3,7 @@ use crate::logs::{generated, CAPACITY};
 use crate::session::Session;
 use crate::sides::Model;
 use crate::tally::Tally;
+use model::replay::evs_lent;
 use model::{Reader, Rng};
 
 /// The records as calls, up to the first that is malformed.
@@ -10,7 +11,7 @@ pub fn run(seed: u64, tally: &mut Tally) -> Result<(), String> {
     let mut rng = Rng::new(seed);
     let log = generated(&mut rng, 1_500);
     let mut reader = Reader::new(&log);
-    let mut session = Session::new(Model::empty(CAPACITY));
+    let mut session = Session::new(Model::with_evs(CAPACITY, evs_lent(&log)));
     tally.cases += 1;
     while let Ok(Some(record)) = reader.next_record() {
         let settings = record.settings().map(|settings| Call::set_up(&settings));

@@ -1,7 +1,7 @@
 use super::capacity;
 use super::streams::used;
 use crate::call::answer_of;
-use crate::logs::{damage, generated, long, pieces, CAPACITY, LONG_EVERY};
+use crate::logs::{damage, evs_for, generated, long, pieces, CAPACITY, LONG_EVERY};
 use crate::numbers::edge;
 use crate::shorten::{prefix, thin};
 use crate::sides::{Model, Ours};
@@ -29,7 +29,8 @@ pub fn run(seed: u64, tally: &mut Tally) -> Result<(), String> {
             capacity(&mut rng),
         )
     };
-    let start = used(&mut rng, capacity);
+    let evs = evs_for(&mut rng, &log);
+    let start = used(&mut rng, capacity, evs);
     let rooms = rng.next_u64();
     tally.cases += 1;
     compare(&log, &start, rooms, tally).map_err(|difference| {

@@ -1,7 +1,7 @@
 use super::capacity;
 use super::streams::used;
 use crate::call::Call;
-use crate::numbers::{edge, instead_of, settings};
+use crate::numbers::{any_ev_count, edge, instead_of, lent_evs, settings};
 use crate::session::Session;
 use crate::spoil::spoil_length;
 use crate::tally::Tally;
@@ -17,13 +17,14 @@ pub fn run(seed: u64, tally: &mut Tally) -> Result<(), String> {
 
 fn one(rng: &mut Rng, tally: &mut Tally) -> Result<(), String> {
     let capacity = capacity(rng);
-    let mut start = used(rng, capacity);
+    let (call, asked) = call(rng);
+    let evs = lent_evs(rng, asked);
+    let mut start = used(rng, capacity, evs);
     if rng.one_in(3) {
         spoil_length(rng, &mut start);
     }
     let mut session = Session::new(start);
     tally.cases += 1;
-    let call = call(rng);
     session.call(call, tally)?;
     // The fresh state, or what was refused, in use.
     for _ in 0..3 {
@@ -33,26 +34,25 @@ fn one(rng: &mut Rng, tally: &mut Tally) -> Result<(), String> {
     Ok(())
 }
 
-/// Settings of which none, one or all are spoilt, or are too few or too many.
-fn call(rng: &mut Rng) -> Call {
+/// Settings of which none, one or all are spoilt, or are too few or too many; and their EV count.
+fn call(rng: &mut Rng) -> (Call, u32) {
     let good = settings(rng, true);
     let mut numbers = good.numbers();
-    match rng.below(8) {
+    let mut evs = good.ev_count;
+    match rng.below(10) {
         0..=4 => beyond(rng, &mut numbers),
         5 => numbers.fill_with(|| edge(rng)),
+        6 | 7 => evs = any_ev_count(rng),
         _ => {}
     }
-    let mut call = Call::set_up(&Settings::from_numbers(
-        numbers,
-        good.first_psn,
-        good.quick_adapt_off,
-    ));
+    let spoilt = Settings::from_numbers(numbers, good.first_psn, good.quick_adapt_off);
+    let mut call = Call::set_up(&spoilt.with_evs(evs));
     if let Call::SetUp { settings, .. } = &mut call {
         if good.numbers() == numbers && rng.one_in(4) {
             settings.resize(rng.pick(&[0, 1, 11, 13, 24]), 1_024);
         }
     }
-    call
+    (call, evs)
 }
 
 /// One number at an edge of its range or beyond it.

@@ -33,7 +33,7 @@ fn on_stream(mut rng: Rng, tally: &mut Tally) -> Result<(), String> {
     let profile = rng.pick(&PROFILES);
     let settings = profile.settings(&mut rng);
     let capacity = capacity(&mut rng);
-    let mut model = Model::empty(capacity);
+    let mut model = Model::with_evs(capacity, settings.ev_count as usize);
     model.answer(&Call::set_up(&settings));
     let mut source = Source { rng, profile };
     for _ in 0..100 {

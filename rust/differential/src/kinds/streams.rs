@@ -17,7 +17,8 @@ pub fn run(seed: u64, tally: &mut Tally) -> Result<(), String> {
     let profile = PROFILES[turn % PROFILES.len()];
     let (capacity, calls) = SIZES[(turn + turn / PROFILES.len()) % SIZES.len()];
     let settings = profile.settings(&mut rng);
-    let mut session = Session::new(used(&mut rng, capacity));
+    let evs = settings.ev_count as usize;
+    let mut session = Session::new(used(&mut rng, capacity, evs));
     let mut source = Source { rng, profile };
     tally.cases += 1;
     session.call(Call::set_up(&settings), tally)?;
@@ -31,8 +32,8 @@ pub fn run(seed: u64, tally: &mut Tally) -> Result<(), String> {
 }
 
 /// Memory with something in it, which setting up has to clear.
-pub fn used(rng: &mut Rng, capacity: usize) -> Model {
-    let mut model = Model::empty(capacity);
+pub fn used(rng: &mut Rng, capacity: usize, evs: usize) -> Model {
+    let mut model = Model::with_evs(capacity, evs);
     let memory = &mut model.memory;
     for _ in 0..16 {
         let slot = rng.below(capacity as u64) as usize;
@@ -40,7 +41,10 @@ pub fn used(rng: &mut Rng, capacity: usize) -> Model {
         memory.size[slot] = edge(rng) as u32;
         memory.sent[slot] = edge(rng);
         memory.resent[slot] = edge(rng) as u8;
-        memory.ev_times[rng.below(256) as usize] = edge(rng);
+        let ev = rng.below(evs as u64) as usize;
+        if let Some(time) = memory.ev_times.get_mut(ev) {
+            *time = edge(rng);
+        }
     }
     model.words.fill_with(|| edge(rng));
     model

@@ -3,7 +3,7 @@
 
 use super::traffic::Sim;
 use super::{first_psn, settings_record, E};
-use crate::bounds::{BACKLOG_MAX, COUNT_END, IN_FLIGHT_MIN, PSN_REACH, TIME_END};
+use crate::bounds::{BACKLOG_MAX, COUNT_END, EVS_USUAL, IN_FLIGHT_MIN, PSN_REACH, TIME_END};
 use crate::log::{append, Record};
 use crate::replay::CAPACITY;
 use crate::rng::Rng;
@@ -56,7 +56,8 @@ fn settings(rng: &mut Rng) -> Settings {
         };
     }
     let quick_adapt_off = rng.one_in(4);
-    Settings::from_numbers(numbers, first_psn(rng), quick_adapt_off)
+    let settings = Settings::from_numbers(numbers, first_psn(rng), quick_adapt_off);
+    settings.with_evs(rng.pick(&[256, 256, 256, 512, 1_024, 2_048, 4_096]))
 }
 
 /// A log whose record 1 is refused, or that is empty.
@@ -69,12 +70,31 @@ fn bad_start(rng: &mut Rng, settings: Settings) -> Vec<u8> {
     } else {
         range.start().saturating_sub(1)
     };
-    let record = match rng.below(3) {
+    let out_of_range = Settings::from_numbers(numbers, 0, false);
+    let evs = settings.ev_count;
+    let first = match rng.below(6) {
         0 => return Vec::new(),
-        1 => Record::Path { time: 0 },
-        _ => settings_record(&Settings::from_numbers(numbers, 0, false)),
+        1 => bytes_of(&Record::Path { time: 0 }),
+        2 => bytes_of(&settings_record(&settings.with_evs(odd_count(rng)))),
+        3 => told_usual(&settings),
+        4 => told_usual(&out_of_range),
+        _ => bytes_of(&settings_record(&out_of_range.with_evs(evs))),
     };
-    [bytes_of(&record), bytes_of(&Record::Path { time: 1 })].concat()
+    [first, bytes_of(&Record::Path { time: 1 })].concat()
+}
+
+/// A number of EVs that is not allowed.
+fn odd_count(rng: &mut Rng) -> u32 {
+    let any = rng.next_u32() | 1;
+    rng.pick(&[0, 1, 128, 255, 257, 768, 4_095, 4_097, 8_192, 1 << 31, any])
+}
+
+/// Settings that say 256 EVs where they should say nothing.
+fn told_usual(settings: &Settings) -> Vec<u8> {
+    let mut bytes = bytes_of(&settings_record(&settings.with_evs(0)));
+    let end = bytes.len() - 4;
+    bytes[end..].copy_from_slice(&EVS_USUAL.to_le_bytes());
+    bytes
 }
 
 /// New data until the backlog is near its bound.
@@ -170,8 +190,11 @@ fn edge_psn(sim: &mut Sim) -> u32 {
 }
 
 fn edge_ev(sim: &mut Sim) -> u16 {
-    let any = sim.rng.below(256) as u16;
-    sim.rng.pick(&[0, 255, 256, u16::MAX, any, any, any, any])
+    let evs = sim.state.settings.ev_count as u16;
+    let any = sim.rng.below(evs.into()) as u16;
+    let edges = [0, 255, 256, evs - 1, evs, u16::MAX];
+    let edge = sim.rng.pick(&edges);
+    sim.rng.pick(&[edge, any])
 }
 
 fn edge_send(sim: &mut Sim, time: u64) -> Record {

@@ -4,7 +4,7 @@ mod hostile;
 mod traffic;
 
 pub use hostile::hostile;
-pub use traffic::{lossy, marked, narrow, traffic, winding};
+pub use traffic::{lossy, marked, narrow, traffic, wide, winding};
 
 use crate::bounds::{COUNT_END, UNIT};
 use crate::log::{append, Record, QUICK_ADAPT_OFF};
@@ -25,6 +25,7 @@ pub(crate) fn settings_record(settings: &Settings) -> Record {
         } else {
             0
         },
+        ev_count: settings.ev_count,
     }
 }
 

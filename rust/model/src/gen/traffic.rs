@@ -2,7 +2,7 @@
 //! queue, are marked, trimmed and lost, and a receiver that reports what arrives.
 
 use super::{first_psn, settings_record, E};
-use crate::bounds::{COUNT_END, SIZE_MIN, TIME_END, UNIT};
+use crate::bounds::{COUNT_END, EVS_USUAL, SIZE_MIN, TIME_END, UNIT};
 use crate::event::{Outcome, OTHER, TRIMMED, TRIMMED_LAST_HOP};
 use crate::lent::{Memory, FLYING, MARKED};
 use crate::log::{append, Record, M, RETX};
@@ -35,14 +35,27 @@ pub fn winding(seed: u64, records: usize) -> Vec<u8> {
     })
 }
 
+/// Winding traffic over more than 256 EVs: 512 to 4,096, by the seed.
+pub fn wide(seed: u64, records: usize) -> Vec<u8> {
+    let evs = EVS_USUAL << (1 + seed % 4);
+    run_over(evs, seed, records, |sim| {
+        sim.road.marks = 3;
+        sim.more_paths = 4;
+    })
+}
+
 /// Traffic for a ring of `capacity` slots, which must be a ring's and at most the program's.
 pub fn narrow(seed: u64, records: usize, capacity: usize) -> Vec<u8> {
     run(seed, records, |sim| sim.memory = Memory::new(capacity))
 }
 
 fn run(seed: u64, records: usize, shape: impl Fn(&mut Sim)) -> Vec<u8> {
+    run_over(EVS_USUAL, seed, records, shape)
+}
+
+fn run_over(evs: u32, seed: u64, records: usize, shape: impl Fn(&mut Sim)) -> Vec<u8> {
     let mut rng = Rng::new(seed);
-    let settings = settings(&mut rng);
+    let settings = settings(&mut rng).with_evs(evs);
     let start = rng.below(1 << 20);
     let mut sim = Sim::new(rng, settings, start, records);
     shape(&mut sim);
@@ -182,7 +195,7 @@ pub(super) struct Sim {
 impl Sim {
     /// The log starts with the settings, which must be good ones.
     pub fn new(mut rng: Rng, settings: Settings, now: u64, records: usize) -> Sim {
-        let mut memory = Memory::new(CAPACITY);
+        let mut memory = Memory::with_evs(CAPACITY, settings.ev_count as usize);
         let (_, state) = State::set_up(&settings, &mut memory.lend());
         let base = settings.config_base_rtt;
         let road = Road {
@@ -287,7 +300,7 @@ impl Sim {
         let paths = self.more_paths + u64::from(self.rng.one_in(2));
         for _ in 0..paths {
             let time = self.now;
-            self.ev = self.emit(Record::Path { time }).ev.unwrap_or(0).into();
+            self.ev = self.emit(Record::Path { time }).ev.unwrap_or(0);
         }
         let Some((psn, size, resend)) = self.next_packet() else {
             self.new_data();

@@ -5,6 +5,7 @@ mod basics;
 mod build;
 mod ceiling;
 mod class;
+mod evs;
 mod ledger;
 mod long;
 mod malformed;
@@ -38,6 +39,7 @@ pub fn bundled() -> Vec<Vector> {
         sampling::logs(),
         window::logs(),
         ceiling::logs(),
+        evs::logs(),
         malformed::logs(),
         long::logs(),
     ]

@@ -2,10 +2,11 @@
 
 use crate::example::{new_data, record, send, settings_e};
 use model::chunks::Taken;
+use model::replay::evs_lent;
 use model::{Chunk, Memory, Outcome, Part, Refusal, State};
 
 pub const LOG_END: u64 = 1 << 48;
-pub const PIECE: usize = 57;
+pub const PIECE: usize = 61;
 /// What stands in the answers' room before a call.
 const UNANSWERED: u8 = 99;
 
@@ -23,6 +24,14 @@ impl Side {
             part: Part::default(),
             state: State::default(),
             memory: Memory::new(64),
+        }
+    }
+
+    /// Lends as many EV times as the log asks for.
+    pub fn lending_to(log: &[u8]) -> Side {
+        Side {
+            memory: Memory::with_evs(64, evs_lent(log)),
+            ..Side::new()
         }
     }
 
@@ -123,23 +132,23 @@ fn a_full_room_leaves_what_is_unfinished() {
     }
 }
 
-/// Four records of 12 bytes and nine bytes of a fifth, answered one by one for no bytes.
+/// Five records of 12 bytes and a byte of a sixth, answered one by one for no bytes.
 #[test]
 fn a_piece_of_several_records() {
     let path = record(6, &[&9u64.to_le_bytes()]);
     let mut side = Side::set_up();
-    let bytes = path.repeat(5);
+    let bytes = path.repeat(6);
     side.part.piece.copy_from_slice(&bytes[..PIECE]);
     side.part.held = PIECE as u64;
-    for answered in 1..=4u64 {
+    for answered in 1..=5u64 {
         let (taken, answers) = side.take(&bytes[PIECE..], false, 1).unwrap();
-        assert_eq!((taken.bytes, answers[0].ev), (0, Some(answered as u8 - 1)));
+        assert_eq!((taken.bytes, answers[0].ev), (0, Some(answered as u16 - 1)));
         assert_eq!(side.part.held, PIECE as u64 - 12 * answered);
         assert_eq!(side.part.offset, 73 + 12 * answered);
     }
     let (taken, answers) = side.take(&bytes[PIECE..], true, 1).unwrap();
-    assert_eq!((taken.bytes, answers[0].ev), (3, Some(4)));
-    assert_eq!((side.part.held, side.part.done), (0, 7));
+    assert_eq!((taken.bytes, answers[0].ev), (11, Some(5)));
+    assert_eq!((side.part.held, side.part.done), (0, 8));
     side.silent(&[], true, 1);
 }
 
@@ -260,8 +269,8 @@ fn number_2_of_what_is_held() {
         let mut side = good.clone();
         side.part.stopped = stopped;
         for (change, sound) in [
-            ((|part| part.held = 57) as fn(&mut Part), true),
-            (|part| part.held = 58, false),
+            ((|part| part.held = 61) as fn(&mut Part), true),
+            (|part| part.held = 62, false),
             (|part| part.held = u64::MAX, false),
             (|part| part.offset = LOG_END - 1, true),
             (|part| part.offset = LOG_END, false),
@@ -312,7 +321,7 @@ fn number_2_of_the_context() {
 #[test]
 fn a_log_that_is_too_long() {
     for start in [Side::new(), Side::set_up()] {
-        for held in [0, 3, 57] {
+        for held in [0, 3, 61] {
             for many in [0u64, 1, 200] {
                 let mut side = start.clone();
                 side.part.held = held;

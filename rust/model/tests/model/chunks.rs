@@ -8,8 +8,8 @@ use model::replay::{Replay, HEADER};
 use model::vectors::bundled;
 use model::{gen, replay, Chunk, Outcome, Part, Rng};
 
-/// The lengths and kinds of 01.
-const PAIRS: [(u8, u8); 7] = [
+/// The lengths and kinds of 01 and M-110.
+const PAIRS: [(u8, u8); 8] = [
     (14, 1),
     (19, 2),
     (37, 3),
@@ -17,6 +17,7 @@ const PAIRS: [(u8, u8); 7] = [
     (16, 5),
     (10, 6),
     (55, 16),
+    (59, 16),
 ];
 
 /// An answer of the joined log.
@@ -54,7 +55,7 @@ fn joined(from: &Side, log: &[u8]) -> Joined {
             Err(12) => (12.into(), fault(log, start)),
             Err(number) => (number.into(), Some(replay.offset())),
         };
-        stopped = outcome.number == 12 || (from.part.done == 0 && outcome.number == 1);
+        stopped = outcome.number == 12 || matches!(outcome.number, 1 | 2);
         let end = if outcome.number == 12 {
             start
         } else {
@@ -98,7 +99,7 @@ struct Walk<'a> {
 
 impl<'a> Walk<'a> {
     fn new(log: &'a [u8]) -> Walk<'a> {
-        Walk::from(Side::new(), log)
+        Walk::from(Side::lending_to(log), log)
     }
 
     fn from(side: Side, log: &'a [u8]) -> Walk<'a> {
@@ -235,7 +236,8 @@ fn one_of_each_is_accepted() {
 #[test]
 fn small_logs_stop_in_every_way() {
     let logs = small_logs();
-    let all = logs.iter().map(|log| (log, joined(&Side::new(), log)));
+    let replayed = |log| joined(&Side::lending_to(log), log);
+    let all = logs.iter().map(|log| (log, replayed(log)));
     let (mut at_four, mut when_whole, mut at_the_end, mut by_1, mut never) = (0, 0, 0, 0, 0);
     for (log, joined) in all {
         let last = joined.told.last();
@@ -260,7 +262,7 @@ fn every_cut() {
             walk.hand_in(cut, false, 20);
             // What has come of the log, as if that were all: its whole records.
             let done = walk.side.part.offset as usize;
-            let prefix = joined(&Side::new(), &log[..done]).side;
+            let prefix = joined(&Side::lending_to(&log), &log[..done]).side;
             assert_eq!(
                 (walk.side.state, &walk.side.memory),
                 (prefix.state, &prefix.memory)
@@ -333,9 +335,10 @@ fn small_rooms() {
 fn any_log(rng: &mut Rng) -> Vec<u8> {
     let seed = rng.next_u64();
     let records = rng.pick(&[3, 20, 100]);
-    match rng.below(4) {
+    match rng.below(6) {
         0 => gen::narrow(seed, records, 64),
         1 => gen::lossy(seed, records),
+        2 => gen::wide(seed, records),
         _ => gen::hostile(seed, records),
     }
 }

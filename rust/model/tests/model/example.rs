@@ -12,11 +12,19 @@ pub fn record(kind: u16, fields: &[&[u8]]) -> Vec<u8> {
 }
 
 pub fn settings_e() -> Vec<u8> {
+    record(16, &[&numbers_e(), &[0]])
+}
+
+/// The longer record, which says how many EVs there are.
+pub fn settings_e_with(evs: u32) -> Vec<u8> {
+    record(16, &[&numbers_e(), &[0], &evs.to_le_bytes()])
+}
+
+fn numbers_e() -> Vec<u8> {
     let numbers: [u32; 13] = [
         4096, 614_400, 96, 72, 4096, 1024, 224, 819, 512, 96, 32_768, 288, 0,
     ];
-    let numbers: Vec<u8> = numbers.iter().flat_map(|n| n.to_le_bytes()).collect();
-    record(16, &[&numbers, &[0]])
+    numbers.iter().flat_map(|n| n.to_le_bytes()).collect()
 }
 
 pub fn new_data(time: u64, bytes: u32) -> Vec<u8> {

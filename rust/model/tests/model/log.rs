@@ -7,9 +7,23 @@ use model::{gen, parse, replay, write, Reader, Record, Refusal, Rng};
 const HEADER: &str = "rec ans inflight cwnd flying waiting backlog state\n";
 const FIRST: &str = "1 0 0 614400 0 0 0 IDLE\n";
 
-/// One record of each kind, every byte of it different where that is allowed.
-fn one_of_each() -> [Record; 7] {
+/// One record of each kind, settings in both lengths, every byte of it different where that is allowed.
+fn one_of_each() -> [Record; 8] {
     let time = 0x0807_0605_0403_0201;
+    let numbers = [
+        0x0403_0201,
+        0x0807_0605,
+        0x0c0b_0a09,
+        0x100f_0e0d,
+        0x1413_1211,
+        0x1817_1615,
+        0x1c1b_1a19,
+        0x201f_1e1d,
+        0x2423_2221,
+        0x2827_2625,
+        0x2c2b_2a29,
+        0x302f_2e2d,
+    ];
     [
         Record::NewData {
             time,
@@ -45,28 +59,22 @@ fn one_of_each() -> [Record; 7] {
         },
         Record::Path { time },
         Record::Settings {
-            numbers: [
-                0x0403_0201,
-                0x0807_0605,
-                0x0c0b_0a09,
-                0x100f_0e0d,
-                0x1413_1211,
-                0x1817_1615,
-                0x1c1b_1a19,
-                0x201f_1e1d,
-                0x2423_2221,
-                0x2827_2625,
-                0x2c2b_2a29,
-                0x302f_2e2d,
-            ],
+            numbers,
             first_psn: 0x3433_3231,
             flags: 1,
+            ev_count: 256,
+        },
+        Record::Settings {
+            numbers,
+            first_psn: 0x3433_3231,
+            flags: 0,
+            ev_count: 0x8483_8281,
         },
     ]
 }
 
 /// The bytes of the above: length and kind, then 1, 2, 3 and so on, and the last ones as given.
-fn expected_bytes() -> [Vec<u8>; 7] {
+fn expected_bytes() -> [Vec<u8>; 8] {
     let bytes = |length: u8, kind: u8, last: &[u8]| {
         let counting = 1..=length - 2 - last.len() as u8;
         let head = [length, 0, kind, 0];
@@ -83,13 +91,14 @@ fn expected_bytes() -> [Vec<u8>; 7] {
         bytes(16, 5, &[]),
         bytes(10, 6, &[]),
         bytes(55, 16, &[1]),
+        bytes(59, 16, &[0, 0x81, 0x82, 0x83, 0x84]),
     ]
 }
 
 #[test]
 fn the_bytes_of_each_kind() {
     for (record, bytes) in one_of_each().iter().zip(expected_bytes()) {
-        let mut room = [0xee; 60];
+        let mut room = [0xee; 70];
         assert_eq!(write(record, &mut room), Ok(bytes.len()));
         assert_eq!(room[..bytes.len()], bytes);
         assert!(room[bytes.len()..].iter().all(|&byte| byte == 0xee));
@@ -142,7 +151,8 @@ fn other_lengths_are_malformed() {
             let mut other = bytes.clone();
             other[..2].copy_from_slice(&length.to_le_bytes());
             other.resize(100, 0);
-            let good = usize::from(length) + 2 == bytes.len();
+            let settings = bytes[2] == 16 && [55, 59].contains(&length);
+            let good = settings || usize::from(length) + 2 == bytes.len();
             assert_eq!(parse(&other, 0).is_ok(), good, "length {length}");
         }
     }
@@ -152,7 +162,7 @@ fn other_lengths_are_malformed() {
 fn other_kinds_are_malformed() {
     let good = [1u16, 2, 3, 4, 5, 6, 16];
     for kind in 0..=u16::MAX {
-        let accepted = [12usize, 17, 35, 16, 14, 8, 53]
+        let accepted = [12usize, 17, 35, 16, 14, 8, 53, 57]
             .iter()
             .any(|&fields| parse(&record(kind, &[&vec![0; fields]]), 0).is_ok());
         assert_eq!(accepted, good.contains(&kind), "kind {kind}");
@@ -189,7 +199,7 @@ fn a_malformed_front_is_told_at_once() {
             assert_eq!(parse_front(&head[..3]), Ok(None));
         }
     }
-    let [_, send, ack, nack, _, _, settings] = expected_bytes();
+    let [_, send, ack, nack, _, _, settings, _] = expected_bytes();
     for bytes in [send, ack, nack, settings] {
         let bytes = with_last(&bytes, 4);
         assert_eq!(parse_front(&bytes[..bytes.len() - 1]), Ok(None));
@@ -206,7 +216,7 @@ fn with_last(bytes: &[u8], last: u8) -> Vec<u8> {
 
 #[test]
 fn unknown_flag_bits_and_resend_bytes_are_malformed() {
-    let [_, send, ack, nack, _, _, settings] = expected_bytes();
+    let [_, send, ack, nack, _, _, settings, _] = expected_bytes();
     for last in 0..=255 {
         let good = |bytes: &[u8]| parse(&with_last(bytes, last), 0).is_ok();
         assert_eq!(good(&send), last < 2, "resend {last}");
@@ -218,7 +228,7 @@ fn unknown_flag_bits_and_resend_bytes_are_malformed() {
 
 #[test]
 fn what_cannot_be_written() {
-    let [new_data, send, ack, nack, loss, path, settings] = one_of_each();
+    let [new_data, send, ack, nack, loss, path, settings, longer] = one_of_each();
     let mut unwritable = Vec::new();
     let mut spoil = |mut record: Record, change: fn(&mut Record)| {
         change(&mut record);
@@ -241,20 +251,22 @@ fn what_cannot_be_written() {
             }
         });
     }
-    spoil(settings, |record| {
-        if let Record::Settings { flags, .. } = record {
-            *flags = 2;
-        }
-    });
-    spoil(settings, |record| {
-        if let Record::Settings { numbers, .. } = record {
-            numbers[11] = 1 << 32;
-        }
-    });
-    assert_eq!(unwritable.len(), 6);
+    for record in [settings, longer] {
+        spoil(record, |record| {
+            if let Record::Settings { flags, .. } = record {
+                *flags = 2;
+            }
+        });
+        spoil(record, |record| {
+            if let Record::Settings { numbers, .. } = record {
+                numbers[11] = 1 << 32;
+            }
+        });
+    }
+    assert_eq!(unwritable.len(), 8);
     for record in unwritable {
         // 12 also where the room is too short.
-        for length in [60, 0] {
+        for length in [70, 0] {
             let mut room = vec![0xee; length];
             assert_eq!(write(&record, &mut room), Err(Refusal::Malformed));
             assert!(room.iter().all(|&byte| byte == 0xee));
@@ -319,6 +331,7 @@ fn any_record(rng: &mut Rng) -> Record {
             numbers: [0; 12].map(|_: u64| rng.next_u32().into()),
             first_psn: psn,
             flags: flags & 1,
+            ev_count: rng.pick(&[256, 512, psn, !psn]),
         },
     }
 }

@@ -5,6 +5,8 @@ mod ceiling;
 mod chunk_calls;
 mod chunks;
 mod demand3;
+mod ev_logs;
+mod evs;
 mod example;
 mod ledger;
 mod log;

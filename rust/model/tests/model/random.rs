@@ -264,7 +264,7 @@ fn realistic_logs() {
 #[test]
 fn shaped_logs() {
     let narrow = |seed, records| gen::narrow(seed, records, 64);
-    for make in [gen::lossy, gen::marked, gen::winding, narrow] {
+    for make in [gen::lossy, gen::marked, gen::winding, gen::wide, narrow] {
         let mut seen = Seen::default();
         for seed in 0..8 {
             follow(&make(seed, 2_500), &mut seen);
@@ -301,7 +301,7 @@ fn hostile_logs() {
 
 #[test]
 fn generated_logs_are_the_same_for_the_same_seed() {
-    for make in [gen::traffic, gen::hostile, gen::bulk] {
+    for make in [gen::traffic, gen::wide, gen::hostile, gen::bulk] {
         assert_eq!(make(3, 200), make(3, 200));
         assert_ne!(make(3, 200), make(4, 200));
     }
@@ -375,6 +375,7 @@ fn spoil_state(rng: &mut Rng, state: &mut State) {
         22 => state.trigger = !state.trigger,
         23 => state.fast_mode = !state.fast_mode,
         24 => state.name = rng.pick(&[Name::Idle, Name::Pending, Name::Ready, Name::Active]),
+        25 => state.settings.ev_count = rng.pick(&[255, 256, 512, number as u32]),
         _ => {
             let mut numbers = state.settings.numbers();
             numbers[rng.below(12) as usize] = number;
@@ -483,9 +484,11 @@ fn any_settings_are_answered() {
     let mut rng = Rng::new(7);
     for _ in 0..20_000 {
         let numbers = [0; 12].map(|_: u64| edge(&mut rng));
-        let settings = Settings::from_numbers(numbers, 0, false);
-        let mut memory = Memory::new(rng.pick(&[0, 63, 64]));
-        let good_lengths = memory.status.len() == 64;
+        let evs = rng.pick(&[0, 255, 256, 512, 4_096, 8_192]);
+        let settings = Settings::from_numbers(numbers, 0, false).with_evs(evs);
+        let lent = rng.pick(&[256, 512, evs as usize]);
+        let mut memory = Memory::with_evs(rng.pick(&[0, 63, 64]), lent);
+        let good_lengths = memory.status.len() == 64 && lent == evs as usize;
         let (answer, state) = State::set_up(&settings, &mut memory.lend());
         match answer {
             0 => assert!(good_lengths),

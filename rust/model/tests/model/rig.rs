@@ -24,6 +24,7 @@ pub fn e() -> Settings {
         qa_threshold: 288,
         first_psn: 0,
         quick_adapt_off: false,
+        ev_count: 256,
     }
 }
 
@@ -42,7 +43,7 @@ impl Rig {
     }
 
     pub fn with_capacity(settings: Settings, capacity: usize) -> Rig {
-        let mut memory = Memory::new(capacity);
+        let mut memory = Memory::with_evs(capacity, settings.ev_count as usize);
         let (answer, state) = State::set_up(&settings, &mut memory.lend());
         assert_eq!(answer, 0);
         Rig { state, memory }

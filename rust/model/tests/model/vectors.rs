@@ -383,6 +383,54 @@ fn ceilings_worked_out_by_hand() {
     ]);
 }
 
+/// All that the logs of M-110 print, behind the header. A loss or a trimmed packet of 100 bytes takes
+/// as much from cwnd.
+#[test]
+fn evs_worked_out_by_hand() {
+    let expected = [
+        (
+            "evs-512",
+            "1 0 0 614400 0 0 0 IDLE\n\
+             2 23 0 614400 0 0 0 IDLE\n\
+             3 0 0 614400 0 0 0 IDLE g\n\
+             4 0 0 614400 0 0 0 IDLE g\n\
+             5 0 0 614400 0 0 0 IDLE g\n\
+             6 0 0 614400 0 0 0 IDLE 1\n\
+             7 0 0 614400 0 0 0 IDLE 2\n",
+        ),
+        (
+            "evs-4096",
+            "1 0 0 614400 0 0 0 IDLE\n\
+             2 0 0 614400 0 0 300 READY\n\
+             3 0 100 614400 1 0 200 READY\n\
+             4 0 200 614400 2 0 100 READY\n\
+             5 23 200 614400 2 0 100 READY\n\
+             6 0 100 614300 1 1 100 READY n\n\
+             7 23 100 614300 1 1 100 READY\n\
+             8 0 0 614200 0 2 100 READY\n\
+             9 0 0 614200 0 2 100 READY 0\n",
+        ),
+        ("evs-768", "1 1\n"),
+        ("evs-8192", "1 1\n"),
+        ("evs-256", "1 12 0\n"),
+    ];
+    let bundled = bundled();
+    for (name, lines) in expected {
+        let text = text(&bundled, name);
+        assert_eq!(
+            text.split_once('\n').expect("the header").1,
+            lines,
+            "{name}"
+        );
+    }
+}
+
+#[test]
+fn the_logs_together_are_short() {
+    let bytes: usize = bundled().iter().map(|vector| vector.log.len()).sum();
+    assert!(bytes < 65_000, "{bytes}");
+}
+
 #[test]
 fn insane_numbers_are_refused_and_change_nothing() {
     let text = text(&examples(), "insane");

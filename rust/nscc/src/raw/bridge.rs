@@ -34,12 +34,18 @@ struct Beside<'a> {
 }
 
 impl Lent<'_> {
-    pub fn set_up(&mut self, settings: &[u64], first_psn: u32, quick_adapt_off: bool) -> u32 {
+    pub fn set_up(
+        &mut self,
+        settings: &[u64],
+        first_psn: u32,
+        quick_adapt_off: bool,
+        ev_count: u32,
+    ) -> u32 {
         let beside = Beside {
             first: &mut settings.to_vec(),
             ..Beside::default()
         };
-        let arguments = [first_psn.into(), quick_adapt_off.into()];
+        let arguments = [first_psn.into(), quick_adapt_off.into(), ev_count.into()];
         self.ask(Function::SetUp, &arguments, beside) as u32
     }
 

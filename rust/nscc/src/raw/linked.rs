@@ -15,6 +15,7 @@ mod c {
             settings_len: usize,
             first_psn: u32,
             quick_adapt_off: bool,
+            ev_count: u32,
             state: *mut u64,
             state_len: usize,
             status: *mut u8,
@@ -217,11 +218,17 @@ macro_rules! call {
 }
 
 impl Lent<'_> {
-    pub fn set_up(&mut self, settings: &[u64], first_psn: u32, quick_adapt_off: bool) -> u32 {
+    pub fn set_up(
+        &mut self,
+        settings: &[u64],
+        first_psn: u32,
+        quick_adapt_off: bool,
+        ev_count: u32,
+    ) -> u32 {
         let (numbers, many) = (settings.as_ptr(), settings.len());
         call!(
             nscc_set_up,
-            [numbers, many, first_psn, quick_adapt_off],
+            [numbers, many, first_psn, quick_adapt_off, ev_count],
             self,
             []
         )

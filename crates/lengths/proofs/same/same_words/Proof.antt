@@ -1,14 +1,14 @@
--- `same_words` stays inside both arrays: they have 39 words, and the walk has not passed them.
+-- `same_words` stays inside both arrays: they have 40 words, and the walk has not passed them.
 use Prim.Native.Nat.{_≤_, _-_}
 use borrow.Author.Needs.{needs}
 use Rattle.lengths.proofs.same.same_words.Statement.{statement}
 use Rattle.lengths.proofs.same.same_words.Tie as tie
 
 abbrev Inv-loop : tie.InvT-loop
-Inv-loop a b k₀ k = k ≤ 39
+Inv-loop a b k₀ k = k ≤ 40
 
 abbrev μ-loop : tie.MeasureT-loop
-μ-loop a b k₀ k = 39 - k
+μ-loop a b k₀ k = 40 - k
 
 loop-holds : tie.Need-loop-holds Inv-loop μ-loop
 loop-holds c = search needs

@@ -19,9 +19,12 @@ returns-2 c =
     let i = c .before .before in
     judged-field _ _ _ _ (sym (i .before .bad-time .ensures) ∙ i .if1 .left) (le-leb _ _ (c .if2 .taken))
 
+cast-if3 : tie.Need-cast-if3
+cast-if3 c = search needs
+
 returns-3 : tie.Need-returns-3
 returns-3 c =
-    let k = c .before .before in
+    let k = c .before .before .before in
     let i = k .before .before in
     judged-on _ _ _ _ (sym (i .before .bad-time .ensures) ∙ i .if1 .left) (lt-leb _ _ (k .if2 .left)) _ (first-here _ _ _ _ (le-leb _ _ (c .if3 .taken)) refl)
 
@@ -31,7 +34,7 @@ covers-requires c κs = search needs
 returns-4 : tie.Need-returns-4
 returns-4 c =
     let v = c .before .before in
-    let k = v .before .before in
+    let k = v .before .before .before in
     let i = k .before .before in
     judged-on _ _ _ _ (sym (i .before .bad-time .ensures) ∙ i .if1 .left) (lt-leb _ _ (k .if2 .left)) _
     (first-later _ _ _ _ (lt-leb _ _ (v .if3 .left)) (first-here _ _ _ _ (ap not (sym (c .before .covers .ensures)) ∙ c .if4 .taken) refl))
@@ -43,7 +46,7 @@ returns-5 : tie.Need-returns-5
 returns-5 c =
     let g = c .before in
     let v = g .before .before in
-    let k = v .before .before in
+    let k = v .before .before .before in
     let i = k .before .before in
     judged-on _ _ _ _ (sym (i .before .bad-time .ensures) ∙ i .if1 .left) (lt-leb _ _ (k .if2 .left)) _
     (first-later _ _ _ _ (lt-leb _ _ (v .if3 .left))
@@ -51,4 +54,4 @@ returns-5 c =
 
 pub judge-ack-spec : {M : Type 1} → statement M
 judge-ack-spec =
-    tie.close (tie.spec bad-time-requires returns returns-2 returns-3 covers-requires returns-4 judge-ack-requires returns-5)
+    tie.close (tie.spec bad-time-requires returns returns-2 cast-if3 returns-3 covers-requires returns-4 judge-ack-requires returns-5)

@@ -17,9 +17,12 @@ bad-time-requires c κs = search needs
 returns : tie.Need-returns
 returns c = judged-3 _ _ _ _ (sym (c .before .bad-time .ensures) ∙ c .if1 .taken)
 
+cast-if2 : tie.Need-cast-if2
+cast-if2 c = search needs
+
 returns-2 : tie.Need-returns-2
 returns-2 c =
-    let i = c .before .before in
+    let i = c .before .before .before in
     judged-field _ _ _ _ (sym (i .before .bad-time .ensures) ∙ i .if1 .left) (le-leb _ _ (c .if2 .taken))
 
 judge-mark-requires : tie.Need-judge-mark-requires
@@ -27,11 +30,11 @@ judge-mark-requires c κs = search needs
 
 returns-3 : tie.Need-returns-3
 returns-3 c =
-    let i = c .before .before .before in
-    let s = i .before .before .before .before .before .before .before .before in
+    let i = c .before .before .before .before in
+    let s = i .before .before .before .before .before .before .before .before .before in
     let a = s .args in
     judged-on _ _ _ (markRows (a .c .flow) (a .c .totals .«in_flight») (slots s) (a .a .psn)) (sym (i .before .bad-time .ensures) ∙ i .if1 .left)
     (lt-leb _ _ (c .before .if2 .left)) (c .judge-mark .result) (c .judge-mark .ensures)
 
 pub judge-loss-spec : {M : Type 1} → statement M
-judge-loss-spec = tie.close (tie.spec bad-time-requires returns returns-2 judge-mark-requires returns-3)
+judge-loss-spec = tie.close (tie.spec bad-time-requires returns cast-if2 returns-2 judge-mark-requires returns-3)

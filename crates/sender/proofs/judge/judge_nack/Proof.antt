@@ -18,9 +18,12 @@ returns-2 c =
     let i = c .before .before in
     judged-field _ _ _ _ (sym (i .before .bad-time .ensures) ∙ i .if1 .left) (lt-ltb _ _ (c .if2 .taken))
 
+cast-if3 : tie.Need-cast-if3
+cast-if3 c = search needs
+
 returns-3 : tie.Need-returns-3
 returns-3 c =
-    let k = c .before .before in
+    let k = c .before .before .before in
     let i = k .before .before in
     judged-on _ _ _ _ (sym (i .before .bad-time .ensures) ∙ i .if1 .left) (le-ltb _ _ (k .if2 .left)) _ (first-here _ _ _ _ (le-leb _ _ (c .if3 .taken)) refl)
 
@@ -30,10 +33,10 @@ judge-mark-requires c κs = search needs
 returns-4 : tie.Need-returns-4
 returns-4 c =
     let v = c .before in
-    let k = v .before .before in
+    let k = v .before .before .before in
     let i = k .before .before in
     judged-on _ _ _ _ (sym (i .before .bad-time .ensures) ∙ i .if1 .left) (le-ltb _ _ (k .if2 .left)) _
     (first-later _ _ _ _ (lt-leb _ _ (v .if3 .left)) (c .judge-mark .ensures))
 
 pub judge-nack-spec : {M : Type 1} → statement M
-judge-nack-spec = tie.close (tie.spec bad-time-requires returns returns-2 returns-3 judge-mark-requires returns-4)
+judge-nack-spec = tie.close (tie.spec bad-time-requires returns returns-2 cast-if3 returns-3 judge-mark-requires returns-4)

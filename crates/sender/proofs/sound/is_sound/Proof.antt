@@ -40,18 +40,18 @@ returns-3 c =
     not-coherent (given (r .before)) _ (r .before .in-range .ensures) (r .if1 .left) _ (h .before .is-held .ensures) (h .if2 .left) _
     (c .before .is-coherent .ensures) (c .if3 .taken)
 
-cast-result : tie.Need-cast-result
-cast-result c = search needs
-
 times-ok-requires : tie.Need-times-ok-requires
 times-ok-requires c κs = search needs
+
+cast-result : tie.Need-cast-result
+cast-result c = search needs
 
 phase-number-requires : tie.Need-phase-number-requires
 phase-number-requires c κs = search needs
 
 phase-of-requires : tie.Need-phase-of-requires
 phase-of-requires c κs =
-    let l = c .before .before .before .before in
+    let l = c .before .before .before .before .before .before in
     let h = l .before .before in
     let r = h .before .before in
     let B =
@@ -64,11 +64,11 @@ phase-number-requires-2 c κs = search needs
 
 returns-4 : tie.Need-returns-4
 returns-4 c =
-    let l = c .before .before .before .before .before .before in
+    let l = c .before .before .before .before .before .before .before .before in
     let h = l .before .before in
     let r = h .before .before in
     tests-left (given (r .before)) _ (r .before .in-range .ensures) (r .if1 .left) _ (h .before .is-held .ensures) (h .if2 .left) _
-    (l .before .is-coherent .ensures) (l .if3 .left) _ _ _ _ (c .before .before .before .before .times-ok .ensures) (c .before .before .phase-number .ensures)
+    (l .before .is-coherent .ensures) (l .if3 .left) _ _ _ _ (c .before .before .before .before .before .times-ok .ensures) (c .before .before .phase-number .ensures)
     (c .phase-number2 .ensures) (c .before .phase-of .ensures)
 
 pub is-sound-spec : {M : Type 1} → statement M
@@ -81,8 +81,8 @@ is-sound-spec =
     returns-2
     is-coherent-requires
     returns-3
-    cast-result
     times-ok-requires
+    cast-result
     phase-number-requires
     phase-of-requires
     phase-number-requires-2

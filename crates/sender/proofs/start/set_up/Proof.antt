@@ -23,9 +23,6 @@ returns c =
 is-ring-requires : tie.Need-is-ring-requires
 is-ring-requires c κs = search needs
 
-cast-if2 : tie.Need-cast-if2
-cast-if2 c = search needs
-
 not-set-up-requires-2 : tie.Need-not-set-up-requires-2
 not-set-up-requires-2 c κs = search needs
 
@@ -44,7 +41,7 @@ same-length-4 c = search needs
 returns-2 : tie.Need-returns-2
 unfolding rowOf
 returns-2 c =
-    let l = c .before .before in
+    let l = c .before .before .before in
     let i = l .before .before .before .before .before .before in
     let a = i .before .before .before .before .before .before .args in
     refused-lengths (a .settings) (ring (a .status .now) (a .size .now) (a .sent .now) (a .resent .now)) (a .evs .now) _ (i .in-range .ensures)
@@ -75,7 +72,7 @@ returns-3 : tie.Need-returns-3
 unfolding numberOf
 returns-3 c =
     let z = c .before .before .before .before .before .before .before .before .before .before .before in
-    let l = z .before .before .before .before .before .before .before in
+    let l = z .before .before .before .before .before .before .before .before in
     let i = l .before .before .before .before .before .before in
     let a = i .before .before .before .before .before .before .args in
     accepted-so (a .settings) (ring (a .status .now) (a .size .now) (a .sent .now) (a .resent .now)) (a .evs .now) _ (i .in-range .ensures)
@@ -90,7 +87,6 @@ set-up-spec =
     not-set-up-requires
     returns
     is-ring-requires
-    cast-if2
     not-set-up-requires-2
     same-length
     same-length-2

@@ -1,10 +1,9 @@
--- `path` takes the EV that `paths` chooses, which lies among the 256, and names the state.
+-- `path` takes the EV that `paths` chooses, which lies among those that there are, and names the state.
 use mathlib.Core.Path.{ap}
 use Prim.Native.Nat.{_<_}
 use native.Mathlib.Omega.{arith}
 use borrow.Author.Needs.{needs}
 use Rattle.paths.specs.declared.Choice.{Choice}
-use Rattle.sender.specs.Limits.{evCount}
 use Rattle.sender.specs.Steps.{pathState}
 use Rattle.sender.proofs.Sounds.{times-early}
 use Rattle.sender.proofs.Stepping.{taken-inside}
@@ -15,10 +14,11 @@ abbrev entry : tie.After-choose → tie.Start
 entry p = p .before .before .before .before .before .before .before
 
 -- the EV that is taken and the cursor after it
-inside : (p : tie.After-choose) → (p .choose .result .ev < evCount) × (p .choose .result .cursor < evCount)
+inside : (p : tie.After-choose) → (p .choose .result .ev < 4096) × (p .choose .result .cursor < 4096)
 inside p =
     let s = entry p in
-    taken-inside (s .args .time) (s .args .c .cursor) (s .args .evs .now) (p .choose .ensures) (s .pre .1 .0 .0) (s .pre .1 .0 .1)
+    let i = taken-inside (s .args .time) (s .args .c .cursor) (s .args .evs .now) (p .choose .ensures) (s .pre .1 .0 .0) (s .pre .1 .0 .1) in
+    (omega (arith, i .0, s .pre .0 .evs-high), omega (arith, i .1, s .pre .0 .evs-high))
 
 cast-choose : tie.Need-cast-choose
 cast-choose c = search needs

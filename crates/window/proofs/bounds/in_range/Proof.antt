@@ -40,6 +40,9 @@ within-requires-11 c κs = search needs
 within-requires-12 : tie.Need-within-requires-12
 within-requires-12 c κs = search needs
 
+is-ev-count-requires : tie.Need-is-ev-count-requires
+is-ev-count-requires c κs = search needs
+
 returns : tie.Need-returns
 unfolding inRange
 returns c = cc
@@ -60,4 +63,5 @@ in-range-spec =
     within-requires-10
     within-requires-11
     within-requires-12
+    is-ev-count-requires
     returns)
