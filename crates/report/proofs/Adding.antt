@@ -19,28 +19,8 @@ use Rattle.replay.specs.declared.records.Event.the-variants as event
 use Rattle.replay.specs.declared.turns.Found.{Found}
 use Rattle.replay.specs.declared.turns.Found.the-variants as found
 use Rattle.replay.proofs.Batching.{kind-most}
-use Rattle.report.specs.Figures.{
-  answers,
-  kindsAt,
-  figureCount,
-  raised,
-  answerCounted,
-  kindCounted,
-  bucketsAt,
-  bucketOf,
-  leastAt,
-  greatestAt,
-  lesser,
-  leastKept,
-  greatestKept,
-  ticksCounted,
-  sampleCounted,
-  sentAt,
-  sendCounted,
-  eventCounted,
-  bytesCounted,
-  counted,
-}
+use Rattle.sheet.specs.Places.{answers, kindsAt, figureCount, bucketsAt, leastAt, greatestAt}
+use Rattle.report.specs.Figures.{raised, answerCounted, kindCounted, bucketOf, lesser, leastKept, greatestKept, ticksCounted, sampleCounted, sentAt, sendCounted, eventCounted, bytesCounted, counted}
 
 -- ---- answers
 

@@ -7,7 +7,8 @@ use borrow.Author.Tests.{ltb-true, ltb-false, leb-true, leb-false}
 use native.Mathlib.Omega.{arith}
 use Rattle.decide.specs.Branch.{lt-yes, lt-no, lt-both}
 use Rattle.decide.specs.Test.{both}
-use Rattle.report.specs.Figures.{buckets, halvings, bucketOf}
+use Rattle.sheet.specs.Places.{buckets}
+use Rattle.report.specs.Figures.{halvings, bucketOf}
 
 halvings-most : (most n : ℕ) → halvings most n ≤ most
 unfolding halvings

@@ -16,20 +16,8 @@ use Rattle.replay.specs.Places.{Feed, foundAt, Turning}
 use Rattle.replay.specs.declared.Place.{Place}
 use Rattle.replay.specs.declared.Shown.{Shown}
 use Rattle.replay.specs.declared.turns.Found.{Found}
-use Rattle.report.specs.Figures.{
-  kindsAt,
-  leastAt,
-  greatestAt,
-  bucketsAt,
-  figureCount,
-  wordMost,
-  added,
-  lesser,
-  answerCounted,
-  sampleCounted,
-  sentAt,
-  counted,
-}
+use Rattle.sheet.specs.Places.{kindsAt, leastAt, greatestAt, bucketsAt, figureCount}
+use Rattle.report.specs.Figures.{wordMost, added, lesser, answerCounted, sampleCounted, sentAt, counted}
 use Rattle.report.specs.Tallies.{counting}
 use Rattle.report.specs.Statements.{
   one,

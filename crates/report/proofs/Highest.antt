@@ -24,7 +24,8 @@ use Rattle.replay.specs.declared.Shown.the-variants.{Nothing, State, Path, Samp
 use Rattle.replay.specs.declared.records.Event.{Event}
 use Rattle.replay.specs.declared.records.Event.the-variants as event
 use Rattle.replay.proofs.Progress.{turn-cases}
-use Rattle.report.specs.Figures.{buckets, halvings, bucketOf}
+use Rattle.sheet.specs.Places.{buckets}
+use Rattle.report.specs.Figures.{halvings, bucketOf}
 use Rattle.report.specs.Statements.{sampleShown, Positive}
 
 -- ---- halving ends at the highest set bit

@@ -23,30 +23,8 @@ use Rattle.replay.specs.declared.records.Event.the-variants as event
 use Rattle.replay.specs.declared.turns.Found.{Found}
 use Rattle.replay.specs.declared.turns.Found.the-variants as found
 use Rattle.replay.proofs.Batching.{kind-most}
-use Rattle.report.specs.Figures.{
-  answers,
-  kindsAt,
-  leastAt,
-  greatestAt,
-  bucketsAt,
-  buckets,
-  newAt,
-  figureCount,
-  wordMost,
-  added,
-  raised,
-  answerCounted,
-  kindCounted,
-  bucketOf,
-  leastKept,
-  greatestKept,
-  ticksCounted,
-  sampleCounted,
-  sentAt,
-  sendCounted,
-  eventCounted,
-  bytesCounted,
-}
+use Rattle.sheet.specs.Places.{answers, kindsAt, leastAt, greatestAt, bucketsAt, buckets, newAt, figureCount}
+use Rattle.report.specs.Figures.{wordMost, added, raised, answerCounted, kindCounted, bucketOf, leastKept, greatestKept, ticksCounted, sampleCounted, sentAt, sendCounted, eventCounted, bytesCounted}
 use Rattle.report.specs.Statements.{one, kindTest, sampleShown, ticksTest, withLeast, withGreatest, sendBytes, eventBytes, recordBytes}
 use Rattle.report.proofs.Buckets.{bucket-most}
 

@@ -15,7 +15,8 @@ use Rattle.replay.specs.declared.Place.{Place}
 use Rattle.replay.specs.declared.turns.Found.{Found}
 use Rattle.replay.proofs.Progress.{turn-holds, turns-none, turns-more}
 use Rattle.replay.proofs.Looping.{ended-same}
-use Rattle.report.specs.Figures.{figureCount, counted}
+use Rattle.sheet.specs.Places.{figureCount}
+use Rattle.report.specs.Figures.{counted}
 use Rattle.report.specs.Tallies.{counting, Tallying, led, tallied, tallyOf}
 
 -- number 2 does not apply, and what is left takes the figures to the whole

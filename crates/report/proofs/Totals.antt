@@ -18,7 +18,8 @@ use Rattle.replay.specs.Places.{Feed, logged, endFrom, Turning, turnOf, turnsIn
 use Rattle.replay.specs.declared.Place.{Place}
 use Rattle.replay.specs.declared.Shown.{Shown}
 use Rattle.replay.specs.declared.Shown.the-variants.{Nothing, State, Path, Sample as Sampled}
-use Rattle.report.specs.Figures.{kindsAt, leastAt, greatestAt, bucketsAt, buckets, figureCount, bucketOf}
+use Rattle.sheet.specs.Places.{kindsAt, leastAt, greatestAt, bucketsAt, buckets, figureCount}
+use Rattle.report.specs.Figures.{bucketOf}
 use Rattle.report.specs.Statements.{one, howMany, kindTest, ofKind, sampleShown, ticksTest, inBucket, total, Counts, kind, bucket, leastOf, greatestOf, zeros, reportFrom}
 use Rattle.report.proofs.Buckets.{bucket-most}
 use Rattle.report.proofs.Exact.{figure-counts, least-is, least-fresh, greatest-is}

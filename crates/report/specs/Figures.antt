@@ -1,10 +1,11 @@
--- The figures of a run report, request M-105, and how a turn changes them.
+-- How a turn changes the figures of a run report, request M-105. Where each figure stands: sheet/specs/Places.
 -- Assumes nothing.
 use mathlib.Core.Bool.{Bool}
 use mathlib.Core.List.{List}
 use Prim.Native.Nat.{ℕ, zero, suc, _+_, _-_, _/_, _^_, min, max}
 use lib.ListN.{getD, set}
 use Rattle.decide.specs.Branch.{ifSo, ifLt, ifEq}
+use Rattle.sheet.specs.Places.{answers, kindsAt, leastAt, greatestAt, bucketsAt, buckets, newAt, againAt}
 use Rattle.window.specs.Delays.{sampleIn}
 use Rattle.window.specs.declared.Sample.{Sample}
 use Rattle.window.specs.declared.Sample.the-variants.{Ticks, Absent}
@@ -17,41 +18,6 @@ use Rattle.replay.specs.declared.records.Event.{Event}
 use Rattle.replay.specs.declared.records.Event.the-variants as event
 use Rattle.replay.specs.declared.turns.Found.{Found}
 use Rattle.replay.specs.declared.turns.Found.the-variants as found
-
--- ---- where each figure stands
-
--- "records accepted, and refused by number": the figure at 0 counts the accepted ones, the one at n those refused with n, up to number 28
-abbrev pub answers : ℕ
-answers = 29
-
--- "samples by the five kinds of M-103", whose numbers start at 1
-abbrev pub kindsAt : ℕ
-kindsAt = 28
-
--- "least and greatest sample (0 if none)"
-abbrev pub leastAt : ℕ
-leastAt = 34
-
-abbrev pub greatestAt : ℕ
-greatestAt = 35
-
--- "how many samples fell in each of 32 buckets"
-abbrev pub bucketsAt : ℕ
-bucketsAt = 36
-
-abbrev pub buckets : ℕ
-buckets = 32
-
--- "the bytes sent new and sent again"
-abbrev pub newAt : ℕ
-newAt = 68
-
-abbrev pub againAt : ℕ
-againAt = 69
-
--- how many figures there are
-abbrev pub figureCount : ℕ
-figureCount = 70
 
 -- ---- a figure is a word
 

@@ -22,7 +22,8 @@ use Rattle.replay.specs.declared.records.Event.{Event}
 use Rattle.replay.specs.declared.records.Event.the-variants as event
 use Rattle.replay.specs.declared.turns.Found.{Found}
 use Rattle.replay.specs.declared.turns.Found.the-variants as found
-use Rattle.report.specs.Figures.{answers, kindsAt, bucketsAt, buckets, figureCount, bucketOf, lesser}
+use Rattle.sheet.specs.Places.{answers, kindsAt, bucketsAt, buckets, figureCount}
+use Rattle.report.specs.Figures.{bucketOf, lesser}
 use Rattle.report.specs.Tallies.{counting}
 
 -- how many turns a test holds of

@@ -11,7 +11,8 @@ use Rattle.sender.specs.World.{World, world}
 use Rattle.sender.specs.declared.Controller.{Controller}
 use Rattle.replay.specs.Places.{Feed, foundAt, Turning, holds, turnsOf, lastPlace, lastWorld}
 use Rattle.replay.specs.declared.Place.{Place}
-use Rattle.report.specs.Figures.{figureCount, counted}
+use Rattle.sheet.specs.Places.{figureCount}
+use Rattle.report.specs.Figures.{counted}
 
 -- the figures after turns: each turn's record stands where the turn before it ended
 unfoldable pub counting : Feed → Place → List Turning → List ℕ → List ℕ

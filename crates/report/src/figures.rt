@@ -3,6 +3,18 @@ use replay::Shown;
 use replay::records::Event;
 use replay::turns::Found;
 use sender::Send;
+use sheet::places::AGAIN_AT;
+use sheet::places::AMBIGUOUS_AT;
+use sheet::places::ANSWERS;
+use sheet::places::BUCKETS;
+use sheet::places::BUCKETS_AT;
+use sheet::places::CUT_AT;
+use sheet::places::GONE_AT;
+use sheet::places::GREATEST_AT;
+use sheet::places::LEAST_AT;
+use sheet::places::NEW_AT;
+use sheet::places::NOT_POSITIVE_AT;
+use sheet::places::TAKEN_AT;
 use window::Sample;
 use window::Sampling;
 use window::delay::sample_in;
@@ -10,39 +22,8 @@ ghost use mathlib.Core.Path.{_≡_};
 ghost use Prim.Native.Nat.{_+_, _<_};
 ghost use lib.ListN.{length};
 ghost use Rattle.replay.specs.Batches.{kindOf};
-ghost use Rattle.report.specs.Figures.{figureCount, added, raised, answerCounted, kindsAt, bucketOf, lesser, ticksCounted, sampleCounted, sentAt, eventCounted, bytesCounted, counted};
-
-// How many figures a report has.
-pub const FIGURES: usize = 70;
-
-// Figure 0 counts the records accepted, figure n those refused with n.
-pub const ANSWERS: u32 = 29;
-
-// Samples by the kinds of request M-103.
-pub const TAKEN_AT: usize = 29;
-
-pub const CUT_AT: usize = 30;
-
-pub const GONE_AT: usize = 31;
-
-pub const AMBIGUOUS_AT: usize = 32;
-
-pub const NOT_POSITIVE_AT: usize = 33;
-
-// The least and the greatest sample, 0 where there is none.
-pub const LEAST_AT: usize = 34;
-
-pub const GREATEST_AT: usize = 35;
-
-// The first bucket, and how many there are.
-pub const BUCKETS_AT: usize = 36;
-
-pub const BUCKETS: usize = 32;
-
-// The bytes sent new and sent again.
-pub const NEW_AT: usize = 68;
-
-pub const AGAIN_AT: usize = 69;
+ghost use Rattle.sheet.specs.Places.{figureCount, kindsAt};
+ghost use Rattle.report.specs.Figures.{added, raised, answerCounted, bucketOf, lesser, ticksCounted, sampleCounted, sentAt, eventCounted, bytesCounted, counted};
 
 // A sum that stops at the greatest word.
 fn sum(a: u64, b: u64) -> u64

@@ -2,7 +2,6 @@
 // a replay promises, and what stands in the log.
 pub mod figures;
 
-use crate::figures::FIGURES;
 use crate::figures::count;
 use replay::Place;
 use replay::Source;
@@ -10,13 +9,14 @@ use replay::turns::is_whole;
 use replay::turns::stands_at;
 use replay::turns::turn;
 use sender::Controller;
+use sheet::places::FIGURES;
 ghost use mathlib.Core.Path.{_≡_};
 ghost use mathlib.Core.Bool.{true};
 ghost use lib.ListN.{length};
 ghost use Rattle.ledger.specs.Ring.{ring};
 ghost use Rattle.sender.specs.World.{world};
 ghost use Rattle.replay.specs.Places.{feed, holds};
-ghost use Rattle.report.specs.Figures.{figureCount};
+ghost use Rattle.sheet.specs.Places.{figureCount};
 ghost use Rattle.report.specs.Tallies.{tallying, tallied, tallyOf};
 
 // What a call answers: 2, or 0. The figures are lent.

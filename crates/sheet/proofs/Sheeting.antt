@@ -10,7 +10,7 @@ use Rattle.decide.specs.Branch.{eq-yes, eq-no, lt-yes, lt-no}
 use Rattle.io.specs.Counts.{Counts}
 use Rattle.text.specs.Decimal.{Put}
 use Rattle.text.proofs.Puts.{put-long}
-use Rattle.report.specs.Figures.{figureCount}
+use Rattle.sheet.specs.Places.{figureCount}
 use Rattle.sheet.specs.Sheet.{sheetText, sheetMost, sheeted}
 
 module _ (figures out : List ℕ) where

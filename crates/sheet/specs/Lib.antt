@@ -1,2 +1,3 @@
 -- What the contracts of `sheet` cite.
+pub mod Places
 pub mod Sheet

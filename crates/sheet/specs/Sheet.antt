@@ -6,7 +6,7 @@ use lib.ListN.{length, getD}
 use lib.Seq.{sets}
 use Rattle.decide.specs.Branch.{ifLt, ifEq}
 use Rattle.text.specs.Decimal.{newline, columnMost, column}
-use Rattle.report.specs.Figures.{answers, kindsAt, leastAt, greatestAt, bucketsAt, buckets, newAt, againAt, figureCount}
+use Rattle.sheet.specs.Places.{answers, kindsAt, leastAt, greatestAt, bucketsAt, buckets, newAt, againAt, figureCount}
 
 -- ---- the words that lines start with
 

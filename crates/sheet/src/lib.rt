@@ -1,16 +1,18 @@
 // The run report of request M-105 as text, put into a lent buffer: a line for each figure.
-use report::figures::AGAIN_AT;
-use report::figures::AMBIGUOUS_AT;
-use report::figures::BUCKETS;
-use report::figures::BUCKETS_AT;
-use report::figures::CUT_AT;
-use report::figures::FIGURES;
-use report::figures::GONE_AT;
-use report::figures::GREATEST_AT;
-use report::figures::LEAST_AT;
-use report::figures::NEW_AT;
-use report::figures::NOT_POSITIVE_AT;
-use report::figures::TAKEN_AT;
+pub mod places;
+
+use crate::places::AGAIN_AT;
+use crate::places::AMBIGUOUS_AT;
+use crate::places::BUCKETS;
+use crate::places::BUCKETS_AT;
+use crate::places::CUT_AT;
+use crate::places::FIGURES;
+use crate::places::GONE_AT;
+use crate::places::GREATEST_AT;
+use crate::places::LEAST_AT;
+use crate::places::NEW_AT;
+use crate::places::NOT_POSITIVE_AT;
+use crate::places::TAKEN_AT;
 use text::put;
 use text::put_column;
 ghost use mathlib.Core.Path.{_≡_};
@@ -18,7 +20,7 @@ ghost use Prim.Native.Nat.{_+_, _*_, _≤_};
 ghost use lib.ListN.{length};
 ghost use Rattle.io.specs.Counts.{Counts};
 ghost use Rattle.text.specs.Decimal.{Put};
-ghost use Rattle.report.specs.Figures.{figureCount};
+ghost use Rattle.sheet.specs.Places.{figureCount};
 ghost use Rattle.sheet.specs.Sheet.{figureLine, countLine, countLines, answerLines, kindLines, sampleLines, byteLines, sheetText};
 ghost use Rattle.sheet.specs.Sheet.{labelMost, lineMost, answersMost, kindsMost, samplesMost, bytesMost, sheetMost, sheeted};
 
