@@ -4,7 +4,7 @@ use crate::event::Outcome;
 use crate::lent::Memory;
 use crate::log::Record;
 use crate::refusal::Refusal;
-use crate::replay::{Replay, CAPACITY};
+use crate::replay::{evs_lent, Replay, CAPACITY};
 use crate::sampling::Sampling;
 use std::fmt;
 
@@ -38,7 +38,7 @@ pub struct Report {
 /// The figures over a log, with the program's ring. Replay stops where the printed lines stop.
 pub fn report(log: &[u8]) -> Report {
     let mut report = Report::default();
-    let mut memory = Memory::new(CAPACITY);
+    let mut memory = Memory::with_evs(CAPACITY, evs_lent(log));
     let mut replay = Replay::new(log, memory.lend());
     loop {
         match replay.step_with_record() {

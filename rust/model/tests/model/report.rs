@@ -558,7 +558,7 @@ fn generated() -> Vec<Vec<u8>> {
     }
     logs.extend((0..150).map(|seed| gen::hostile(seed, 1_500)));
     // One in 16 is refused at once.
-    logs.extend((0..400).map(|seed| gen::hostile(seed, 5)));
+    logs.extend((0..800).map(|seed| gen::hostile(seed, 5)));
     logs
 }
 
