@@ -35,7 +35,7 @@ pub struct Report {
     pub again_bytes: u64,
 }
 
-/// The figures over a log, with the program's ring. Replay stops where the printed lines stop.
+/// The figures over a log, with the program's ring and as many EV times as it lends. Replay stops where the printed lines stop.
 pub fn report(log: &[u8]) -> Report {
     let mut report = Report::default();
     let mut memory = Memory::with_evs(CAPACITY, evs_lent(log));
