@@ -1,4 +1,4 @@
--- The next path: document 01, "Next path". Entry e of the list is the time of EV e; n, today 256, is the list's length.
+-- The next path: document 01, "Next path". Entry e of the list is the time of EV e; n is the list's length: by request M-110 "any power of two from 256 to 4,096", and here any.
 -- Assumes nothing.
 use mathlib.Core.List.{List, [], _∷_, _++_}
 use Prim.Native.Nat.{ℕ, suc, _+_, _*_, _%_, _^_, _<_}
@@ -28,7 +28,7 @@ firstFree time (until ∷ evs) = ifLt time until (suc (firstFree time evs)) 0
 abbrev pub from : ℕ → List ℕ → List ℕ
 from cursor evs = drop cursor evs ++ take cursor evs
 
--- "Twice the avoided count over 256: take the cursor. Else the first EV from the cursor on": how many EVs, of those in that order, are passed
+-- "Twice the avoided count over 256: take the cursor. Else the first EV from the cursor on", and M-110: "compares twice the avoided count with" n: how many EVs, of those in that order, are passed
 unfoldable pub steps : ℕ → List ℕ → ℕ
 steps time evs = ifLt (length evs) (2 * avoided time evs) 0 (firstFree time evs)
 
@@ -39,7 +39,7 @@ timeMost = 2 ^ 63
 pub record Early (evs : List ℕ) : Type 0 where
   pub each : (k : ℕ) → k < length evs → getD evs k 0 < timeMost
 
--- the EV that lies s steps from the cursor; "Cursor becomes that EV + 1, modulo 256"
+-- the EV that lies s steps from the cursor; "Cursor becomes that EV + 1, modulo 256", which is n
 unfoldable pub landed : ℕ → ℕ → ℕ → Choice
 landed cursor s n = record { ev = (cursor + s) % n; cursor = ((cursor + s) % n + 1) % n }
 
