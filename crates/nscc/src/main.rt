@@ -19,7 +19,9 @@ fn report(input: Input, name: &[u8]) {
 
 // Replays the log that a file has.
 fn run(fd: i32, name: &[u8], task: Task) {
-    report(player::replay_from(fd, task), name);
+    let replayed = player::replay_from(fd, task);
+    let input = replayed.input;
+    report(input, name);
 }
 
 // Opens the log that an argument names, and replays it.

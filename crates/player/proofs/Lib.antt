@@ -4,3 +4,4 @@ pub mod Opened
 pub mod Playing
 pub mod Reading
 pub mod Standing
+pub mod Onward

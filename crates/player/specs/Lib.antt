@@ -1,3 +1,3 @@
 -- What the contracts of `player` cite.
-pub mod Played
 pub mod Opening
+pub mod Played

@@ -24,7 +24,9 @@ fn replay_one(index: usize) {
     io::write_all(STDOUT_FILENO, &path[..length]);
     io::write_all(STDOUT_FILENO, b"\n");
     let fd = os::open_read(&path[..length]);
-    report(player::replay_from(fd, Task::Lines { progress: false }));
+    let replayed = player::replay_from(fd, Task::Lines { progress: false });
+    let input = replayed.input;
+    report(input);
     libc::close(fd);
 }
 
