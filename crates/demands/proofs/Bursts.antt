@@ -28,6 +28,7 @@ use Rattle.ledger.specs.Steps.{heldOf, newlyOf, ackedOf}
 use Rattle.ledger.proofs.Facts.{packets-long}
 use Rattle.sender.specs.Limits.{timeEnd}
 use Rattle.sender.specs.World.{World, Answered, ledgerOf}
+use Rattle.sender.specs.Sound.{sound}
 use Rattle.sender.specs.Rows.{ackAllRows}
 use Rattle.sender.specs.Steps.{ackStep}
 use Rattle.sender.specs.Events.{onAck}
@@ -35,8 +36,8 @@ use Rattle.sender.specs.declared.Ack.{Ack}
 use Rattle.demands.specs.Events.{ack}
 use Rattle.demands.specs.Burst.{Arrival, deliver, Timely, Newest, Of, Arrives, coversPsn, psnOf, wasCovered}
 use Rattle.demands.specs.Demands.{Burst}
-use Rattle.demands.proofs.Runs.{step-ledger, step-clock, step-settings}
-use Rattle.demands.proofs.Sounded.{Holds, holds-facts, step-holds}
+use Rattle.demands.proofs.Runs.{accepted, step-ledger, step-clock, step-settings}
+use Rattle.demands.proofs.Sounded.{ledger-facts, step-sound}
 use Rattle.demands.proofs.Ledgers.{cover-agree, settledBy, settled-same, ack-cases, badFields, fields-count, Fine, accepted-fine, fine-rows, fine-accepted, heldIn, inFlightIn, deliver-settles}
 
 -- ---- signed in-flight
@@ -118,7 +119,7 @@ lag-self n = minus-self counts n (omega arith)
 
 -- a world of a burst whose newest is n: `rest` is what is left of in-flight once n is taken in
 record Good (n : Ack) (evs next : ℕ) (rest : ℤ) (w : World) : Type 0 where
-  holds : Holds w
+  holds : sound w ≡ true
   evs-is : w .state .settings .«ev_count» ≡ evs
   next-is : w .state .flow .next ≡ next
   near : lag (n .count) (heldIn w) < half
@@ -159,7 +160,7 @@ module _ (n : Ack) (evs next : ℕ) (rest : ℤ) (fields : badFields evs n ≡ f
         record {
           good =
               record {
-                holds = step-holds (ack t a) w (g .holds) rows;
+                holds = step-sound (ack t a) w (g .holds) rows;
                 evs-is = ap (λ (x : Settings). x .«ev_count») (step-settings (ack t a) w) ∙ g .evs-is;
                 next-is = next-same ∙ g .next-is;
                 near = rw held-is (omega (arith, took-a .less, g .near));
@@ -269,7 +270,11 @@ bool-same false false f g = refl
 
 -- ---- the theorem
 
-module _ (w : World) (at : ℕ) (n : Ack) (others : List Ack) (H : Holds w) (nw : Newest w at n others) where
+module _ (w : World) (at : ℕ) (n : Ack) (others : List Ack) (nw : Newest w at n others) where
+  -- it is accepted, so the start is sound
+  holds : sound w ≡ true
+  holds = accepted (ack at n) w (nw .accepted) .sound-so
+
   fine : Fine at n (w .state .settings .«ev_count») (w .state .clock) (ledgerOf w)
   fine = accepted-fine at n w (nw .accepted)
 
@@ -278,7 +283,7 @@ module _ (w : World) (at : ℕ) (n : Ack) (others : List Ack) (H : Holds w) (nw 
 
   start : Good n (w .state .settings .«ev_count») (w .state .flow .next) rest w
   unfolding rest
-  start = record { holds = H; evs-is = refl; next-is = refl; near = nw .not-behind; left = refl }
+  start = record { holds = holds; evs-is = refl; next-is = refl; near = nw .not-behind; left = refl }
 
   rest-afloat : ltZ rest inFlightLeast ≡ false
   unfolding rest newlyOf sinks
@@ -292,9 +297,9 @@ module _ (w : World) (at : ℕ) (n : Ack) (others : List Ack) (H : Holds w) (nw 
   leaves : (ds : List Arrival) → Of n others ds → Arrives n ds → Timely (w .state .clock) ds
       → ledgerOf (deliver w ds) ≡ settledBy (coversPsn n) (n .count) rest (ledgerOf w)
   leaves ds o ar tm =
-      deliver-settles ds w H
+      deliver-settles ds w holds
       ∙ ap₂ (λ (h : ℕ) (z : ℤ). settledBy (wasCovered w ds) h z (ledgerOf w)) held-n in-flight-n
-      ∙ settled-same (w .state .settings .mtu) (w .state .clock) (ledgerOf w) (holds-facts H) (H .low-fits) (wasCovered w ds) (coversPsn n) agree (n .count) rest
+      ∙ settled-same (w .state .settings .mtu) (w .state .clock) (ledgerOf w) (ledger-facts w holds) (wasCovered w ds) (coversPsn n) agree (n .count) rest
     where
       close : (d : Arrival) → List·Memᴰ d ds → lag (n .count) (d .ack .count) < half
       close d m = ⊎-elim (λ q. rw q (omega (arith, lag-self (n .count)))) (λ k. nw .others-behind (d .ack) k) (o d m)
@@ -315,7 +320,7 @@ module _ (w : World) (at : ℕ) (n : Ack) (others : List Ack) (H : Holds w) (nw 
       none-left = omega (arith, e .0)
 
       held-n : heldIn (deliver w ds) ≡ n .count
-      held-n = minus-none counts (n .count) (heldIn (deliver w ds)) (fields-count evs n (fine .fields)) (holds-facts (g .holds) .held) none-left
+      held-n = minus-none counts (n .count) (heldIn (deliver w ds)) (fields-count evs n (fine .fields)) (ledger-facts (deliver w ds) (g .holds) .held) none-left
 
       in-flight-n : inFlightIn (deliver w ds) ≡ rest
       in-flight-n = sym (fall-none (inFlightIn (deliver w ds))) ∙ (rw none-left at (g .left))
@@ -323,7 +328,7 @@ module _ (w : World) (at : ℕ) (n : Ack) (others : List Ack) (H : Holds w) (nw 
       agree : coverAll (wasCovered w ds) (w .state .flow .low) (packets (w .state .flow) (w .slots))
           ≡ coverAll (coversPsn n) (w .state .flow .low) (packets (w .state .flow) (w .slots))
       agree =
-          cover-agree (wasCovered w ds) (coversPsn n) (w .state .flow .low) (packets (w .state .flow) (w .slots)) (H .low-fits)
+          cover-agree (wasCovered w ds) (coversPsn n) (w .state .flow .low) (packets (w .state .flow) (w .slots)) (ledger-facts w holds .low-psn)
           (λ k hk out.
           bool-same (wasCovered w ds (psnOf w k)) (coversPsn n (psnOf w k))
           (covered-too n others (psnOf w k)
@@ -331,12 +336,11 @@ module _ (w : World) (at : ℕ) (n : Ack) (others : List Ack) (H : Holds w) (nw 
           (e .1 (psnOf w k)))
 
 pub burst : Burst
-burst w at n others ds s hl hn nw o ar tm =
-    let H : Holds w = record { sound-so = s; low-fits = hl; next-fits = hn } in
-    let f = fine w at n others H nw in
+burst w at n others ds nw o ar tm =
+    let f = fine w at n others nw in
     let alone : Arrival = record { time = at; ack = n } in
-    leaves w at n others H nw ds o ar tm
-    ∙ sym (leaves w at n others H nw (alone ∷ [])
+    leaves w at n others nw ds o ar tm
+    ∙ sym (leaves w at n others nw (alone ∷ [])
     (λ d m. inl (ap (λ (y : Arrival). y .ack) (List·Memᴰ·eq-of-singleton m)))
     (alone, List·Memᴰ·head refl, refl)
     (f .later, f .early, tt))

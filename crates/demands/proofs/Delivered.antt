@@ -12,21 +12,25 @@ use native.Mathlib.Decide.{decLe}
 use lib.IntN.{ℤ}
 use lib.ListN.{getD}
 use lib.Seq.{getD-drop}
-use borrow.Author.Tests.{eq-eqb}
+use borrow.Author.Tests.{eq-eqb, ne-eqb}
 use Rattle.decide.specs.Branch.{lt-yes, lt-no, eq-both}
 use Rattle.serial.specs.Wrap.{minus}
 use Rattle.serial.specs.Psn.{psns, plus}
-use Rattle.serial.proofs.Wraps.{minus-is}
+use Rattle.serial.proofs.Wraps.{minus-is, minus-lt}
 use Rattle.serial.proofs.Cover.{plus-lt, plus-plus, minus-plus}
 use Rattle.ledger.specs.Packets.{doneStatus, none, isOut, isDone, coverOne, coverAll, doneRun}
 use Rattle.ledger.specs.Ring.{Ledger, longOf, packets, offsetOf, packetOf}
 use Rattle.ledger.specs.declared.Packet.{Packet}
 use Rattle.ledger.proofs.Facts.{Facts, packets-long}
 use Rattle.ledger.proofs.Queues.{cover-no, cover-out, cover-at, done-in, now-done, goneOf, leftOf}
-use Rattle.sender.specs.World.{ledgerOf}
-use Rattle.demands.specs.Burst.{deliver, psnOf, isDelivered, wasCovered}
+use Rattle.sender.specs.World.{World, ledgerOf}
+use Rattle.sender.specs.Sound.{sound}
+use Rattle.sender.specs.Events.{onAck}
+use Rattle.demands.specs.Events.{ack}
+use Rattle.demands.specs.Burst.{Arrival, deliver, Outstanding, psnOf, isDelivered, wasCovered}
 use Rattle.demands.specs.Demands.{Delivers}
-use Rattle.demands.proofs.Sounded.{Holds, holds-facts}
+use Rattle.demands.proofs.Runs.{refused-same, accepted}
+use Rattle.demands.proofs.Sounded.{ledger-facts}
 use Rattle.demands.proofs.Ledgers.{settledBy, left-long, settled-long, settled-packets, heldIn, inFlightIn, deliver-settles}
 
 -- every packet of the run at the front is done
@@ -56,7 +60,7 @@ passed : (p i : ℕ) → p < psns → 0 < i → i < psns → minus psns p (plus 
 unfolding plus
 passed p i hp hi hl = let e = minus-is psns (psns - i) p (plus p i) ((p + i) / psns) 1 (omega arith) (omega arith) in omega arith
 
-module _ (mtu clock : ℕ) (l : Ledger) (F : Facts mtu clock (l .flow) (l .slots)) (fits : l .flow .low < psns)
+module _ (mtu clock : ℕ) (l : Ledger) (F : Facts mtu clock (l .flow) (l .slots))
     (c : ℕ → Bool) (held : ℕ) (z : ℤ) (k : ℕ) (within : k < longOf (l .flow)) where
   abbrev low : ℕ
   low = l .flow .low
@@ -75,7 +79,7 @@ module _ (mtu clock : ℕ) (l : Ledger) (F : Facts mtu clock (l .flow) (l .slots
 
   -- how many packets are left, and of how few
   long : longOf (m .flow) + gone ≡ longOf (l .flow)
-  long = omega (arith, settled-long mtu clock l F fits c held z, left-long mtu clock l F fits c held z)
+  long = omega (arith, settled-long mtu clock l F c held z, left-long mtu clock l F c held z)
 
   few : longOf (l .flow) ≤ 4096
   few = omega (arith, F .fits, F .even .few)
@@ -104,7 +108,7 @@ module _ (mtu clock : ℕ) (l : Ledger) (F : Facts mtu clock (l .flow) (l .slots
       let e : gone + (k - gone) ≡ k = omega arith in
       let p : isDone (getD ys k none) ≡ isDone (packetOf (m .flow) (m .slots) (plus low k)) =
       ap isDone (sym (
-      ap (λ (qs : List Packet). getD qs (offsetOf (m .flow) (plus low k)) none) (settled-packets mtu clock l F fits c held z)
+      ap (λ (qs : List Packet). getD qs (offsetOf (m .flow) (plus low k)) none) (settled-packets mtu clock l F c held z)
       ∙ ap (λ (j : ℕ). getD (leftOf c low xs) j none) o
       ∙ getD-drop gone ys (k - gone) none
       ∙ ap (λ (j : ℕ). getD ys j none) e)) in
@@ -113,14 +117,47 @@ module _ (mtu clock : ℕ) (l : Ledger) (F : Facts mtu clock (l .flow) (l .slots
       let q = past (omega arith) in
       sym (lt-no _ _ (isDone (getD ys k none)) _ true (omega (arith, long, few)) (run-done ys k (omega arith))))
 
-pub delivers : Delivers
-delivers w ds s hl hn k o =
-    let H : Holds w = record { sound-so = s; low-fits = hl; next-fits = hn } in
-    let F = holds-facts H in
+from-sound : (w : World) (ds : List Arrival) → sound w ≡ true → (k : ℕ) → Outstanding w k
+    → isDelivered (ledgerOf (deliver w ds)) (psnOf w k) ≡ wasCovered w ds (psnOf w k)
+from-sound w ds h k o =
+    let F = ledger-facts w h in
     let c = wasCovered w ds in
     let f = w .state .flow in
     let xs = packets f (w .slots) in
-    ap (λ (l : Ledger). isDelivered l (psnOf w k)) (deliver-settles ds w H)
-    ∙ settled-delivers (w .state .settings .mtu) (w .state .clock) (ledgerOf w) F hl c (heldIn (deliver w ds)) (inFlightIn (deliver w ds)) k (o .within)
-    ∙ ap isDone (cover-at c (f .low) k xs hl (omega (arith, packets-long f (w .slots), o .within)))
+    ap (λ (l : Ledger). isDelivered l (psnOf w k)) (deliver-settles ds w h)
+    ∙ settled-delivers (w .state .settings .mtu) (w .state .clock) (ledgerOf w) F c (heldIn (deliver w ds)) (inFlightIn (deliver w ds)) k (o .within)
+    ∙ ap isDone (cover-at c (f .low) k xs (F .low-psn) (omega (arith, packets-long f (w .slots), o .within)))
     ∙ cover-done (c (psnOf w k)) (getD xs k none) (o .out)
+
+-- a start that does not hold together: every ACK is refused, and an outstanding packet stays so
+module _ (w : World) (h : sound w ≡ false) where
+  refused : (d : Arrival) → onAck (d .time) (d .ack) w .number ≡ 0 → ⊥
+  refused d z = true≢false (sym (accepted (ack (d .time) (d .ack)) w z .sound-so) ∙ h)
+
+  stays : (d : Arrival) → onAck (d .time) (d .ack) w .after ≡ w
+  stays d = refused-same (ack (d .time) (d .ack)) w (refused d)
+
+  none-moves : (ds : List Arrival) → deliver w ds ≡ w
+  none-moves [] = refl
+  none-moves (d ∷ ds) = ap (λ (v : World). deliver v ds) (stays d) ∙ none-moves ds
+
+  none-covers : (ds : List Arrival) (psn : ℕ) → wasCovered w ds psn ≡ false
+  none-covers [] psn = refl
+  none-covers (d ∷ ds) psn = rw (ne-eqb (onAck (d .time) (d .ack) w .number) 0 (refused d), stays d) (none-covers ds psn)
+
+  still-out : (k : ℕ) → Outstanding w k → isDelivered (ledgerOf w) (psnOf w k) ≡ false
+  unfolding isDelivered packetOf offsetOf longOf
+  still-out k o =
+      let f = w .state .flow in
+      let xs = packets f (w .slots) in
+      let l : longOf f < psns = minus-lt psns (f .next) (f .low) (omega arith) in
+      let e : minus psns (plus (f .low) k) (f .low) ≡ k = minus-plus (f .low) k (omega (arith, o .within)) in
+      sym (lt-yes _ _ false _ true (omega (arith, o .within))
+      (sym (ap (λ (j : ℕ). isDone (getD xs j none)) e ∙ rw (cover-no (getD xs k none)) at (cover-done false (getD xs k none) (o .out)))))
+
+pub delivers : Delivers
+delivers w ds k o = go (sound w) refl
+  where
+    go : (b : Bool) → sound w ≡ b → isDelivered (ledgerOf (deliver w ds)) (psnOf w k) ≡ wasCovered w ds (psnOf w k)
+    go true h = from-sound w ds h k o
+    go false h = rw (none-moves w h ds, none-covers w h ds (psnOf w k)) (still-out w h k o)

@@ -3,8 +3,9 @@
 -- Assumes nothing.
 use mathlib.Core.Path.{_≡_, refl, sym, ap, _∙_}
 use mathlib.Core.Logic.{by-cases}
-use mathlib.Core.List.{List, [], _∷_, List·Memᴰ·head, List·Memᴰ·tail}
-use Prim.Native.Nat.{ℕ, _+_, _<_}
+use mathlib.Core.Bool.{true}
+use mathlib.Core.List.{List, [], _∷_}
+use Prim.Native.Nat.{ℕ, _+_, _%_}
 use native.Mathlib.Decide.{ℕ-discrete}
 use native.Mathlib.Omega.{arith}
 use lib.IntN.{ℤ, pos, _+ℤ_, _-ℤ_, +ℤ-assoc, +ℤ-comm, +ℤ-idr, +ℤ-idl, negℤ-+ℤ}
@@ -18,14 +19,15 @@ use Rattle.ledger.specs.Steps.{pushedOf, resentOf, markedOf, ackedOf}
 use Rattle.ledger.proofs.Judging.{resend-facts, mark-facts}
 use Rattle.ledger.proofs.Sends.{flies}
 use Rattle.sender.specs.World.{World, ledgerOf}
+use Rattle.sender.specs.Sound.{sound}
 use Rattle.sender.specs.Start.{freshState}
 use Rattle.sender.proofs.Starts.{set-up-fresh}
 use Rattle.sender.proofs.Stepping.{send-facts, nack-facts, loss-facts}
-use Rattle.demands.specs.Events.{Event, newData, send, ack, nack, loss, path, answer, run, Fits, AllFit, SetUp}
+use Rattle.demands.specs.Events.{Event, newData, send, ack, nack, loss, path, answer, run, SetUp}
 use Rattle.demands.specs.Sums.{Past, noPast, remember, sentBy, reportedBy, lostBy, sum}
 use Rattle.demands.specs.Demands.{History}
 use Rattle.demands.proofs.Runs.{rowsOf, ledgerStep, step-ledger, accepted, refused-same}
-use Rattle.demands.proofs.Sounded.{Holds, answer-holds, set-up-holds}
+use Rattle.demands.proofs.Sounded.{answer-sound, start-sound}
 use Rattle.demands.proofs.Pasts.{Agrees, agrees-step, agrees-fresh, size-remembered}
 
 -- ---- what one event moves
@@ -35,20 +37,20 @@ abbrev moved : ℤ → ℕ → ℕ → ℕ → ℤ
 moved z sent reported lost = z +ℤ pos sent -ℤ pos reported -ℤ pos lost
 
 -- a NACK or a loss: the packet flies, and its size is what the past remembers
-marked-moves : (p : Past) (l : Ledger) (psn : ℕ) → firstOf (markRows (l .flow) (l .totals .«in_flight») (l .slots) psn) ≡ 0 → psn < psns → Agrees p l
-    → markedOf psn l .totals .«in_flight» ≡ moved (l .totals .«in_flight») 0 0 (p .bytes psn)
+marked-moves : (p : Past) (l : Ledger) (psn : ℕ) → firstOf (markRows (l .flow) (l .totals .«in_flight») (l .slots) psn) ≡ 0 → Agrees p l
+    → markedOf psn l .totals .«in_flight» ≡ moved (l .totals .«in_flight») 0 0 (p .bytes (psn % psns))
 unfolding markedOf
-marked-moves p l psn rows fits A =
+marked-moves p l psn rows A =
     let x = packetOf (l .flow) (l .slots) psn in
     let flying = flies x (mark-facts (l .flow) (l .totals .«in_flight») (l .slots) psn rows .0) in
-    rw (size-remembered p l psn A fits (omega arith)) (simp +ℤ-idr)
+    rw (size-remembered p l psn A (omega arith)) (simp +ℤ-idr)
 
 -- an accepted event moves in-flight by what it sends, reports and takes out as lost
-moves : (e : Event) (w : World) (p : Past) → firstOf (rowsOf e w) ≡ 0 → Fits e → Agrees p (ledgerOf w)
+moves : (e : Event) (w : World) (p : Past) → firstOf (rowsOf e w) ≡ 0 → Agrees p (ledgerOf w)
     → ledgerStep e (ledgerOf w) .totals .«in_flight» ≡ moved (w .state .totals .«in_flight») (sentBy e p) (reportedBy e p) (lostBy e p)
 unfolding sentBy reportedBy lostBy pushedOf resentOf ackedOf
-moves (newData time bytes) w p rows fits A = simp +ℤ-idr
-moves (send time a) w p rows fits A =
+moves (newData time bytes) w p rows A = simp +ℤ-idr
+moves (send time a) w p rows A =
     let z = w .state .totals .«in_flight» in
     let S = send-facts time a (w .state) (w .slots) rows in
     so-both (λ (l : Ledger). l .totals .«in_flight» ≡ moved z (a .size) 0 0) (a .resend) _ _
@@ -56,10 +58,10 @@ moves (send time a) w p rows fits A =
     let size-is = resend-facts (w .state .flow) (w .slots) (a .psn) (a .size) (rw again at (S .rows)) .1 in
     rw (← size-is) (simp +ℤ-idr))
     (λ new. simp +ℤ-idr)
-moves (ack time a) w p rows fits A = rw (A .count-is) (simp +ℤ-idr)
-moves (nack time a) w p rows fits A = marked-moves p (ledgerOf w) (a .psn) (nack-facts time a (w .state) (w .slots) rows .rows) fits A
-moves (loss time a) w p rows fits A = marked-moves p (ledgerOf w) (a .psn) (loss-facts time a (w .state) (w .slots) rows .rows) fits A
-moves (path time) w p rows fits A = simp +ℤ-idr
+moves (ack time a) w p rows A = rw (A .count-is) (simp +ℤ-idr)
+moves (nack time a) w p rows A = marked-moves p (ledgerOf w) (a .psn) (nack-facts time a (w .state) (w .slots) rows .rows) A
+moves (loss time a) w p rows A = marked-moves p (ledgerOf w) (a .psn) (loss-facts time a (w .state) (w .slots) rows .rows) A
+moves (path time) w p rows A = simp +ℤ-idr
 
 -- ---- sums
 
@@ -86,11 +88,11 @@ moved-more z a b c k m n = regroup z (pos a) (pos b) (pos c) (pos k) (pos m) (po
 
 -- ---- a run
 
-net : (es : List Event) (w : World) (p : Past) → Holds w → AllFit es → Agrees p (ledgerOf w)
+net : (es : List Event) (w : World) (p : Past) → sound w ≡ true → Agrees p (ledgerOf w)
     → run w es .state .totals .«in_flight» ≡ moved (w .state .totals .«in_flight») (sum sentBy w p es) (sum reportedBy w p es) (sum lostBy w p es)
 unfolding sum
-net [] w p H fits A = simp +ℤ-idr
-net (e ∷ es) w p H fits A =
+net [] w p h A = simp +ℤ-idr
+net (e ∷ es) w p h A =
     by-cases (ℕ-discrete (answer e w .number) 0)
     (λ n.
     let T = accepted e w n in
@@ -98,18 +100,15 @@ net (e ∷ es) w p H fits A =
     let q = remember e p in
     let z = w .state .totals .«in_flight» in
     let l : ledgerOf after ≡ ledgerStep e (ledgerOf w) = ap ledgerOf (T .leaves) ∙ step-ledger e w in
-    net es after q (answer-holds e w H) later (rw l (agrees-step e w p H (T .none-refuses) A))
+    net es after q (answer-sound e w h) (rw l (agrees-step e w p h (T .none-refuses) A))
     ∙ ap (λ (x : ℤ). moved x (sum sentBy after q es) (sum reportedBy after q es) (sum lostBy after q es))
-    (ap (λ (m : Ledger). m .totals .«in_flight») l ∙ moves e w p (T .none-refuses) (fits e (List·Memᴰ·head refl)) A)
+    (ap (λ (m : Ledger). m .totals .«in_flight») l ∙ moves e w p (T .none-refuses) A)
     ∙ moved-more z (sentBy e p) (reportedBy e p) (lostBy e p) (sum sentBy after q es) (sum reportedBy after q es) (sum lostBy after q es)
     ∙ rw (sum-more sentBy w p e es n, sum-more reportedBy w p e es n, sum-more lostBy w p e es n))
     (λ n.
     ap (λ (x : World). run x es .state .totals .«in_flight») (refused-same e w n)
-    ∙ net es w p H later A
+    ∙ net es w p h A
     ∙ rw (sum-same sentBy w p e es n, sum-same reportedBy w p e es n, sum-same lostBy w p e es n))
-  where
-    later : AllFit es
-    later d m = fits d (List·Memᴰ·tail m)
 
 -- nothing is in flight at the start
 fresh-empty : {s : Settings} {r : Ring} {times : List ℕ} {w : World} → SetUp s r times w → w .state .totals .«in_flight» ≡ pos 0
@@ -118,7 +117,7 @@ fresh-empty {s} {r} {times} {w} U = rw (U .gives, set-up-fresh s r times (U .acc
 
 -- DEMAND 2: in-flight bytes equal sent less reported less taken out as lost, summed from set-up on
 pub history : History
-history s r times w es U fits =
-    net es w noPast (set-up-holds U) fits (agrees-fresh U)
+history s r times w es U =
+    net es w noPast (start-sound U) (agrees-fresh U)
     ∙ ap (λ (z : ℤ). moved z (sum sentBy w noPast es) (sum reportedBy w noPast es) (sum lostBy w noPast es)) (fresh-empty U)
     ∙ simp +ℤ-idl

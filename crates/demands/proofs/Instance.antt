@@ -14,7 +14,7 @@ use lib.ListN.{replicate}
 use Rattle.decide.specs.Branch.{ifSo, ifLt, ifEq}
 use Rattle.decide.specs.Test.{inside}
 use Rattle.serial.specs.Wrap.{minus}
-use Rattle.serial.specs.Psn.{psns, plus, bitOf, covered, backOf, spanOf, unsentOrOld}
+use Rattle.serial.specs.Psn.{plus, bitOf, covered, backOf, spanOf, unsentOrOld}
 use Rattle.serial.specs.Count.{counts, half, aheadOf, isOld, forwardOf}
 use Rattle.window.specs.Range.{isEvCount, inRange}
 use Rattle.window.specs.Held.{isHeld, freshOf}
@@ -36,7 +36,7 @@ use Rattle.demands.specs.Events.{ack}
 use Rattle.demands.specs.Burst.{Arrival, deliver, Timely, Outstanding, psnOf, coversPsn, Of, Arrives}
 use Rattle.demands.specs.Cases.{settingsE}
 use Rattle.demands.proofs.Runs.{step-ledger, step-clock, step-settings}
-use Rattle.demands.proofs.Sounded.{Holds, step-holds}
+use Rattle.demands.proofs.Sounded.{step-sound}
 use Rattle.demands.proofs.Ledgers.{Fine, fine-accepted, fine-rows}
 use Rattle.demands.proofs.Bursts.{burst}
 
@@ -58,10 +58,6 @@ start =
 start-sound : sound start ≡ true
 unfolding start settingsE sound isEvCount inRange inside isHeld ceilingOf freshOf coherent stands isRing isCapacity longOf minus allTo slotOk ifLt ifSo ifEq isLive isZero headOk tallies sumOf flyingOne markedOne markedSize inBounds packets queueOf tabulate packetAt placeOf plus ageOf lay laid isDone timesOk namedOk phaseOf phaseNumber hasRoom stateOf
 start-sound = refl
-
-start-holds : Holds start
-unfolding start stateOf
-start-holds = record { sound-so = start-sound; low-fits = omega arith; next-fits = omega arith }
 
 -- ---- ACKs
 
@@ -108,9 +104,6 @@ Nothing w n others = Unit {0}
 -- all of them; those on the other ACKs, their counts and what they cover, are what is given
 pub record Premises (OnCounts OnCovers : World → Ack → List Ack → Type 0) (w : World) (time : ℕ) (n : Ack) (others : List Ack) (ds : List Arrival)
     : Type 0 where
-  pub sound-so : sound w ≡ true
-  pub low-fits : w .state .flow .low < psns
-  pub next-fits : w .state .flow .next < psns
   pub accepted : onAck time n w .number ≡ 0
   pub not-behind : minus counts (n .count) (w .state .flow .held) < half
   pub on-counts : OnCounts w n others
@@ -127,7 +120,7 @@ Same w time n ds = ledgerOf (deliver w ds) ≡ ledgerOf (onAck time n w .after)
 pub premises-same : (w : World) (time : ℕ) (n : Ack) (others : List Ack) (ds : List Arrival) → Premises Behind CoversToo w time n others ds
     → Same w time n ds
 premises-same w time n others ds P =
-    burst w time n others ds (P .sound-so) (P .low-fits) (P .next-fits)
+    burst w time n others ds
     (record { accepted = P .accepted; not-behind = P .not-behind; others-behind = P .on-counts; covers-too = P .on-covers })
     (P .of) (P .arrives) (P .timely)
 
@@ -147,7 +140,7 @@ unfolding start settingsE stateOf covered bitOf minus plus unsentOrOld backOf sp
 newest-fine = record { later = omega arith; early = omega arith; fields = refl; sent = refl; afloat = refl }
 
 newest-accepted : onAck 110 newest start ≡ record { number = 0; after = ackStep 110 newest start }
-newest-accepted = fine-accepted 110 newest start newest-fine start-holds
+newest-accepted = fine-accepted 110 newest start newest-fine start-sound
 
 newest-near : minus counts (newest .count) (start .state .flow .held) < half
 unfolding start stateOf minus
@@ -160,9 +153,6 @@ module _ (OnCounts OnCovers : World → Ack → List Ack → Type 0) (others : L
   unfolding start stateOf
   premises counts-so covers-so o ar tm =
       record {
-        sound-so = start-sound;
-        low-fits = start-holds .low-fits;
-        next-fits = start-holds .next-fits;
         accepted = ap (λ (x : Answered). x .number) newest-accepted;
         not-behind = newest-near;
         on-counts = counts-so;
@@ -261,7 +251,7 @@ module _ (a : Ack) (f : Fine 120 a evs 110 left) where
   both-leave =
       ap (λ (x : Answered). ledgerOf (onAck 120 a (x .after) .after)) newest-accepted
       ∙ ap (λ (x : Answered). ledgerOf (x .after))
-      (fine-accepted 120 a w fine-here (step-holds (ack 110 newest) start start-holds (fine-rows 110 newest start newest-fine)))
+      (fine-accepted 120 a w fine-here (step-sound (ack 110 newest) start start-sound (fine-rows 110 newest start newest-fine)))
       ∙ step-ledger (ack 120 a) w
       ∙ ap (ackedOf (a .cum) (a .map) (a .count)) left-is
 

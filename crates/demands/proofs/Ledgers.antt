@@ -29,6 +29,7 @@ use Rattle.ledger.proofs.Queues.{plus-none, plus-next, cover-no, cover-stays, c
 use Rattle.ledger.proofs.Judging.{ack-0, ack-facts}
 use Rattle.sender.specs.Limits.{timeEnd}
 use Rattle.sender.specs.World.{World, Answered, ledgerOf}
+use Rattle.sender.specs.Sound.{sound}
 use Rattle.sender.specs.Rows.{withSound, ackAllRows}
 use Rattle.sender.specs.Steps.{ackStep}
 use Rattle.sender.specs.Events.{decided, onAck}
@@ -37,7 +38,7 @@ use Rattle.sender.proofs.Stepping.{time-facts}
 use Rattle.demands.specs.Events.{ack}
 use Rattle.demands.specs.Burst.{Arrival, deliver, coversPsn, wasCovered}
 use Rattle.demands.proofs.Runs.{step-ledger}
-use Rattle.demands.proofs.Sounded.{Holds, holds-facts, step-holds}
+use Rattle.demands.proofs.Sounded.{ledger-facts, step-sound}
 
 -- ---- queues
 
@@ -101,7 +102,7 @@ same : (next held backlog : ℕ) (z : ℤ) {low low' fl fl' mk mk' by by' cap ca
     (record { flying = fl'; marked = mk'; «marked_bytes» = by'; «in_flight» = z }) (laid cap' low' ys)
 same next held backlog z a b c d e f = rw (a, b, c, d, e, f)
 
-module _ (mtu clock : ℕ) (l : Ledger) (F : Facts mtu clock (l .flow) (l .slots)) (fits : l .flow .low < psns) where
+module _ (mtu clock : ℕ) (l : Ledger) (F : Facts mtu clock (l .flow) (l .slots)) where
   abbrev xs : List Packet
   xs = packets (l .flow) (l .slots)
 
@@ -148,13 +149,13 @@ module _ (mtu clock : ℕ) (l : Ledger) (F : Facts mtu clock (l .flow) (l .slots
     unfolding settledBy
     settled-twice d held' z' =
         let q = plus low (goneOf c low xs) in
-        let t = settle-twice c d low xs fits in
+        let t = settle-twice c d low xs (F .low-psn) in
         rw settled-packets
         (same (l .flow .next) held' (l .flow .backlog) z'
         (plus-plus low (goneOf c low xs) (goneOf d q (leftOf c low xs)) ∙ ap (plus low) (t .0))
-        (omega (arith, covered-twice c d flyingOne flying-out low xs fits))
-        (omega (arith, covered-twice c d markedOne marked-out low xs fits))
-        (omega (arith, covered-twice c d markedSize bytes-out low xs fits))
+        (omega (arith, covered-twice c d flyingOne flying-out low xs (F .low-psn)))
+        (omega (arith, covered-twice c d markedOne marked-out low xs (F .low-psn)))
+        (omega (arith, covered-twice c d markedSize bytes-out low xs (F .low-psn)))
         (laid-cap (capOf (l .slots)) q (leftOf c low xs))
         (t .1))
 
@@ -168,7 +169,7 @@ module _ (mtu clock : ℕ) (l : Ledger) (F : Facts mtu clock (l .flow) (l .slots
       let sums : (adds : Packet → ℕ) → OfOut adds → coveredSum adds (λ psn. false) low xs ≡ 0 =
       λ adds z. omega (arith, cover-sum adds z (λ psn. false) low xs, ap (sumOf adds) e) in
       same (l .flow .next) (l .flow .held) (l .flow .backlog) (l .totals .«in_flight»)
-      (ap (plus low) g ∙ plus-none low fits)
+      (ap (plus low) g ∙ plus-none low (F .low-psn))
       (omega (arith, sums flyingOne flying-out))
       (omega (arith, sums markedOne marked-out))
       (omega (arith, sums markedSize bytes-out))
@@ -230,9 +231,9 @@ module _ (time : ℕ) (a : Ack) (w : World) where
         both-ok : (leb counts (a .count) ≡ false) × (leb (w .state .settings .«ev_count») (a .ev) ≡ false)
         both-ok = neither (leb counts (a .count)) (leb (w .state .settings .«ev_count») (a .ev)) (ok .0)
 
-    pub fine-accepted : Holds w → onAck time a w ≡ record { number = 0; after = ackStep time a w }
+    pub fine-accepted : sound w ≡ true → onAck time a w ≡ record { number = 0; after = ackStep time a w }
     unfolding onAck decided
-    fine-accepted H = sym (eq-yes _ 0 _ _ _ (sym (first-later 0 2 _ _ (ap not (H .sound-so)) (sym fine-rows))) refl)
+    fine-accepted h = sym (eq-yes _ 0 _ _ _ (sym (first-later 0 2 _ _ (ap not h) (sym fine-rows))) refl)
 
 -- ---- a list of ACKs
 
@@ -250,22 +251,22 @@ Settles v cov l = ledgerOf v ≡ settledBy cov (heldIn v) (inFlightIn v) l
 abbrev SettlesOn : World → Ack → List Arrival → Answered → Type 0
 SettlesOn w a ds x = Settles (deliver (x .after) ds) (λ psn. (eqb (x .number) 0 && coversPsn a psn) || wasCovered (x .after) ds psn) (ledgerOf w)
 
-pub deliver-settles : (ds : List Arrival) (w : World) → Holds w → Settles (deliver w ds) (wasCovered w ds) (ledgerOf w)
-deliver-settles [] w H = sym (settled-none (w .state .settings .mtu) (w .state .clock) (ledgerOf w) (holds-facts H) (H .low-fits))
-deliver-settles (d ∷ ds) w H = go (λ v K. deliver-settles ds v K)
+pub deliver-settles : (ds : List Arrival) (w : World) → sound w ≡ true → Settles (deliver w ds) (wasCovered w ds) (ledgerOf w)
+deliver-settles [] w h = sym (settled-none (w .state .settings .mtu) (w .state .clock) (ledgerOf w) (ledger-facts w h))
+deliver-settles (d ∷ ds) w h = go (λ v K. deliver-settles ds v K)
   where
-    go : ((v : World) → Holds v → Settles (deliver v ds) (wasCovered v ds) (ledgerOf v)) → SettlesOn w (d .ack) ds (onAck (d .time) (d .ack) w)
+    go : ((v : World) → sound v ≡ true → Settles (deliver v ds) (wasCovered v ds) (ledgerOf v)) → SettlesOn w (d .ack) ds (onAck (d .time) (d .ack) w)
     go ih =
         let a = d .ack in
         ack-cases (SettlesOn w a ds) (d .time) a w
         (λ rows.
         let v = ackStep (d .time) a w in
         let u = deliver v ds in
-        ih v (step-holds (ack (d .time) a) w H rows)
+        ih v (step-sound (ack (d .time) a) w h rows)
         ∙ ap (settledBy (wasCovered v ds) (heldIn u) (inFlightIn u)) (step-ledger (ack (d .time) a) w ∙ acked-settled (a .cum) (a .map) (a .count) (ledgerOf w))
-        ∙ settled-twice (w .state .settings .mtu) (w .state .clock) (ledgerOf w) (holds-facts H) (H .low-fits)
+        ∙ settled-twice (w .state .settings .mtu) (w .state .clock) (ledgerOf w) (ledger-facts w h)
         (covered (a .cum) (a .map)) _ _ (wasCovered v ds) (heldIn u) (inFlightIn u))
-        (λ n h.
+        (λ n z.
         let u = deliver w ds in
-        ih w H
-        ∙ ap (λ (b : Bool). settledBy (λ psn. (b && coversPsn a psn) || wasCovered w ds psn) (heldIn u) (inFlightIn u) (ledgerOf w)) (sym (ne-eqb n 0 h)))
+        ih w h
+        ∙ ap (λ (b : Bool). settledBy (λ psn. (b && coversPsn a psn) || wasCovered w ds psn) (heldIn u) (inFlightIn u) (ledgerOf w)) (sym (ne-eqb n 0 z)))

@@ -6,7 +6,7 @@ use mathlib.Core.Path.{_≡_, refl, sym, ap, _∙_}
 use mathlib.Core.Bool.{Bool, true, false, _&&_}
 use mathlib.Core.Logic.{by-cases}
 use mathlib.Core.List.{List, [], _∷_, _++_}
-use Prim.Native.Nat.{ℕ, _+_, _≤_, _<_}
+use Prim.Native.Nat.{ℕ, _+_, _%_, _≤_, _<_}
 use native.Mathlib.Decide.{decLt, ℕ-discrete}
 use native.Mathlib.Omega.{arith}
 use lib.ListN.{length, getD, set, drop, length-set, length-append, length-drop, List·getD-append}
@@ -15,7 +15,7 @@ use Rattle.decide.specs.Branch.{ifSo, ifEq, so-both, eq-yes, eq-no}
 use Rattle.decide.specs.Rows.{firstOf}
 use Rattle.serial.specs.Wrap.{minus}
 use Rattle.serial.specs.Psn.{psns, plus, covered}
-use Rattle.serial.proofs.Wraps.{minus-self}
+use Rattle.serial.proofs.Wraps.{minus-self, minus-turns}
 use Rattle.serial.proofs.Cover.{plus-plus, plus-minus, minus-plus}
 use Rattle.window.specs.declared.Settings.{Settings}
 use Rattle.ledger.specs.Packets.{none, markedStatus, doneStatus, withStatus, isOut, coverOne, coverAll}
@@ -30,13 +30,14 @@ use Rattle.ledger.proofs.Facts.{Facts, packets-long, packets-laid, packet-some}
 use Rattle.ledger.proofs.Judging.{new-facts}
 use Rattle.ledger.proofs.Sends.{new-room}
 use Rattle.sender.specs.World.{World, ledgerOf}
+use Rattle.sender.specs.Sound.{sound}
 use Rattle.sender.specs.Start.{freshState}
 use Rattle.sender.proofs.Starts.{set-up-fresh}
 use Rattle.sender.proofs.Stepping.{send-facts}
 use Rattle.demands.specs.Events.{Event, newData, send, ack, nack, loss, path, SetUp}
 use Rattle.demands.specs.Sums.{Past, noPast, remember}
 use Rattle.demands.proofs.Runs.{rowsOf, ledgerStep}
-use Rattle.demands.proofs.Sounded.{Holds, holds-facts}
+use Rattle.demands.proofs.Sounded.{ledger-facts}
 use Rattle.demands.proofs.Ledgers.{settledBy, left-long, settled-long}
 
 -- ---- the sizes of a queue
@@ -130,10 +131,10 @@ module _ {mtu clock : ℕ} {p : Past} (l : Ledger) (F : Facts mtu clock (l .flow
   marked-agrees psn = changed-agrees psn _ (withStatus markedStatus (packetOf (l .flow) (l .slots) psn)) refl
 
   -- a new packet, whose PSN is next
-  module _ (fits : l .flow .next < psns) (room : longOf (l .flow) < capOf (l .slots)) where
+  module _ (room : longOf (l .flow) < capOf (l .slots)) where
     next-is : plus (l .flow .low) (longOf (l .flow)) ≡ l .flow .next
     unfolding longOf
-    next-is = plus-minus (l .flow .low) (l .flow .next) fits
+    next-is = plus-minus (l .flow .low) (l .flow .next) (F .next-psn)
 
     pushed-long : (time size : ℕ) → longOf (pushedOf time size l .flow) ≡ longOf (l .flow) + 1
     unfolding pushedOf longOf
@@ -155,18 +156,18 @@ module _ {mtu clock : ℕ} {p : Past} (l : Ledger) (F : Facts mtu clock (l .flow
         (rw behind (sized-more (p .bytes) (f .low) xs y (omega (arith, F .even .few, long)) sized))
 
   -- an ACK
-  acked-agrees : (cum map count : ℕ) → l .flow .low < psns
+  acked-agrees : (cum map count : ℕ)
       → Agrees (record { count = heldOf count (p .count); bytes = p .bytes }) (ackedOf cum map count l)
   unfolding ackedOf settledBy
-  acked-agrees cum map count fits =
+  acked-agrees cum map count =
       let cov = covered cum map in
       let low = l .flow .low in
       let xs = packets (l .flow) (l .slots) in
       let held = heldOf count (l .flow .held) in
       let z = ackedOf cum map count l .totals .«in_flight» in
-      agrees-laid _ (capOf (l .slots)) _ _ (leftOf cov low xs) (F .cap) (settled-long mtu clock l F fits cov held z)
-      (omega (arith, left-long mtu clock l F fits cov held z, F .fits)) (ap (heldOf count) (A .count-is))
-      (sized-drop (p .bytes) cov low (goneOf cov low xs) xs fits sized)
+      agrees-laid _ (capOf (l .slots)) _ _ (leftOf cov low xs) (F .cap) (settled-long mtu clock l F cov held z)
+      (omega (arith, left-long mtu clock l F cov held z, F .fits)) (ap (heldOf count) (A .count-is))
+      (sized-drop (p .bytes) cov low (goneOf cov low xs) xs (F .low-psn) sized)
 
 -- ---- along a run
 
@@ -177,31 +178,36 @@ agrees-either true f g = f refl
 agrees-either false f g = g refl
 
 -- an accepted event, remembered, agrees with what it leaves
-pub agrees-step : (e : Event) (w : World) (p : Past) → Holds w → firstOf (rowsOf e w) ≡ 0 → Agrees p (ledgerOf w)
+pub agrees-step : (e : Event) (w : World) (p : Past) → sound w ≡ true → firstOf (rowsOf e w) ≡ 0 → Agrees p (ledgerOf w)
     → Agrees (remember e p) (ledgerStep e (ledgerOf w))
 unfolding remember
-agrees-step (newData time bytes) w p H rows A = supplied-agrees (ledgerOf w) (holds-facts H) A bytes
-agrees-step (send time a) w p H rows A =
+agrees-step (newData time bytes) w p h rows A = supplied-agrees (ledgerOf w) (ledger-facts w h) A bytes
+agrees-step (send time a) w p h rows A =
     let f = w .state .flow in
-    let F = holds-facts H in
+    let F = ledger-facts w h in
     let S = send-facts time a (w .state) (w .slots) rows in
     agrees-either (a .resend)
     (λ again. resent-agrees (ledgerOf w) F A time (a .psn))
     (λ new.
     let R = rw new at (S .rows) in
-    pushed-agrees (ledgerOf w) F A (H .next-fits) (new-room _ _ f (w .slots) F (a .psn) (a .size) R .1) time (a .psn) (a .size)
+    pushed-agrees (ledgerOf w) F A (new-room _ _ f (w .slots) F (a .psn) (a .size) R .1) time (a .psn) (a .size)
     (new-facts f (capOf (w .slots)) (a .psn) (a .size) R .0))
-agrees-step (ack time a) w p H rows A = acked-agrees (ledgerOf w) (holds-facts H) A (a .cum) (a .map) (a .count) (H .low-fits)
-agrees-step (nack time a) w p H rows A = marked-agrees (ledgerOf w) (holds-facts H) A (a .psn)
-agrees-step (loss time a) w p H rows A = marked-agrees (ledgerOf w) (holds-facts H) A (a .psn)
-agrees-step (path time) w p H rows A = A
+agrees-step (ack time a) w p h rows A = acked-agrees (ledgerOf w) (ledger-facts w h) A (a .cum) (a .map) (a .count)
+agrees-step (nack time a) w p h rows A = marked-agrees (ledgerOf w) (ledger-facts w h) A (a .psn)
+agrees-step (loss time a) w p h rows A = marked-agrees (ledgerOf w) (ledger-facts w h) A (a .psn)
+agrees-step (path time) w p h rows A = A
+
+-- going on from low by how far a number lies ahead leads to its PSN
+leads-there : (low psn : ℕ) → plus low (minus psns psn low) ≡ psn % psns
+unfolding plus
+leads-there low psn = omega (arith, minus-turns psns psn low (omega arith))
 
 -- the bytes that are remembered of a packet of the queue are its size
-pub size-remembered : (p : Past) (l : Ledger) (psn : ℕ) → Agrees p l → psn < psns → 0 < packetOf (l .flow) (l .slots) psn .status
-    → packetOf (l .flow) (l .slots) psn .size ≡ p .bytes psn
+pub size-remembered : (p : Past) (l : Ledger) (psn : ℕ) → Agrees p l → 0 < packetOf (l .flow) (l .slots) psn .status
+    → packetOf (l .flow) (l .slots) psn .size ≡ p .bytes (psn % psns)
 unfolding packetOf offsetOf
-size-remembered p l psn A fits some =
-    A .sizes (offsetOf (l .flow) psn) (packet-some (l .flow) (l .slots) psn some) ∙ ap (p .bytes) (plus-minus (l .flow .low) psn fits)
+size-remembered p l psn A some =
+    A .sizes (offsetOf (l .flow) psn) (packet-some (l .flow) (l .slots) psn some) ∙ ap (p .bytes) (leads-there (l .flow .low) psn)
 
 -- at the start nothing is remembered, and the queue is empty
 pub agrees-fresh : {s : Settings} {r : Ring} {times : List ℕ} {w : World} → SetUp s r times w → Agrees noPast (ledgerOf w)

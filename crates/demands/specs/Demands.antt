@@ -1,14 +1,13 @@
 -- The demands, sentence by sentence. Each statement is a type; the theorem of the same name, in small letters, in proofs/ has that type.
--- The definitions are those that the sender's contracts cite: what is proved here holds of the code. Numbers are unbounded here and the code's are
--- machine words: `low < psns`, `AllFit` and `first` say what the words of 32 and 64 bits hold anyway, and nothing else.
+-- The definitions are those that the sender's contracts cite: what is proved here holds of the code. Numbers are unbounded here, the code's are machine words:
+-- nothing is asked of an event's numbers, and number 2 bounds what is held.
 -- Assumes nothing.
 use mathlib.Core.Path.{_≡_}
 use mathlib.Core.Logic.{_↔_, _⊎_}
 use mathlib.Core.Bool.{true}
 use mathlib.Core.List.{List}
-use Prim.Native.Nat.{ℕ, _<_, _≤_, min}
+use Prim.Native.Nat.{ℕ, _≤_, min}
 use lib.IntN.{pos, _-ℤ_}
-use Rattle.serial.specs.Psn.{psns}
 use Rattle.window.specs.Limits.{ceilingOf}
 use Rattle.window.specs.declared.Settings.{Settings}
 use Rattle.window.specs.declared.Sample.the-variants.{Ticks, Absent}
@@ -23,7 +22,7 @@ use Rattle.sender.specs.Events.{onSend, onAck, onNack}
 use Rattle.sender.specs.declared.Send.{Send}
 use Rattle.sender.specs.declared.Ack.{Ack}
 use Rattle.sender.specs.declared.Nack.{Nack}
-use Rattle.demands.specs.Events.{Event, ack, nack, rowsOf, answer, run, AllFit, SetUp}
+use Rattle.demands.specs.Events.{Event, ack, nack, rowsOf, answer, run, SetUp}
 use Rattle.demands.specs.Sums.{noPast, sentBy, reportedBy, lostBy, sum}
 use Rattle.demands.specs.Burst.{Arrival, deliver, Timely, Outstanding, psnOf, Newest, Of, Arrives, isDelivered, wasCovered}
 use Rattle.demands.specs.Samples.{SampleIs}
@@ -62,7 +61,7 @@ CwndBetween = (s : Settings) (r : Ring) (times : List ℕ) (w : World) (es : Lis
 
 -- DEMAND 2. "In-flight bytes equal sent less reported less taken out as lost, summed from set-up on"
 abbrev pub History : Type 0
-History = (s : Settings) (r : Ring) (times : List ℕ) (w : World) (es : List Event) → SetUp s r times w → AllFit es
+History = (s : Settings) (r : Ring) (times : List ℕ) (w : World) (es : List Event) → SetUp s r times w
     → run w es .state .totals .«in_flight» ≡ pos (sum sentBy w noPast es) -ℤ pos (sum reportedBy w noPast es) -ℤ pos (sum lostBy w noPast es)
 
 -- DEMAND 2. "A round-trip sample is taken exactly when 01 says one exists": on an ACK, of its trigger packet ..
@@ -91,12 +90,11 @@ BaseStays = (e : Event) (w : World) → ((time : ℕ) (a : Ack) → e ≡ ack ti
 -- DEMAND 3. "Take a burst of acknowledgements with no other event between .. The ledger then equals the one that the newest alone leaves."
 abbrev pub Burst : Type 0
 Burst = (w : World) (at : ℕ) (newest : Ack) (others : List Ack) (ds : List Arrival)
-    → sound w ≡ true → w .state .flow .low < psns → w .state .flow .next < psns
     → Newest w at newest others → Of newest others ds → Arrives newest ds → Timely (w .state .clock) ds
     → ledgerOf (deliver w ds) ≡ ledgerOf (onAck at newest w .after)
 
 -- DEMAND 3. "Before it arrives, a packet outstanding at the start counts as delivered exactly if an accepted acknowledgement covered it."
--- (Of any list of ACKs whatever, so of those of a burst before the newest arrives.)
+-- (From any start, of any list of ACKs whatever, so of those of a burst before the newest arrives.)
 abbrev pub Delivers : Type 0
-Delivers = (w : World) (ds : List Arrival) → sound w ≡ true → w .state .flow .low < psns → w .state .flow .next < psns
-    → (k : ℕ) → Outstanding w k → isDelivered (ledgerOf (deliver w ds)) (psnOf w k) ≡ wasCovered w ds (psnOf w k)
+Delivers = (w : World) (ds : List Arrival) (k : ℕ) → Outstanding w k
+    → isDelivered (ledgerOf (deliver w ds)) (psnOf w k) ≡ wasCovered w ds (psnOf w k)

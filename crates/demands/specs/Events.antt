@@ -1,9 +1,8 @@
 -- Events as they come, and what a run of them leaves: the sender's own definitions, one event after another, accepted and refused alike.
 -- Assumes nothing.
 use mathlib.Core.Path.{_≡_}
-use mathlib.Core.List.{List, [], _∷_, List·Memᴰ}
-use Prim.Native.Nat.{ℕ, _^_, _<_}
-use Rattle.serial.specs.Psn.{psns}
+use mathlib.Core.List.{List, [], _∷_}
+use Prim.Native.Nat.{ℕ}
 use Rattle.window.specs.declared.Settings.{Settings}
 use Rattle.ledger.specs.Ring.{Ring}
 use Rattle.sender.specs.World.{World, Answered}
@@ -48,20 +47,7 @@ abbrev pub run : World → List Event → World
 run w [] = w
 run w (e ∷ es) = run (answer e w .after) es
 
--- the numbers of an event fit the machine's words that carry them: PSNs of 32 bits, a map of 64
-abbrev pub Fits : Event → Type 0
-Fits (newData time bytes) = Unit {0}
-Fits (send time a) = a .psn < psns
-Fits (ack time a) = (a .cum < psns) × (a .trigger < psns) × (a .map < 2 ^ 64)
-Fits (nack time a) = a .psn < psns
-Fits (loss time a) = a .psn < psns
-Fits (path time) = Unit {0}
-
-abbrev pub AllFit : List Event → Type 0
-AllFit es = (e : Event) → List·Memᴰ e es → Fits e
-
 -- a world that an accepted setting up gives
 pub record SetUp (s : Settings) (r : Ring) (times : List ℕ) (w : World) : Type 0 where
-  pub first : s .«first_psn» < psns
   pub accepted : onSetUp s r times .number ≡ 0
   pub gives : w ≡ onSetUp s r times .after

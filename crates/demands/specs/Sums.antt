@@ -2,8 +2,9 @@
 -- counts that came before, and what a lost packet had in bytes from the event that sent it.
 -- Assumes nothing.
 use mathlib.Core.List.{List, [], _∷_}
-use Prim.Native.Nat.{ℕ, _+_}
+use Prim.Native.Nat.{ℕ, _+_, _%_}
 use Rattle.decide.specs.Branch.{ifEq, ifSo}
+use Rattle.serial.specs.Psn.{psns}
 use Rattle.ledger.specs.Steps.{heldOf, newlyOf}
 use Rattle.sender.specs.World.{World}
 use Rattle.demands.specs.Events.{Event, newData, send, ack, nack, loss, path, answer}
@@ -43,13 +44,13 @@ reportedBy (nack time a) p = 0
 reportedBy (loss time a) p = 0
 reportedBy (path time) p = 0
 
--- bytes that it takes out as lost: those of the packet that it names
+-- bytes that it takes out as lost: those of the packet that it names; "PSN: 32 bits, wraps"
 unfoldable pub lostBy : Event → Past → ℕ
 lostBy (newData time bytes) p = 0
 lostBy (send time a) p = 0
 lostBy (ack time a) p = 0
-lostBy (nack time a) p = p .bytes (a .psn)
-lostBy (loss time a) p = p .bytes (a .psn)
+lostBy (nack time a) p = p .bytes (a .psn % psns)
+lostBy (loss time a) p = p .bytes (a .psn % psns)
 lostBy (path time) p = 0
 
 -- summed over the accepted events of a history

@@ -16,7 +16,7 @@ use Rattle.decide.specs.Branch.{so-both}
 use Rattle.decide.specs.Rows.{firstOf}
 use Rattle.serial.specs.Psn.{plus, covered, backOf, spanOf}
 use Rattle.serial.specs.Count.{counts, isOld}
-use Rattle.serial.proofs.Cover.{minus-step, sent-facts, beyond}
+use Rattle.serial.proofs.Cover.{plus-lt, minus-step, sent-facts, beyond}
 use Rattle.ledger.specs.Packets.{doneStatus, none, withStatus, isOut, flyingOne, markedOne, markedSize, sumOf, coverOne, coverAll, coveredSum, doneRun}
 use Rattle.ledger.specs.Bounds.{Flown}
 use Rattle.ledger.specs.Ring.{Ring, Ledger, ledger, capOf, laid, queueOf, longOf, packets}
@@ -184,6 +184,8 @@ module _ (cum map count mtu clock : ℕ) (l : Ledger) (e : stands mtu clock (l .
       (live-later ht (S .live (doneRun ys + k) (omega (arith, left-long))))))
       (λ h. rw (left-at 0, add-zero (doneRun ys)) (run-next ys (omega (arith, left-long, ys-long))))
       counts-left
+      (plus-lt (l .flow .low) (doneRun ys))
+      (S .next-psn)
       (held-lt count (l .flow .held) hc (S .held))
       (S .backlog)
 

@@ -2,7 +2,7 @@
 -- By the laws of walks and the ring's geometry.
 -- Assumes nothing.
 use mathlib.Core.Path.{_≡_, refl, sym, ap, _∙_, subst, fun-ext}
-use mathlib.Core.Bool.{Bool, true, false, _&&_}
+use mathlib.Core.Bool.{Bool, true, false, _&&_, and-true}
 use mathlib.Core.Logic.{by-cases}
 use mathlib.Core.List.{List}
 use Prim.Native.Nat.{ℕ, _+_, _-_, _*_, _^_, _%_, _≤_, _<_}
@@ -15,6 +15,7 @@ use lib.Dec.{leb, ltb, eqb}
 use borrow.Author.Tests.{leb-true, ltb-true, eqb-true, le-leb, lt-leb, lt-ltb, eq-eqb, ne-eqb, not-true}
 use Rattle.decide.specs.Branch.{ifLt, lt-yes, lt-no, eq-both}
 use Rattle.decide.specs.Test.{inside, both, whole, inside-tells, inside-yes}
+use Rattle.serial.specs.Psn.{psns}
 use Rattle.serial.specs.Count.{counts}
 use Rattle.ledger.specs.Packets.{flyingStatus, doneStatus, none, isDone, flyingOne, markedOne, markedSize, sumOf}
 use Rattle.ledger.specs.Bounds.{sizeLeast, resentMost, backlogMost, inBounds, Flown}
@@ -178,6 +179,8 @@ pub record Facts (mtu clock : ℕ) (f : Flow) (r : Ring) : Type 0 where
   pub live : (k : ℕ) → k < longOf f → Live mtu clock (getD (packets f r) k none)
   pub laid-so : r ≡ laid (capOf r) (f .low) (packets f r)
   pub head : 0 < longOf f → isDone (getD (packets f r) 0 none) ≡ false
+  pub low-psn : f .low < psns
+  pub next-psn : f .next < psns
   pub held : f .held < counts
   pub backlog : f .backlog ≤ backlogMost
 
@@ -195,9 +198,13 @@ module _ (mtu clock : ℕ) (f : Flow) (r : Ring) where
       let b = a && leb n (capOf r) in
       let d = b && allTo slot (capOf r) in
       let g = d && headOk r (f .low) n in
-      let p = both (g && ltb (f .held) counts) (leb (f .backlog) backlogMost) e in
-      let q = both g (ltb (f .held) counts) (p .0) in
-      let s = both d (headOk r (f .low) n) (q .0) in
+      let h = g && ltb (f .low) psns in
+      let i = h && ltb (f .next) psns in
+      let p = both (i && ltb (f .held) counts) (leb (f .backlog) backlogMost) e in
+      let q = both i (ltb (f .held) counts) (p .0) in
+      let next = both h (ltb (f .next) psns) (q .0) in
+      let low = both g (ltb (f .low) psns) (next .0) in
+      let s = both d (headOk r (f .low) n) (low .0) in
       let t = both b (allTo slot (capOf r)) (s .0) in
       let u = both a (leb n (capOf r)) (t .0) in
       let R = ring-facts r (u .0) in
@@ -215,6 +222,8 @@ module _ (mtu clock : ℕ) (f : Flow) (r : Ring) where
             (λ k h l.
             zero-facts mtu clock (packetAt r (placeOf (capOf r) (f .low) k)) (sym (slot-zero mtu clock r (f .low) n k h) ∙ ok k l));
         head = λ h. rw (queue-at r (f .low) n 0 h) (head-facts r (f .low) n (s .1) h);
+        low-psn = ltb-true (f .low) psns (low .1);
+        next-psn = ltb-true (f .next) psns (next .1);
         held = ltb-true (f .held) counts (q .1);
         backlog = leb-true (f .backlog) backlogMost (p .1);
       }
@@ -245,10 +254,11 @@ module _ (cap : ℕ) (f : Flow) (xs : List Packet) (ok : isCapacity cap ≡ true
 
   -- THE KEEPING THEOREM: the layout of a queue of live packets that does not begin with a done one holds together with a flow that counts it
   pub stands-laid : (mtu clock : ℕ) → length xs ≤ cap → ((k : ℕ) → k < length xs → Live mtu clock (getD xs k none))
-      → (0 < length xs → isDone (getD xs 0 none) ≡ false) → longOf f ≡ length xs → f .held < counts → f .backlog ≤ backlogMost
+      → (0 < length xs → isDone (getD xs 0 none) ≡ false) → longOf f ≡ length xs
+      → f .low < psns → f .next < psns → f .held < counts → f .backlog ≤ backlogMost
       → stands mtu clock f (laid cap (f .low) xs) ≡ true
   unfolding stands
-  stands-laid mtu clock fit live head e held backlog =
+  stands-laid mtu clock fit live head e low next held backlog =
       let r = laid cap (f .low) xs in
       let c : capOf r ≡ cap = laid-cap cap (f .low) xs in
       let slots : allTo (slotOk mtu clock r (f .low) (longOf f)) (capOf r) ≡ true =
@@ -265,7 +275,11 @@ module _ (cap : ℕ) (f : Flow) (xs : List Packet) (ok : isCapacity cap ≡ true
       head-test r (f .low) (longOf f) (λ h. rw (at 0 (omega arith)) (head (omega arith))) in
       whole
       (whole
+      (whole
+      (whole
       (whole (whole (whole (ring-test r (rw c ok) (laid-even cap C (f .low) xs)) (le-leb (longOf f) (capOf r) (omega arith))) slots) first)
+      (lt-ltb (f .low) psns low))
+      (lt-ltb (f .next) psns next))
       (lt-ltb (f .held) counts held))
       (le-leb (f .backlog) backlogMost backlog)
 
@@ -276,7 +290,7 @@ stands-later mtu a b f r e h =
     let n : length (packets f r) ≡ longOf f = packets-long f r in
     subst (λ (s : Ring). stands mtu b f s ≡ true) (sym (F .laid-so))
     (stands-laid (capOf r) f (packets f r) (F .cap) mtu b (omega (arith, F .fits)) (λ k l. live-later h (F .live k (omega arith)))
-    (λ l. F .head (omega arith)) (sym n) (F .held) (F .backlog))
+    (λ l. F .head (omega arith)) (sym n) (F .low-psn) (F .next-psn) (F .held) (F .backlog))
 
 -- ---- the totals
 
@@ -438,16 +452,19 @@ module _ (mtu maxwnd clock : ℕ) (f : Flow) (t : Totals) (r : Ring) (n : ℕ) (
   unfolding coherent stands
   too-long h l = simp (h, lt-leb (longOf f) (capOf r) (rw e at l))
 
+  -- low and next are machine words: their tests hold
   pub all-tests : isRing r ≡ true → n ≤ capOf r → (s a h b : Bool) (x y z : ℕ) → Tallied mtu clock r (f .low) n s x y z
       → a ≡ allTo (slotOk mtu clock r (f .low) n) (capOf r) → h ≡ headOk r (f .low) n → b ≡ inBounds maxwnd (t .«in_flight»)
+      → f .low < psns → f .next < psns
       → (a && h && ltb (f .held) counts && leb (f .backlog) backlogMost && eqb (t .flying) x && eqb (t .marked) y && eqb (t .«marked_bytes») z && b)
       ≡ coherent mtu maxwnd clock (ledger f t r)
   unfolding coherent stands tallies packets
-  all-tests ok l s a h b x y z T ea eh eb =
+  all-tests ok l s a h b x y z T ea eh eb low next =
       rw (ea, eh, eb, T .flying-is, T .marked-is, T .bytes-is, e, ok, le-leb (longOf f) (capOf r) (rw e at l))
+      (simp (lt-ltb (f .low) psns low, lt-ltb (f .next) psns next, and-true)
       (regroup
       (allTo (slotOk mtu clock r (f .low) (longOf f)) (capOf r) && headOk r (f .low) (longOf f) && ltb (f .held) counts && leb (f .backlog) backlogMost)
       (eqb (t .flying) (sumOf flyingOne (packets f r)))
       (eqb (t .marked) (sumOf markedOne (packets f r)))
       (eqb (t .«marked_bytes») (sumOf markedSize (packets f r)))
-      (inBounds maxwnd (t .«in_flight»)))
+      (inBounds maxwnd (t .«in_flight»))))

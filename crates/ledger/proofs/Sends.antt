@@ -18,6 +18,7 @@ use Rattle.decide.specs.Rows.{firstOf}
 use Rattle.serial.specs.Wrap.{minus}
 use Rattle.serial.specs.Psn.{psns, plus}
 use Rattle.serial.proofs.Wraps.{minus-is, laps, minus-turns}
+use Rattle.serial.proofs.Cover.{plus-lt}
 use Rattle.ledger.specs.declared.Flow.{Flow}
 use Rattle.ledger.specs.declared.Totals.{Totals}
 use Rattle.ledger.specs.declared.Packet.{Packet}
@@ -128,7 +129,7 @@ module _ (mtu clock : ℕ) (f : Flow) (r : Ring) (F : Facts mtu clock f r) (psn 
         stands-laid (capOf r) f (set xs k y) (F .cap) mtu time (omega (arith, F .fits))
         (λ j l. set-all (Live mtu time) xs k y within live j (live-later later (F .live j (omega arith))))
         (λ l. set-all (λ (x : Packet). isDone x ≡ false) xs k y within out 0 (F .head (omega arith)))
-        (sym n) (F .held) (F .backlog)
+        (sym n) (F .low-psn) (F .next-psn) (F .held) (F .backlog)
 
 -- what a ledger that holds together gives a step
 pub coherent-facts : (mtu maxwnd clock : ℕ) (l : Ledger) → coherent mtu maxwnd clock l ≡ true
@@ -168,7 +169,7 @@ supply-stands mtu clock time bytes f r F later few =
     let n = packets-long f r in
     subst (λ (s : Ring). stands mtu time (suppliedOf bytes f) s ≡ true) (sym (F .laid-so))
     (stands-laid (capOf r) (suppliedOf bytes f) (packets f r) (F .cap) mtu time (omega (arith, F .fits))
-    (λ k l. live-later later (F .live k (omega arith))) (λ l. F .head (omega arith)) (sym n) (F .held) few)
+    (λ k l. live-later later (F .live k (omega arith))) (λ l. F .head (omega arith)) (sym n) (F .low-psn) (F .next-psn) (F .held) few)
 
 pub supply-keeps : (mtu maxwnd clock time bytes : ℕ) (l : Ledger) → coherent mtu maxwnd clock l ≡ true → clock ≤ time
     → l .flow .backlog + bytes ≤ backlogMost → coherent mtu maxwnd time (ledger (suppliedOf bytes (l .flow)) (l .totals) (l .slots)) ≡ true
@@ -206,23 +207,23 @@ module _ (mtu clock : ℕ) (f : Flow) (r : Ring) (F : Facts mtu clock f r) (room
       long-more (f .low) (f .next) (omega (arith, F .even .few, room)) ∙ omega (arith, packets-long f r, length-append (packets f r) (x ∷ []))
 
   -- the slot of next overwritten
-  pub put-behind : f .next < psns → (i : ℕ) → i ≡ f .next % capOf r → (x : Packet) → putAt r i x ≡ laid (capOf r) (f .low) (packets f r ++ (x ∷ []))
+  pub put-behind : (i : ℕ) → i ≡ f .next % capOf r → (x : Packet) → putAt r i x ≡ laid (capOf r) (f .low) (packets f r ++ (x ∷ []))
   unfolding longOf
-  put-behind fits i e x =
+  put-behind i e x =
       let here : i ≡ placeOf (capOf r) (f .low) (length (packets f r)) =
-      e ∙ sym (place-psn (capOf r) (f .low) (f .next) fits) ∙ ap (placeOf (capOf r) (f .low)) (sym (packets-long f r)) in
+      e ∙ sym (place-psn (capOf r) (f .low) (f .next) (F .next-psn)) ∙ ap (placeOf (capOf r) (f .low)) (sym (packets-long f r)) in
       ap (λ (s : Ring). putAt s i x) (F .laid-so)
       ∙ ap (λ (j : ℕ). putAt (laid (capOf r) (f .low) (packets f r)) j x) here
       ∙ laid-snoc (capOf r) (cap-facts (capOf r) (F .cap)) (f .low) (packets f r) x (omega (arith, packets-long f r, room))
 
   -- what the code leaves
-  pub push-is : f .next < psns → (t : Totals) (time size i next : ℕ) (z : ℤ) (s : Ring) → i ≡ f .next % capOf r → next ≡ plus (f .next) 1
+  pub push-is : (t : Totals) (time size i next : ℕ) (z : ℤ) (s : Ring) → i ≡ f .next % capOf r → next ≡ plus (f .next) 1
       → z ≡ t .«in_flight» +ℤ pos size → s ≡ putAt r i (newPacket time size)
       → ledger (record { low = f .low; next = next; held = f .held; backlog = f .backlog - size })
       (record { flying = t .flying + 1; marked = t .marked; «marked_bytes» = t .«marked_bytes»; «in_flight» = z }) s
       ≡ pushedOf time size (ledger f t r)
   unfolding pushedOf
-  push-is fits t time size i next z s ei en ez es = rw (en, ez, es, put-behind fits i ei (newPacket time size))
+  push-is t time size i next z s ei en ez es = rw (en, ez, es, put-behind i ei (newPacket time size))
 
   -- the packets of the longer flow
   longer-packets : (size : ℕ) (x : Packet) → packets (longer size) (laid (capOf r) (f .low) (packets f r ++ (x ∷ []))) ≡ packets f r ++ (x ∷ [])
@@ -245,7 +246,7 @@ module _ (mtu clock : ℕ) (f : Flow) (r : Ring) (F : Facts mtu clock f r) (room
       stands-laid (capOf r) (longer size) (xs ++ (x ∷ [])) (F .cap) mtu time (omega (arith, room))
       (λ j l. snoc-all (Live mtu time) xs x live j l (λ h. live-later later (F .live j (omega arith))))
       (λ l. snoc-all (λ (y : Packet). isDone y ≡ false) xs x out 0 l (λ h. F .head (omega arith)))
-      (longer-long size x) (F .held) (omega (arith, F .backlog))
+      (longer-long size x) (F .low-psn) (plus-lt (f .next) 1) (F .held) (omega (arith, F .backlog))
     where
       -- what holds of each packet of a queue and of the one behind it
       snoc-all : (P : Packet → Type 0) (xs : List Packet) (y : Packet) → P y → (j : ℕ) → j < length (xs ++ (y ∷ []))

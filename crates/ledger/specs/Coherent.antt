@@ -10,6 +10,7 @@ use lib.ListN.{length}
 use lib.Dec.{leb, ltb, eqb}
 use Rattle.decide.specs.Branch.{ifLt}
 use Rattle.decide.specs.Test.{inside}
+use Rattle.serial.specs.Psn.{psns}
 use Rattle.serial.specs.Count.{counts}
 use Rattle.ledger.specs.Packets.{flyingStatus, doneStatus, isDone, flyingOne, markedOne, markedSize, sumOf}
 use Rattle.ledger.specs.Bounds.{sizeLeast, resentMost, backlogMost, inBounds, Flown}
@@ -57,13 +58,16 @@ slotOk mtu clock r low n k =
 unfoldable pub headOk : Ring → ℕ → ℕ → Bool
 headOk r low n = eqb n 0 || not (isDone (packetAt r (placeOf (capOf r) low 0)))
 
--- a flow and its ring: lengths, the window of PSNs, every slot, the first one, the held count and the backlog
+-- a flow and its ring: lengths, the window of PSNs, every slot, the first one; and "numbers outside the bounds here": low and next, "PSN: 32 bits"; the
+-- held count, "24 bits"; "Backlog at most 2^40"
 unfoldable pub stands : ℕ → ℕ → Flow → Ring → Bool
 stands mtu clock f r =
     isRing r
     && leb (longOf f) (capOf r)
     && allTo (slotOk mtu clock r (f .low) (longOf f)) (capOf r)
     && headOk r (f .low) (longOf f)
+    && ltb (f .low) psns
+    && ltb (f .next) psns
     && ltb (f .held) counts
     && leb (f .backlog) backlogMost
 

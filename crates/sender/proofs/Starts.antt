@@ -109,16 +109,16 @@ ring-cap r e =
     both a _ (both b _ (both (b && eqb (length (r .sent)) (capOf r)) _ e .0) .0) .0
 
 fresh-coherent :
-    (mtu maxwnd psn : ℕ) (r : Ring) → isRing r ≡ true → coherent mtu maxwnd 0 (ledger (freshFlow psn) freshTotals (clearRing r)) ≡ true
+    (mtu maxwnd psn : ℕ) (r : Ring) → psn < psns → isRing r ≡ true → coherent mtu maxwnd 0 (ledger (freshFlow psn) freshTotals (clearRing r)) ≡ true
 unfolding longOf sumOf
-fresh-coherent mtu maxwnd psn r e =
+fresh-coherent mtu maxwnd psn r fits e =
     let f = freshFlow psn in
     let ok = ring-cap r e in
     let n : longOf f ≡ 0 = minus-self psns psn (omega arith) in
     rw (clear-laid r psn ok (ring-even r e))
     (coherent-whole mtu maxwnd 0 (ledger f freshTotals (laid (capOf r) psn []))
     (stands-laid (capOf r) f [] ok mtu 0 (omega arith) (λ k h. absurd (let z : ⊥ = omega arith in z)) (λ h. absurd (let z : ⊥ = omega arith in z)) n
-    (omega arith) (omega arith))
+    fits fits (omega arith) (omega arith))
     (rw (packets-laid (capOf r) f [] ok n (omega arith))
     (tallies-test maxwnd freshTotals [] refl refl refl (record { low = omega arith; high = omega arith }))))
 
@@ -137,7 +137,7 @@ module _ (s : Settings) (r : Ring) (times : List ℕ) where
       (record {
         range = R;
         held = fresh-held R;
-        coheres = fresh-coherent (s .mtu) (s .maxwnd) (s .«first_psn») r (p .0);
+        coheres = fresh-coherent (s .mtu) (s .maxwnd) (s .«first_psn») r (R .psn-high) (p .0);
         clock-ok = omega arith;
         times-long = length-replicate {A = ℕ} (length times) 0 ∙ eqb-true (length times) (s .«ev_count») (p .1);
         times-ok = times-zero (length times);

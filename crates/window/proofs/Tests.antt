@@ -4,12 +4,13 @@ use mathlib.Core.Path.{_≡_, refl, sym, ap}
 use mathlib.Core.Bool.{Bool, true, false, _&&_, _||_}
 use mathlib.Core.Logic.{_⊎_, inl, inr}
 use Prim.Native.Nat.{ℕ, _+_, _-_, _≤_, _<_, min}
-use lib.Dec.{eqb}
-use borrow.Author.Tests.{eqb-true, eq-eqb}
+use lib.Dec.{ltb, eqb}
+use borrow.Author.Tests.{ltb-true, lt-ltb, eqb-true, eq-eqb}
 use borrow.Author.Needs.{needs}
 use native.Mathlib.Omega.{arith}
 use Rattle.decide.specs.Branch.{so-both, lt-both, so-yes, so-no, lt-yes, lt-no}
 use Rattle.decide.specs.Test.{inside, both, whole, inside-tells, inside-yes}
+use Rattle.serial.specs.Psn.{psns}
 use Rattle.window.specs.Limits.{mtuLeast, mtuMost, windowMost, delayMost, gainMost, alphaMost, parts, periodMost, thresholdMost}
 use Rattle.window.specs.Limits.{sampleMost, avgMost, incStop, tallyStop, laterEnd, ceilingOf}
 use Rattle.window.specs.Range.{isEvCount, inRange, InRange}
@@ -52,7 +53,8 @@ pub range-facts : (s : Settings) → inRange s ≡ true → InRange s
 unfolding inRange
 range-facts s e =
     let evs = both _ (isEvCount (s .«ev_count»)) e in
-    let threshold = row _ 0 (s .«qa_threshold») thresholdMost (evs .0) in
+    let psn = both _ (ltb (s .«first_psn») psns) (evs .0) in
+    let threshold = row _ 0 (s .«qa_threshold») thresholdMost (psn .0) in
     let bytes = row _ 1 (s .«adjust_bytes») windowMost (threshold .0) in
     let period = row _ 1 (s .«adjust_period») periodMost (bytes .0) in
     let jump = row _ 0 (s .«max_md_jump») parts (period .0) in
@@ -83,12 +85,13 @@ range-facts s e =
       bytes-low = bytes .1 .0;
       bytes-high = bytes .1 .1;
       threshold-high = threshold .1 .1;
+      psn-high = ltb-true (s .«first_psn») psns (psn .1);
       evs-allowed = evs .1;
     }
 
 pub range-test : (s : Settings) → InRange s → inRange s ≡ true
 unfolding inRange
-range-test s R = search (needs, whole, inside-yes) depth 20
+range-test s R = search (needs, whole, inside-yes, lt-ltb) depth 20
 
 pub held-facts : (s : Settings) (clock : ℕ) (w : Window) → isHeld s clock w ≡ true → Held s clock w
 unfolding isHeld

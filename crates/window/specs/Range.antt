@@ -1,10 +1,11 @@
 -- Refusal 1: "a setting is outside its range". The ranges, row by row as document 01 gives them, and the number of EVs by request M-110.
 -- Assumes nothing.
 use mathlib.Core.Path.{_≡_}
-use Prim.Native.Nat.{ℕ, _≤_}
+use Prim.Native.Nat.{ℕ, _≤_, _<_}
 use mathlib.Core.Bool.{Bool, true, _&&_, _||_}
-use lib.Dec.{eqb}
+use lib.Dec.{ltb, eqb}
 use Rattle.decide.specs.Test.{inside}
+use Rattle.serial.specs.Psn.{psns}
 use Rattle.window.specs.Limits.{mtuLeast, mtuMost, windowMost, delayMost, gainMost, alphaMost, parts, periodMost, thresholdMost}
 use Rattle.window.specs.declared.Settings.{Settings}
 
@@ -12,6 +13,7 @@ use Rattle.window.specs.declared.Settings.{Settings}
 unfoldable pub isEvCount : ℕ → Bool
 isEvCount n = eqb n 256 || eqb n 512 || eqb n 1024 || eqb n 2048 || eqb n 4096
 
+-- the last before the number of EVs is "the first PSN": "PSN: 32 bits"
 unfoldable pub inRange : Settings → Bool
 inRange s =
     inside mtuLeast (s .mtu) mtuMost
@@ -26,6 +28,7 @@ inRange s =
     && inside 1 (s .«adjust_period») periodMost
     && inside 1 (s .«adjust_bytes») windowMost
     && inside 0 (s .«qa_threshold») thresholdMost
+    && ltb (s .«first_psn») psns
     && isEvCount (s .«ev_count»)
 
 -- the same as facts
@@ -48,4 +51,5 @@ pub record InRange (s : Settings) : Type 0 where
   pub bytes-low : 1 ≤ s .«adjust_bytes»
   pub bytes-high : s .«adjust_bytes» ≤ windowMost
   pub threshold-high : s .«qa_threshold» ≤ thresholdMost
+  pub psn-high : s .«first_psn» < psns
   pub evs-allowed : isEvCount (s .«ev_count») ≡ true

@@ -21,7 +21,7 @@ use Rattle.sender.specs.declared.Controller.{Controller}
 use Rattle.sender.specs.declared.Phase.{Phase}
 use Rattle.sender.specs.declared.Phase.the-variants.{Idle, Pending, Ready, Active}
 use Rattle.sender.proofs.Sounds.{sound-facts, sound-coheres, sound-bounded}
-use Rattle.words.specs.Layout.{wordCount, fieldEnd, bit, stateWords, word, settingsFrom, flowFrom, totalsFrom, windowFrom, phaseFrom, stateFrom, wordsOk}
+use Rattle.words.specs.Layout.{wordCount, bit, stateWords, word, settingsFrom, flowFrom, totalsFrom, windowFrom, phaseFrom, stateFrom, wordsOk}
 use Rattle.words.specs.Statements.{WordsFacts, Machine}
 use Rattle.words.proofs.Checked.{words-facts, facts-words}
 use Rattle.words.proofs.InFlight.{word-most, word-back, back-word}
@@ -128,17 +128,16 @@ module _ (c : Controller) (M : Machine c) where
   pub unpack-pack : (wordsOk (stateWords c) ≡ true) × (stateFrom (stateWords c) ≡ c)
   unpack-pack = (facts-words (stateWords c) machine-facts, state-back)
 
--- A STATE THAT PASSES NUMBER 2, with PSNs of 32 bits, is one that the machine can hold
-pub sound-machine :
-    (w : World) → sound w ≡ true → w .state .settings .«first_psn» < fieldEnd → w .state .flow .low < fieldEnd → w .state .flow .next < fieldEnd →
-    Machine (w .state)
-sound-machine w e psn low next =
+-- A STATE THAT PASSES NUMBER 2 is one that the machine can hold
+pub sound-machine : (w : World) → sound w ≡ true → Machine (w .state)
+sound-machine w e =
     let C = sound-coheres w e in
+    let F = coheres-facts C in
     record {
-      first-psn = psn;
-      low = low;
-      next = next;
-      held = omega (arith, coheres-facts C .held);
+      first-psn = sound-facts w e .range .psn-high;
+      low = F .low-psn;
+      next = F .next-psn;
+      held = omega (arith, F .held);
       flying = omega (arith, C .flying-most);
       marked = omega (arith, C .marked-most);
       cursor = omega (arith, sound-facts w e .cursor-ok, sound-bounded w e .evs-high);

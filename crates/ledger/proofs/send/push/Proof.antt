@@ -1,10 +1,8 @@
 -- `push` stores a packet behind the others (`push-is`); a ledger that holds together leaves room for every sum.
 use mathlib.Core.Path.{_∙_, ap}
-use Prim.Native.Nat.{_<_}
 use native.Mathlib.Omega.{arith}
 use lib.IntN.{ℤ, pos, _+ℤ_}
 use borrow.Author.Needs.{needs}
-use Rattle.serial.specs.Psn.{psns}
 use Rattle.ledger.specs.Ring.{Ledger, ring, ledger}
 use Rattle.ledger.proofs.Facts.{coheres-facts}
 use Rattle.ledger.proofs.Signs.{coheres-flown, word, flown-word}
@@ -17,9 +15,6 @@ abbrev books-in : tie.Start → Ledger
 books-in s =
     ledger (s .args .books .flow) (s .args .books .totals)
     (ring (s .args .status .now) (s .args .size .now) (s .args .sent .now) (s .args .resent .now))
-
-next-fits : (s : tie.Start) → s .args .books .flow .next < psns
-next-fits s = omega arith
 
 place-requires : tie.Need-place-requires
 place-requires c κs = coheres-facts (c .before .before .before .before .before .before .pre .0) .cap
@@ -61,7 +56,7 @@ returns c =
     let s = p .before .before .before .before .before .before .before in
     let a = s .args in
     let l = books-in s in
-    push-is (s .pre .0 .mtu) (s .pre .0 .clock) (l .flow) (l .slots) (coheres-facts (s .pre .0)) (s .pre .1 .1) (next-fits s)
+    push-is (s .pre .0 .mtu) (s .pre .0 .clock) (l .flow) (l .slots) (coheres-facts (s .pre .0)) (s .pre .1 .1)
     (l .totals) (a .time) (a .bytes) (p .place .result) (q .psn-plus .result) (c .more .result)
     (ring (w .write .last .0) (w .write .last .1 .0) (w .write .last .1 .1 .0) (w .write .last .1 .1 .1 .0))
     (p .place .ensures .0) (q .psn-plus .ensures)

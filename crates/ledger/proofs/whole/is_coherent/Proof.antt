@@ -3,8 +3,11 @@ use mathlib.Core.Path.{_≡_, refl, sym, ap, _∙_}
 use mathlib.Core.Bool.{true}
 use mir.Syntax.{w64}
 use mir.Val.{toZ, ofZ}
+use Prim.Native.Nat.{_<_}
+use native.Mathlib.Omega.{arith}
 use borrow.Author.Needs.{needs}
 use borrow.Author.Tests.{not-true, not-false}
+use Rattle.serial.specs.Psn.{psns}
 use Rattle.ledger.specs.Bounds.{inBounds}
 use Rattle.ledger.specs.Ring.{Ring, ring}
 use Rattle.ledger.specs.Coherent.{isRing, Even}
@@ -40,6 +43,13 @@ ringed c = sym (c .before .is-ring .ensures) ∙ not-false _ (c .if1 .left)
 even : (c : tie.Else1) → Even (ringAt c)
 even c = ring-even (ringAt c) (ringed c)
 
+-- low and next are words of 32 bits
+low-fits : (c : tie.Else1) → c .before .before .before .before .before .before .before .before .args .books .flow .low < psns
+low-fits c = omega arith
+
+next-fits : (c : tie.Else1) → c .before .before .before .before .before .before .before .before .args .books .flow .next < psns
+next-fits c = omega arith
+
 returns-2 : tie.Need-returns-2
 returns-2 c =
     let d = c .before .before in
@@ -69,7 +79,7 @@ returns-3 c =
     let z = a .books .totals .«in_flight» in
     let word : toZ w64 (ofZ w64 z) ≡ z = search needs in
     all-tests (a .mtu) (a .maxwnd) (a .clock) (a .books .flow) (a .books .totals) (ringAt d) _ (t .before .before .long .ensures) (ringed d)
-    (t .before .if2 .left) _ _ _ _ _ _ _ (t .tally .ensures) (c .before .before .before .before .before .before .before .before .before .before .before .rest .ensures) (c .before .before .before .before .before .before .before .before .before .before .head-ok .ensures) (c .in-bounds .ensures ∙ ap (inBounds (a .maxwnd)) word)
+    (t .before .if2 .left) _ _ _ _ _ _ _ (t .tally .ensures) (c .before .before .before .before .before .before .before .before .before .before .before .rest .ensures) (c .before .before .before .before .before .before .before .before .before .before .head-ok .ensures) (c .in-bounds .ensures ∙ ap (inBounds (a .maxwnd)) word) (low-fits d) (next-fits d)
 
 pub is-coherent-spec : {M : Type 1} → statement M
 is-coherent-spec =

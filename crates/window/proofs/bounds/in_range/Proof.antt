@@ -1,8 +1,16 @@
--- `in_range` tests every range, by what `within` tests.
+-- `in_range` tests every range, by what `within` tests; the first PSN is a word of 32 bits.
+use mathlib.Core.Bool.{and-true}
+use Prim.Native.Nat.{_<_}
+use native.Mathlib.Omega.{arith}
 use borrow.Author.Needs.{needs}
+use borrow.Author.Tests.{lt-ltb}
+use Rattle.serial.specs.Psn.{psns}
 use Rattle.window.specs.Range.{inRange}
 use Rattle.window.proofs.bounds.in_range.Statement.{statement}
 use Rattle.window.proofs.bounds.in_range.Tie as tie
+
+psn-fits : (s : tie.Start) → s .args .s .«first_psn» < psns
+psn-fits s = omega arith
 
 within-requires : tie.Need-within-requires
 within-requires c κs = search needs
@@ -45,7 +53,8 @@ is-ev-count-requires c κs = search needs
 
 returns : tie.Need-returns
 unfolding inRange
-returns c = cc
+returns c = let s = c .before .before .before .before .before .before .before .before .before .before .before .before .before in
+    rw (lt-ltb (s .args .s .«first_psn») psns (psn-fits s), and-true) (cc)
 
 pub in-range-spec : {M : Type 1} → statement M
 in-range-spec =
