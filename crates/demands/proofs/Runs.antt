@@ -1,6 +1,6 @@
 -- Events one by one. A refused one leaves the world as it was (`refused-same`; of setting up `set-up-refused`: demand 1). An accepted one came to a sound
--- world, no row refuses it, and what it leaves is its step (`accepted`), whose ledger is the ledger's own step (`step-ledger`) at the event's time
--- (`step-clock`). By the sender's laws.
+-- world, no row refuses it, and what it leaves is its step (`accepted`; `rules-hold`, `path-taken`: demand 2), whose ledger is the ledger's own step
+-- (`step-ledger`) at the event's time (`step-clock`). By the sender's laws.
 -- Assumes nothing.
 use mathlib.Core.Path.{_≡_, refl, sym, _∙_}
 use mathlib.Core.Bool.{not, true}
@@ -16,12 +16,12 @@ use Rattle.ledger.specs.Steps.{suppliedOf, pushedOf, resentOf, markedOf, ackedO
 use Rattle.sender.specs.World.{World, world, Answered, Routing, ledgerOf}
 use Rattle.sender.specs.Sound.{sound}
 use Rattle.sender.specs.Rows.{withSound, newDataRows, sendAllRows, ackAllRows, nackAllRows, lossAllRows, pathRows, setUpRows}
-use Rattle.sender.specs.Steps.{stateOf, settled, newDataState, newDataStep, sendStep, ackStep, nackStep, lossStep, pathState, pathStep}
+use Rattle.sender.specs.Steps.{stateOf, settled, newDataState, newDataStep, sendStep, ackStep, nackStep, lossStep, pathState, pathStep, routeOf}
 use Rattle.sender.specs.Start.{noSettings, freshState, onSetUp}
 use Rattle.sender.specs.Events.{decided, onNewData, onSend, onAck, onNack, onLoss, onPath}
 use Rattle.sender.proofs.Refusals.{new-data-same, send-same, ack-same, nack-same, loss-same, path-same}
-use Rattle.demands.specs.Events.{Event, newData, send, ack, nack, loss, path, answer}
-use Rattle.demands.specs.Demands.{RefusedSame}
+use Rattle.demands.specs.Events.{Event, newData, send, ack, nack, loss, path, answer, stepOf}
+use Rattle.demands.specs.Demands.{RefusedSame, RulesHold, PathTaken}
 
 -- ---- refused
 
@@ -44,7 +44,7 @@ set-up-refused s r times =
 
 -- ---- accepted
 
--- an event's time, its rows behind number 2, and its step
+-- an event's time, and its rows behind number 2
 abbrev pub timeOf : Event → ℕ
 timeOf (newData time bytes) = time
 timeOf (send time a) = time
@@ -60,14 +60,6 @@ rowsOf (ack time a) w = ackAllRows time a (w .state)
 rowsOf (nack time a) w = nackAllRows time a (w .state) (w .slots)
 rowsOf (loss time a) w = lossAllRows time a (w .state) (w .slots)
 rowsOf (path time) w = pathRows time (w .state)
-
-abbrev pub stepOf : Event → World → World
-stepOf (newData time bytes) w = newDataStep time bytes w
-stepOf (send time a) w = sendStep time a w
-stepOf (ack time a) w = ackStep time a w
-stepOf (nack time a) w = nackStep time a w
-stepOf (loss time a) w = lossStep time a w
-stepOf (path time) w = pathStep time w
 
 pub record Accepted (w : World) (rows : List Row) (to after : World) : Type 0 where
   pub sound-so : sound w ≡ true
@@ -93,6 +85,17 @@ accepted (ack time a) w = accepted-by (λ (x : Answered). x .number) (λ x. x .a
 accepted (nack time a) w = accepted-by (λ (x : Answered). x .number) (λ x. x .after) w _ _ _ refl
 accepted (loss time a) w = accepted-by (λ (x : Answered). x .number) (λ x. x .after) w _ _ _ refl
 accepted (path time) w = accepted-by (λ (x : Routing). x .number) (λ x. x .after) w _ _ _ refl
+
+-- DEMAND 2: after an accepted event the world is that of the rules ..
+pub rules-hold : RulesHold
+rules-hold e w n = accepted e w n .leaves
+
+-- .. and the path is the rule's
+pub path-taken : PathTaken
+unfolding onPath
+path-taken time w =
+    eq-both (λ (x : Routing). x .number ≡ 0 → x .ev ≡ routeOf time w .ev) (firstOf (withSound w (pathRows time (w .state)))) 0 _ _
+    (λ e n. refl) (λ e n. absurd (e n))
 
 -- ---- what a step leaves
 

@@ -28,9 +28,9 @@ use Rattle.sender.proofs.Kept.{
   loss-lasts,
   path-lasts,
 }
-use Rattle.demands.specs.Events.{Event, newData, send, ack, nack, loss, path, answer, run, SetUp}
+use Rattle.demands.specs.Events.{Event, newData, send, ack, nack, loss, path, answer, stepOf, run, SetUp}
 use Rattle.demands.specs.Demands.{AlwaysSound}
-use Rattle.demands.proofs.Runs.{rowsOf, stepOf}
+use Rattle.demands.proofs.Runs.{rowsOf}
 
 -- the ledger of a sound world, fact by fact
 pub ledger-facts : (w : World) → sound w ≡ true → Facts (w .state .settings .mtu) (w .state .clock) (w .state .flow) (w .slots)

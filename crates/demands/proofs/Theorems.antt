@@ -4,6 +4,7 @@ use mathlib.Core.Logic.{⊎-elim}
 use Rattle.sender.proofs.Refusals.{new-data-exact, send-exact, ack-exact, nack-exact, loss-exact, path-exact, permitted-new, permitted-resend}
 use Rattle.sender.proofs.Refusals as refusals
 use Rattle.sender.proofs.Sounds.{sound-facts}
+use Rattle.sender.proofs.Starts as starts
 use Rattle.demands.specs.Events.{newData, send, ack, nack, loss, path, run}
 use Rattle.demands.specs.Demands as demand
 use Rattle.demands.proofs.Runs as runs
@@ -29,6 +30,15 @@ refused-same = runs.refused-same
 
 pub set-up-refused : demand.SetUpRefused
 set-up-refused = runs.set-up-refused
+
+pub rules-hold : demand.RulesHold
+rules-hold = runs.rules-hold
+
+pub path-taken : demand.PathTaken
+path-taken = runs.path-taken
+
+pub set-up-fresh : demand.SetUpFresh
+set-up-fresh s r times n = starts.set-up-fresh s r times n .2
 
 pub permitted-send : demand.PermittedSend
 permitted-send time a w = ⊎-elim (permitted-new time a w) (permitted-resend time a w)

@@ -16,13 +16,13 @@ use Rattle.sender.specs.World.{World, world, ledgerOf}
 use Rattle.sender.specs.Sound.{sound}
 use Rattle.sender.specs.Statements.{Exact, PermittedNew, PermittedResend}
 use Rattle.sender.specs.Rows.{setUpRows}
-use Rattle.sender.specs.Start.{noSettings, freshState, onSetUp}
-use Rattle.sender.specs.Steps.{ackSample, nackSample, sendStep}
-use Rattle.sender.specs.Events.{onSend, onAck, onNack}
+use Rattle.sender.specs.Start.{noSettings, freshState, zeros, clearRing, onSetUp}
+use Rattle.sender.specs.Steps.{ackSample, nackSample, sendStep, routeOf}
+use Rattle.sender.specs.Events.{onSend, onAck, onNack, onPath}
 use Rattle.sender.specs.declared.Send.{Send}
 use Rattle.sender.specs.declared.Ack.{Ack}
 use Rattle.sender.specs.declared.Nack.{Nack}
-use Rattle.demands.specs.Events.{Event, ack, nack, rowsOf, answer, run, SetUp}
+use Rattle.demands.specs.Events.{Event, ack, nack, rowsOf, answer, stepOf, run, SetUp}
 use Rattle.demands.specs.Sums.{noPast, sentBy, reportedBy, lostBy, sum}
 use Rattle.demands.specs.Burst.{Arrival, deliver, Timely, Outstanding, psnOf, Newest, Of, Arrives, isDelivered, wasCovered}
 use Rattle.demands.specs.Samples.{SampleIs}
@@ -44,6 +44,20 @@ RefusedSame = (e : Event) (w : World) → (answer e w .number ≡ 0 → ⊥) →
 abbrev pub SetUpRefused : Type 0
 SetUpRefused = (s : Settings) (r : Ring) (times : List ℕ) → (onSetUp s r times .number ≡ 0 → ⊥)
     → onSetUp s r times .after ≡ world (freshState noSettings) r times
+
+-- DEMAND 2. "After every accepted event, the window, delay average, base round trip, totals, state and next path are those of the NSCC rules as 01 fixes
+-- them": the whole world, state and lent buffers, is what the rules make of it ..
+abbrev pub RulesHold : Type 0
+RulesHold = (e : Event) (w : World) → answer e w .number ≡ 0 → answer e w .after ≡ stepOf e w
+
+-- .. the EV of a path choice is the rule's too ..
+abbrev pub PathTaken : Type 0
+PathTaken = (time : ℕ) (w : World) → onPath time w .number ≡ 0 → onPath time w .ev ≡ routeOf time w .ev
+
+-- .. and an accepted setting up gives the fresh state, "an empty ring of zeros" and EV times of zeros
+abbrev pub SetUpFresh : Type 0
+SetUpFresh = (s : Settings) (r : Ring) (times : List ℕ) → onSetUp s r times .number ≡ 0
+    → onSetUp s r times .after ≡ world (freshState s) (clearRing r) (zeros times)
 
 -- DEMAND 2. "a send that 01 permits is accepted", and does what 01 says
 abbrev pub PermittedSend : Type 0

@@ -8,6 +8,7 @@ use Rattle.ledger.specs.Ring.{Ring}
 use Rattle.sender.specs.World.{World, Answered}
 use Rattle.decide.specs.Rows.{Row}
 use Rattle.sender.specs.Rows.{withSound, newDataRows, sendAllRows, ackAllRows, nackAllRows, lossAllRows, pathRows}
+use Rattle.sender.specs.Steps.{newDataStep, sendStep, ackStep, nackStep, lossStep, pathStep}
 use Rattle.sender.specs.Start.{onSetUp}
 use Rattle.sender.specs.Events.{onNewData, onSend, onAck, onNack, onLoss, onPath}
 use Rattle.sender.specs.declared.Send.{Send}
@@ -41,6 +42,15 @@ answer (ack time a) w = onAck time a w
 answer (nack time a) w = onNack time a w
 answer (loss time a) w = onLoss time a w
 answer (path time) w = record { number = onPath time w .number; after = onPath time w .after }
+
+-- the world that document 01's rules make of one by an event that no row refuses: the ledger, then the window in its order, the EV times, the state's name
+abbrev pub stepOf : Event → World → World
+stepOf (newData time bytes) w = newDataStep time bytes w
+stepOf (send time a) w = sendStep time a w
+stepOf (ack time a) w = ackStep time a w
+stepOf (nack time a) w = nackStep time a w
+stepOf (loss time a) w = lossStep time a w
+stepOf (path time) w = pathStep time w
 
 -- the world after a list of events
 abbrev pub run : World → List Event → World
