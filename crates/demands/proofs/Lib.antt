@@ -7,7 +7,9 @@ pub mod Ledgers
 pub mod Bursts
 pub mod Delivered
 pub mod Instance
+pub mod Steady
 pub mod Sampled
+pub mod Averaged
 pub mod Cases
 pub mod Unique
 pub mod Theorems

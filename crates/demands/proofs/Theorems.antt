@@ -11,6 +11,7 @@ use Rattle.demands.proofs.Runs as runs
 use Rattle.demands.proofs.Sounded as sounded
 use Rattle.demands.proofs.Histories as histories
 use Rattle.demands.proofs.Sampled as sampled
+use Rattle.demands.proofs.Averaged as averaged
 use Rattle.demands.proofs.Bursts as bursts
 use Rattle.demands.proofs.Delivered as delivered
 
@@ -68,6 +69,9 @@ nack-takes = sampled.nack-lowered
 
 pub base-stays : demand.BaseStays
 base-stays = sampled.base-stays
+
+pub average-fed : demand.AverageFed
+average-fed = averaged.average-fed
 
 pub burst : demand.Burst
 burst = bursts.burst

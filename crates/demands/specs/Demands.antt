@@ -25,7 +25,7 @@ use Rattle.sender.specs.declared.Nack.{Nack}
 use Rattle.demands.specs.Events.{Event, ack, nack, rowsOf, answer, stepOf, run, SetUp}
 use Rattle.demands.specs.Sums.{noPast, sentBy, reportedBy, lostBy, sum}
 use Rattle.demands.specs.Burst.{Arrival, deliver, Timely, Outstanding, psnOf, Newest, Of, Arrives, isDelivered, wasCovered}
-use Rattle.demands.specs.Samples.{SampleIs}
+use Rattle.demands.specs.Samples.{SampleIs, AverageIs}
 
 -- DEMAND 1. "A refusal carries the number that document 01 gives, is given exactly when 01 says so": the number is n exactly where a row of that number
 -- applies and none before it does, of the event's rows in 01's order ..
@@ -100,6 +100,11 @@ NackTakes = (time ticks : ℕ) (a : Nack) (w : World) → SampleIs w (a .psn) (a
 abbrev pub BaseStays : Type 0
 BaseStays = (e : Event) (w : World) → ((time : ℕ) (a : Ack) → e ≡ ack time a → ackSample time a w ≡ Absent)
     → ((time : ℕ) (a : Nack) → e ≡ nack time a → nackSample time a w ≡ Absent) → answer e w .after .state .window .base ≡ w .state .window .base
+
+-- DEMAND 2. ".. delay average .. are those of the NSCC rules as 01 fixes them": after an accepted event the average is the one held before, fed exactly by
+-- what 01 says, or not at all. (A refused one changes nothing: `RefusedSame`.)
+abbrev pub AverageFed : Type 0
+AverageFed = (e : Event) (w : World) → answer e w .number ≡ 0 → AverageIs e w (answer e w .after .state .window .avg)
 
 -- DEMAND 3. "Take a burst of acknowledgements with no other event between .. The ledger then equals the one that the newest alone leaves."
 abbrev pub Burst : Type 0
