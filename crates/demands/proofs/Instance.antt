@@ -1,38 +1,50 @@
--- A burst that satisfies every premise of `burst`, so that the theorem is not empty, and two that break one premise each and whose ledgers differ, so
--- that these premises are needed. By computation, on document 01's P8 (low 4,294,967,294, next 2, cum 0) and P4 (held 16,777,214, count 3): PSNs
+-- Instances, so that no theorem is empty, by computation. An accepted setting up with document 01's settings E, whatever the lent memory holds, and a history
+-- from it, the worked example and three events more, with its sums. A burst that satisfies every premise of `burst`, and two that break one premise each and
+-- whose ledgers differ, so that these premises are needed: on document 01's P8 (low 4,294,967,294, next 2, cum 0) and P4 (held 16,777,214, count 3), where PSNs
 -- and counts wrap.
 -- Assumes nothing.
 use mathlib.Core.Path.{_≡_, refl, sym, ap, _∙_, subst}
 use mathlib.Core.Logic.{_⊎_, inl, inr, ⊎-elim}
-use mathlib.Core.Bool.{true, false, false≢true}
+use mathlib.Core.Bool.{Bool, true, false, false≢true}
 use mathlib.Core.List.{List, [], _∷_, List·Memᴰ, List·Memᴰ·head, List·Memᴰ·tail, List·Memᴰ·not-nil, List·Memᴰ·cases-cons}
-use Prim.Native.Nat.{ℕ, zero, suc, _<_}
+use Prim.Native.Nat.{ℕ, zero, suc, _*_, _<_}
 use native.Mathlib.Omega.{arith}
 use lib.Count.{leadingZeros}
 use lib.IntN.{pos}
-use lib.ListN.{replicate}
-use Rattle.decide.specs.Branch.{ifSo, ifLt, ifEq}
+use lib.ListN.{length, replicate}
+use Rattle.decide.specs.Branch.{ifSo, ifLt, ifEq, eq-yes}
 use Rattle.decide.specs.Test.{inside}
+use Rattle.decide.specs.Rows.{firstOf}
 use Rattle.serial.specs.Wrap.{minus}
 use Rattle.serial.specs.Psn.{plus, bitOf, covered, backOf, spanOf, unsentOrOld}
 use Rattle.serial.specs.Count.{counts, half, aheadOf, isOld, forwardOf}
 use Rattle.window.specs.Range.{isEvCount, inRange}
 use Rattle.window.specs.Held.{isHeld, freshOf}
 use Rattle.window.specs.Limits.{ceilingOf}
+use Rattle.window.specs.Delays.{oneSend, sampleOf, averageOf, fedBy, feedOf, loweredOf, measuredOf}
+use Rattle.window.specs.Quick.{firesOf, firedOf, restartedOf, adaptedOf}
+use Rattle.window.specs.Cases.{countedOf, calmOf, grownOf, fastOf, incBy, risenOf, factorOf, cutOf, caseOf}
+use Rattle.window.specs.Adjust.{turnedOf, adjustedOf}
+use Rattle.window.specs.Events.{respondedOf, reactedOf, shrunkOf, lossOf}
+use Rattle.window.specs.Events as window
 use Rattle.window.specs.declared.Settings.{Settings}
-use Rattle.ledger.specs.Packets.{isFlying, isMarked, isDone, isOut, flyingOne, markedOne, markedSize, sumOf, coverOne, coverAll, doneRun}
+use Rattle.ledger.specs.Packets.{isFlying, isMarked, isDone, isOut, flyingOne, markedOne, markedSize, sumOf, coverOne, coverAll, coveredSum, doneRun}
 use Rattle.ledger.specs.Bounds.{inBounds, sinks}
-use Rattle.ledger.specs.Ring.{Ledger, packetAt, tabulate, placeOf, ageOf, lay, laid, queueOf, longOf, packets}
+use Rattle.ledger.specs.Ring.{Ring, ring, Ledger, packetAt, tabulate, placeOf, ageOf, lay, laid, queueOf, longOf, packets, offsetOf, packetOf}
 use Rattle.ledger.specs.Coherent.{allTo, isCapacity, isRing, isLive, isZero, slotOk, headOk, stands, tallies, coherent}
-use Rattle.ledger.specs.Steps.{heldOf, newlyOf, ackedOf}
+use Rattle.ledger.specs.Steps.{changed, suppliedOf, pushedOf, resentOf, markedOf, heldOf, newlyOf, ackedOf}
 use Rattle.ledger.specs.declared.Packet.{Packet}
 use Rattle.sender.specs.World.{World, world, Answered, ledgerOf}
 use Rattle.sender.specs.Named.{hasRoom, phaseOf, phaseNumber}
 use Rattle.sender.specs.Sound.{timesOk, namedOk, sound}
-use Rattle.sender.specs.Steps.{stateOf, ackStep}
-use Rattle.sender.specs.Events.{onAck}
+use Rattle.sender.specs.Rows.{setUpRows}
+use Rattle.sender.specs.Start.{freshState, onSetUp}
+use Rattle.sender.specs.Steps.{stateOf, settled, avoidedIn, newDataState, newDataStep, sendStep, ackSample, ackStep, lossStep}
+use Rattle.sender.specs.Events.{decided, onNewData, onSend, onAck, onLoss}
+use Rattle.sender.specs.declared.Send.{Send}
 use Rattle.sender.specs.declared.Ack.{Ack}
-use Rattle.demands.specs.Events.{ack}
+use Rattle.demands.specs.Events.{Event, newData, send, ack, loss, run, SetUp}
+use Rattle.demands.specs.Sums.{noPast, remember, sentBy, reportedBy, lostBy, sum}
 use Rattle.demands.specs.Burst.{Arrival, deliver, Timely, Outstanding, psnOf, coversPsn, Of, Arrives}
 use Rattle.demands.specs.Cases.{settingsE}
 use Rattle.demands.proofs.Runs.{step-ledger, step-clock, step-settings}
@@ -40,7 +52,59 @@ use Rattle.demands.proofs.Sounded.{step-sound}
 use Rattle.demands.proofs.Ledgers.{Fine, fine-accepted, fine-rows}
 use Rattle.demands.proofs.Bursts.{burst}
 
--- ---- the start: settings E, 64 slots, four packets, of which the second was lost
+-- ---- an accepted setting up: settings E, and 64 slots and 256 EV times of anything
+
+pub record Lent (r : Ring) (times : List ℕ) : Type 0 where
+  pub status : length (r .status) ≡ 64
+  pub size : length (r .size) ≡ 64
+  pub sent : length (r .sent) ≡ 64
+  pub resent : length (r .resent) ≡ 64
+  pub evs : length times ≡ 256
+
+unfoldable pub fresh : World
+fresh = world (freshState settingsE) (ring (replicate 64 0) (replicate 64 0) (replicate 64 0) (replicate 64 0)) (replicate 256 0)
+
+module _ (r : Ring) (times : List ℕ) (L : Lent r times) where
+  none-refuses : firstOf (setUpRows settingsE r times) ≡ 0
+  unfolding firstOf ifSo settingsE inRange inside isEvCount isRing isCapacity
+  none-refuses = rw (L .size, L .sent, L .resent, L .evs, L .status)
+
+  answers : onSetUp settingsE r times ≡ record { number = 0; after = fresh }
+  unfolding onSetUp fresh
+  answers = sym (eq-yes (firstOf (setUpRows settingsE r times)) 0 _ _ _ none-refuses (rw (L .status, L .size, L .sent, L .resent, L .evs)))
+
+  pub set-up-here : SetUp settingsE r times fresh
+  set-up-here = record { accepted = ap (λ (x : Answered). x .number) answers; gives = sym (ap (λ (x : Answered). x .after) answers) }
+
+-- ---- a history from it: 01's worked example, with a send that is refused; then a packet that is sent, lost and sent again
+
+abbrev packet : ℕ → Bool → Send
+packet psn resend = record { psn = psn; size = 4096; resend = resend }
+
+abbrev pub worked : List Event
+worked =
+    newData 0 8192
+    ∷ send 10 (packet 0 false)
+    ∷ send 20 (packet 2 false)
+    ∷ ack 110 (record { cum = 0; map = 0; trigger = 0; count = 16; service = 4; ev = 0; marked = false; retx = false })
+    ∷ send 120 (packet 1 false)
+    ∷ loss 220 (record { psn = 1; ev = 0 })
+    ∷ send 230 (packet 1 true)
+    ∷ []
+
+-- three packets sent, one reported, one taken out as lost: one in flight
+pub worked-sums : (sum sentBy fresh noPast worked ≡ 3 * 4096) × (sum reportedBy fresh noPast worked ≡ 4096) × (sum lostBy fresh noPast worked ≡ 4096)
+    × (run fresh worked .state .totals .«in_flight» ≡ pos 4096)
+unfolding fresh freshState settingsE sum remember sentBy reportedBy lostBy ifSo ifLt ifEq inside firstOf minus plus bitOf covered backOf spanOf unsentOrOld aheadOf
+    isOld forwardOf leadingZeros ceilingOf isEvCount inRange isHeld freshOf oneSend sampleOf averageOf fedBy feedOf loweredOf measuredOf firesOf firedOf
+    restartedOf adaptedOf countedOf calmOf grownOf fastOf incBy risenOf factorOf cutOf caseOf turnedOf adjustedOf respondedOf reactedOf window.ackOf shrunkOf
+    lossOf isFlying isMarked isDone isOut flyingOne markedOne markedSize sumOf coverOne coverAll coveredSum doneRun inBounds sinks packetAt tabulate placeOf
+    ageOf lay laid queueOf longOf packets offsetOf packetOf allTo isCapacity isRing isLive isZero slotOk headOk stands tallies coherent changed suppliedOf
+    pushedOf resentOf markedOf heldOf newlyOf ackedOf hasRoom phaseOf phaseNumber timesOk namedOk sound stateOf settled avoidedIn newDataState newDataStep
+    sendStep ackSample ackStep lossStep decided onNewData onSend onAck onLoss
+worked-sums = (refl, refl, refl, refl)
+
+-- ---- the start of the bursts: settings E, 64 slots, four packets, of which the second was lost
 
 abbrev sentAt : ℕ → ℕ → Packet
 sentAt time status = record { status = status; size = 4096; sent = time; resent = 0 }
