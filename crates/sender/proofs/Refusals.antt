@@ -1,28 +1,33 @@
 -- What the refusals of document 01's table promise, over the definitions that the entry points' contracts cite: a refused event leaves everything
 -- as it was (`refused-same`), the number is that of the first row whose test holds (`rows-exact`), a send for which 01 names no refusal is accepted
--- (`permitted-new`, `permitted-resend`), request M-100 refuses what was refused (`ack-apart` and its like), and a number fixes the outcome (`one-outcome`).
+-- (`permitted-new`, `permitted-resend`), request M-100 refuses what was refused and tells which field (`ack-apart` and its like), and a number fixes the outcome
+-- (`one-outcome`).
 -- Assumes nothing.
 use mathlib.Core.Path.{_≡_, refl, sym, ap, ap₂, _∙_}
-use mathlib.Core.Bool.{Bool, true, false, not, cond, _||_}
-use mathlib.Core.List.{List, [], _∷_, append-nil}
+use mathlib.Core.Bool.{Bool, true, false, not, cond, _&&_, _||_, and-true, true≢false}
+use mathlib.Core.Logic.{_⊎_, inl, inr, ⊎-elim}
+use mathlib.Core.List.{List, [], _∷_, _++_, append-nil}
 use Prim.Native.Nat.{ℕ}
 use lib.Dec.{eqb}
-use borrow.Author.Tests.{le-ltb, lt-leb, eq-eqb}
+use native.Mathlib.Omega.{arith}
+use borrow.Author.Tests.{le-ltb, lt-leb, eq-eqb, eqb-false, not-true}
 use Rattle.decide.specs.Branch.{ifSo, eq-yes, so-yes}
-use Rattle.decide.specs.Test.{inside, whole, inside-yes}
+use Rattle.decide.specs.Test.{inside, both, whole, inside-yes}
 use Rattle.decide.specs.Rows.{Row, row, firstOf, first-later}
 use Rattle.window.specs.declared.Settings.{Settings}
 use Rattle.ledger.specs.Packets.{isMarked}
 use Rattle.ledger.specs.Bounds.{sizeLeast}
 use Rattle.ledger.specs.Ring.{Ring, capOf, packetOf}
 use Rattle.ledger.specs.Rows.{sendRows}
+use Rattle.ledger.specs.declared.Flow.{Flow}
 use Rattle.ledger.proofs.Judging.{new-0, resend-0}
 use Rattle.sender.specs.Statements.{silent, First, Exact, Apart, plainNewData, plainAck, plainNack, plainLoss, Permitted, PermittedNew, PermittedResend}
 use Rattle.sender.specs.Limits.{timeEnd}
 use Rattle.sender.specs.World.{World, world, Answered, answered, Routing, routed}
 use Rattle.sender.specs.Bounds.{roomAfter}
 use Rattle.sender.specs.Numbers.{rowOf, inTable, numberOf, pathNumber, pathEv}
-use Rattle.sender.specs.Rows.{withSound, newDataRows, sendAllRows, ackAllRows, nackAllRows, lossAllRows, pathRows, setUpRows}
+use Rattle.sender.specs.Rows.{withSound, timeRow, newDataRows, sendAllRows, ackAllRows, nackAllRows, lossAllRows, pathRows, setUpRows}
+use Rattle.sender.specs.Rows.{newDataFields, sendFields, ackFields, nackFields, lossFields}
 use Rattle.sender.specs.Steps.{sendStep}
 use Rattle.sender.specs.Start.{noSettings, freshState, zeros, clearRing, onSetUp}
 use Rattle.sender.specs.Events.{decided, onNewData, onSend, onAck, onNack, onLoss, onPath}
@@ -168,43 +173,134 @@ set-up-exact g r times =
     rw (← answer-number (λ (x : Answered). x .number) n (cleared g r times) (blank n r times) refl refl)
     (rows-exact (setUpRows g r times) refl)
 
--- ---- request M-100: what is refused at all stays
+-- ---- request M-100: what is refused at all stays, and the fields tell what was 4
 
--- one field: its number alone is another
-one-apart : (late bad : Bool) (k : ℕ) (xs : List Row) → Apart (row late 3 ∷ row bad 4 ∷ xs) (row late 3 ∷ row bad k ∷ xs)
-unfolding silent firstOf ifSo
-one-apart true bad k xs = record { same-refused = refl; same-number = λ _. refl }
-one-apart false true k xs = record { same-refused = refl; same-number = λ h. absurd (h refl) }
-one-apart false false k xs = record { same-refused = refl; same-number = λ _. refl }
+-- no row has the number 4
+unfoldable fourless : List Row → Bool
+fourless [] = true
+fourless (x ∷ xs) = not (eqb (x .number) 4) && fourless xs
 
--- two fields, and three: a row each
-two-apart :
-    (late a b : Bool) (j k : ℕ) (xs : List Row) → Apart (row late 3 ∷ row (a || b) 4 ∷ xs) (row late 3 ∷ row a j ∷ row b k ∷ xs)
-unfolding silent firstOf ifSo
-two-apart true a b j k xs = record { same-refused = refl; same-number = λ _. refl }
-two-apart false true b j k xs = record { same-refused = refl; same-number = λ h. absurd (h refl) }
-two-apart false false b j k xs = let p = one-apart false b k xs in record { same-refused = p .same-refused; same-number = p .same-number }
+not-four : (xs : List Row) → fourless xs ≡ true → firstOf xs ≡ 4 → ⊥
+unfolding firstOf fourless ifSo
+not-four [] e f = omega (arith, f)
+not-four (x ∷ xs) e f =
+    let p = both (not (eqb (x .number) 4)) (fourless xs) e in
+    go (x .test) f (not-four xs (p .1)) (eqb-false (x .number) 4 (not-true (eqb (x .number) 4) (p .0)))
+  where
+    go : (t : Bool) → ifSo t (x .number) (firstOf xs) ≡ 4 → (firstOf xs ≡ 4 → ⊥) → (x .number ≡ 4 → ⊥) → ⊥
+    go true f later here = here f
+    go false f later here = later f
 
-three-apart :
-    (late a b g : Bool) (xs : List Row) →
-    Apart (row late 3 ∷ row (a || b || g) 4 ∷ xs) (row late 3 ∷ row a 21 ∷ row b 23 ∷ row g 24 ∷ xs)
-unfolding silent firstOf ifSo
-three-apart true a b g xs = record { same-refused = refl; same-number = λ _. refl }
-three-apart false true b g xs = record { same-refused = refl; same-number = λ h. absurd (h refl) }
-three-apart false false b g xs = let p = two-apart false b g 23 24 xs in record { same-refused = p .same-refused; same-number = p .same-number }
+-- rows of which a test holds give the number, whatever comes behind them
+first-before : (xs ys : List Row) → silent xs ≡ false → firstOf (xs ++ ys) ≡ firstOf xs
+unfolding firstOf silent ifSo
+first-before [] ys e = absurd (true≢false e)
+first-before (x ∷ xs) ys e = go (x .test) e (first-before xs ys)
+  where
+    go : (t : Bool) → (not t && silent xs) ≡ false → (silent xs ≡ false → firstOf (xs ++ ys) ≡ firstOf xs)
+        → ifSo t (x .number) (firstOf (xs ++ ys)) ≡ ifSo t (x .number) (firstOf xs)
+    go true e later = refl
+    go false e later = later e
 
-module _ (time : ℕ) (c : Controller) where
-  pub new-data-apart : (bytes : ℕ) → Apart (plainNewData time bytes c) (newDataRows time bytes c)
-  new-data-apart bytes = one-apart _ _ 20 []
+silent-append : (xs ys : List Row) → silent (xs ++ ys) ≡ (silent xs && silent ys)
+unfolding silent
+silent-append [] ys = refl
+silent-append (x ∷ xs) ys = go (x .test) (silent-append xs ys)
+  where
+    go : (t : Bool) → silent (xs ++ ys) ≡ (silent xs && silent ys) → (not t && silent (xs ++ ys)) ≡ ((not t && silent xs) && silent ys)
+    go true e = refl
+    go false e = e
 
-  pub ack-apart : (a : Ack) → Apart (plainAck time a c) (ackAllRows time a c)
-  ack-apart a = three-apart _ _ _ _ _
+-- Of any rows: one row 4, whose test holds exactly where one of the fields' does, or the fields in its place
+module _ (before fields rest : List Row) (t : Bool) (any : silent fields ≡ not t) (b : fourless before ≡ true) (r : fourless rest ≡ true) where
+  abbrev old : List Row
+  old = before ++ (row t 4 ∷ rest)
 
-  pub nack-apart : (a : Nack) (r : Ring) → Apart (plainNack time a c r) (nackAllRows time a c r)
-  nack-apart a r = two-apart _ _ _ 22 23 _
+  abbrev new : List Row
+  new = before ++ (fields ++ rest)
 
-  pub loss-apart : (a : Loss) (r : Ring) → Apart (plainLoss time a c r) (lossAllRows time a c r)
-  loss-apart a r = one-apart _ _ 23 _
+  same-silent : silent new ≡ silent old
+  unfolding silent
+  same-silent =
+      silent-append before (fields ++ rest)
+      ∙ ap (λ (s : Bool). silent before && s) (silent-append fields rest ∙ ap (λ (s : Bool). s && silent rest) any)
+      ∙ sym (silent-append before (row t 4 ∷ rest))
+
+  -- the number is another than 4 and as it was, or it was 4 and is the fields'
+  either : ((firstOf new ≡ firstOf old) × (firstOf old ≡ 4 → ⊥)) ⊎ ((firstOf old ≡ 4) × (firstOf new ≡ firstOf fields))
+  unfolding firstOf ifSo
+  either = go (silent before) t refl refl
+    where
+      go : (s u : Bool) → silent before ≡ s → t ≡ u
+          → ((firstOf new ≡ firstOf old) × (firstOf old ≡ 4 → ⊥)) ⊎ ((firstOf old ≡ 4) × (firstOf new ≡ firstOf fields))
+      go false u e f =
+          let o = first-before before (row t 4 ∷ rest) e in
+          inl (first-before before (fields ++ rest) e ∙ sym o, λ z. not-four before b (sym o ∙ z))
+      go true false e f =
+          let o : firstOf old ≡ firstOf rest = first-past before (row t 4 ∷ rest) e ∙ rw f in
+          inl (first-past before (fields ++ rest) e ∙ first-past fields rest (any ∙ ap not f) ∙ sym o, λ z. not-four rest r (sym o ∙ z))
+      go true true e f =
+          inr (first-past before (row t 4 ∷ rest) e ∙ rw f, first-past before (fields ++ rest) e ∙ first-before fields rest (any ∙ ap not f))
+
+  decided-apart : (w after : World) → numbered new ≡ true → numbered fields ≡ true → Apart old fields (decided (firstOf new) w after .number)
+  decided-apart w after n f =
+      rw (← decided-number (firstOf new) w after)
+      (record {
+        same-refused = (λ e. sym same-silent ∙ none-silent new n e, λ e. silent-none new (same-silent ∙ e));
+        same-number = λ h. ⊎-elim (λ p. p .0) (λ q. absurd (h (q .0))) either;
+        by-field = λ e. ⊎-elim (λ p. absurd (p .1 e)) (λ q. rw (q .1) (rows-exact fields f)) either;
+      })
+
+-- one field, two and three: 01's test is that one of them applies
+any-one : (a : Bool) (i : ℕ) → silent (row a i ∷ []) ≡ not a
+unfolding silent
+any-one a i = and-true (not a)
+
+any-two : (a b : Bool) (i j : ℕ) → silent (row a i ∷ row b j ∷ []) ≡ not (a || b)
+unfolding silent
+any-two true b i j = refl
+any-two false b i j = any-one b j
+
+any-three : (a b g : Bool) (i j k : ℕ) → silent (row a i ∷ row b j ∷ row g k ∷ []) ≡ not (a || b || g)
+unfolding silent
+any-three true b g i j k = refl
+any-three false b g i j k = any-two b g j k
+
+send-fourless : (f : Flow) (r : Ring) (psn size : ℕ) (resend : Bool) (xs : List Row) → fourless xs ≡ true → fourless (sendRows f r psn size resend ++ xs) ≡ true
+unfolding fourless
+send-fourless f r psn size true xs e = e
+send-fourless f r psn size false xs e = e
+
+module _ (time : ℕ) (w : World) where
+  -- number 2 and the time stand before the fields
+  abbrev ahead : List Row
+  ahead = withSound w (timeRow time (w .state) ∷ [])
+
+  pub new-data-apart : (bytes : ℕ)
+      → Apart (withSound w (plainNewData time bytes (w .state))) (newDataFields bytes (w .state)) (onNewData time bytes w .number)
+  unfolding onNewData fourless numbered inTable inside
+  new-data-apart bytes = decided-apart ahead (newDataFields bytes (w .state)) [] _ (any-one _ 20) refl refl w _ refl refl
+
+  pub send-apart : (a : Send)
+      → Apart (withSound w (sendAllRows time a (w .state) (w .slots))) (sendFields a (w .state)) (onSend time a w .number)
+  unfolding onSend fourless numbered inTable inside
+  send-apart a =
+      decided-apart ahead (sendFields a (w .state)) _ _ (any-one _ 4) refl
+      (send-fourless (w .state .flow) (w .slots) (a .psn) (a .size) (a .resend) _ refl) w _ (send-all-numbered time a (w .state) (w .slots)) refl
+
+  pub ack-apart : (a : Ack) → Apart (withSound w (plainAck time a (w .state))) (ackFields a (w .state)) (onAck time a w .number)
+  unfolding onAck fourless numbered inTable inside
+  ack-apart a = decided-apart ahead (ackFields a (w .state)) _ _ (any-three _ _ _ 21 23 24) refl refl w _ refl refl
+
+  pub nack-apart : (a : Nack)
+      → Apart (withSound w (plainNack time a (w .state) (w .slots))) (nackFields a (w .state)) (onNack time a w .number)
+  unfolding onNack fourless numbered inTable inside
+  nack-apart a = decided-apart ahead (nackFields a (w .state)) _ _ (any-two _ _ 22 23) refl refl w _ refl refl
+
+  pub loss-apart : (a : Loss)
+      → Apart (withSound w (plainLoss time a (w .state) (w .slots))) (lossFields a (w .state)) (onLoss time a w .number)
+  unfolding onLoss fourless numbered inTable inside
+  loss-apart a = decided-apart ahead (lossFields a (w .state)) _ _ (any-one _ 23) refl refl w _ refl refl
 
 -- ---- a permitted send is accepted
 

@@ -1,6 +1,7 @@
 -- What the theorems on refusals say: which row a number is, what request M-100 leaves as it was, and which send document 01 permits.
 -- Assumes nothing.
 use mathlib.Core.Path.{_≡_}
+use mathlib.Core.Logic.{_↔_}
 use mathlib.Core.Bool.{Bool, true, false, not, _&&_, _||_}
 use mathlib.Core.List.{List, [], _∷_, _++_}
 use Prim.Native.Nat.{ℕ, _+_, _≤_, _<_}
@@ -47,9 +48,9 @@ pub record Exact (rows : List Row) (number : ℕ) : Type 0 where
   pub accepted : number ≡ 0 → silent rows ≡ true
   pub none : silent rows ≡ true → number ≡ 0
 
--- ---- request M-100: "what is refused at all stays"
+-- ---- request M-100: "Tell us which field. .. Split it .. what is refused at all stays"
 
--- document 01's rows as they were, with 4 for every field
+-- document 01's rows as they were, with 4 for every field; those of a send are as they were
 abbrev pub plainNewData : ℕ → ℕ → Controller → List Row
 plainNewData time bytes c = timeRow time c ∷ row (eqb bytes 0 || ltb backlogMost (c .flow .backlog + bytes)) 4 ∷ []
 
@@ -68,10 +69,14 @@ plainNack time a c r =
 abbrev pub plainLoss : ℕ → Loss → Controller → Ring → List Row
 plainLoss time a c r = timeRow time c ∷ row (leb (c .settings .«ev_count») (a .ev)) 4 ∷ markRows (c .flow) (c .totals .«in_flight») r (a .psn)
 
--- the new rows refuse what the old ones refuse, and give every number but 4 as they gave it
-pub record Apart (old new : List Row) : Type 0 where
-  pub same-refused : silent new ≡ silent old
-  pub same-number : (firstOf old ≡ 4 → ⊥) → firstOf new ≡ firstOf old
+-- the number that is answered, told by the old rows and the rows of the event's fields
+pub record Apart (old fields : List Row) (number : ℕ) : Type 0 where
+  -- what was refused is refused, and nothing else
+  pub same-refused : (number ≡ 0) ↔ (silent old ≡ true)
+  -- every number but 4 is given as it was
+  pub same-number : (firstOf old ≡ 4 → ⊥) → number ≡ firstOf old
+  -- where it was 4, the fields tell: the number is n exactly where the field's row of that number applies and none before it does
+  pub by-field : firstOf old ≡ 4 → Exact fields number
 
 -- ---- a send that 01 permits
 
