@@ -78,7 +78,7 @@ fn wrap(x: usize, n: usize) -> usize
 }
 
 // One round, over two parts: `tail` are the EVs from the cursor on, `head` those before it. Every EV that is passed is avoided, so the count goes on from the
-// first free one (request M-102): no EV is looked at for both.
+// first free one (request M-102): that one alone is looked at twice.
 fn go_round(tail: &[u64], head: &[u64], time: u64) -> Round
     requires { ⌜ length (now tail) + length (now head) < 2 ^ 60 ⌝ }
     requires { ⌜ Early (now tail) × Early (now head) × (time < timeMost) ⌝ }
