@@ -86,7 +86,7 @@ pub extern "C" fn nscc_replay(
     ensures { λ r. ⌜ replayCalled r (now (place .exit)) (now (state .exit)) (ring (now (status .exit)) (now (size .exit)) (now (sent .exit)) (now (resent .exit))) (now (evs .exit)) (now (answers .exit)) ≡ onReplayWords (now (log .entry)) (now (place .entry)) (now (state .entry)) (ring (now (status .entry)) (now (size .entry)) (now (sent .entry)) (now (resent .entry))) (now (evs .entry)) (now (answers .entry)) ⌝ }
 {
     if !is_lent(place, state) {
-        return crate::UNSOUND;
+        return sender::UNSOUND;
     }
     let from = place_of(place);
     let given = words::unpack(state);

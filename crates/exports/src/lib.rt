@@ -5,12 +5,15 @@
 pub mod batch;
 pub mod parts;
 
+use replay::ABOVE;
 use replay::records::Event;
 use sender::Ack;
 use sender::Controller;
 use sender::Loss;
 use sender::Nack;
+use sender::SETTING;
 use sender::Send;
+use sender::UNSOUND;
 use words::WORDS;
 ghost use mathlib.Core.Path.{_≡_};
 ghost use lib.ListN.{length};
@@ -18,15 +21,6 @@ ghost use Rattle.ledger.specs.Ring.{ring};
 ghost use Rattle.sender.specs.Events.{onNewData, onSend, onLoss};
 ghost use Rattle.words.specs.Layout.{wordCount};
 ghost use Rattle.exports.specs.Calls.{called, wordsAfter, onEventWords, onWords, ackBeside, nackBeside, pathBeside, onBesideWords, onSetUpWords, sendBy, ackBy, nackBy, lossBy};
-
-// "A setting is outside its range."
-const SETTING: u32 = 1;
-
-// "State or buffers don't hold together": also words that are no state's.
-const UNSOUND: u32 = 2;
-
-// Above these 32 bits of an answer stands the EV, or the kind of a sample.
-const ABOVE: u64 = 1 << 32;
 
 // Stores the state's words where the event was accepted.
 fn keep(state: &mut [u64], number: u64, after: Controller)

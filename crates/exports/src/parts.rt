@@ -98,7 +98,7 @@ pub extern "C" fn nscc_chunk(
     ensures { λ r. ⌜ chunkCalled r (now (part .exit)) (now (piece .exit)) (now (state .exit)) (ring (now (status .exit)) (now (size .exit)) (now (sent .exit)) (now (resent .exit))) (now (evs .exit)) (now (answers .exit)) ≡ onChunkWords (now (chunk .entry)) ended (now (part .entry)) (now (piece .entry)) (now (state .entry)) (ring (now (status .entry)) (now (size .entry)) (now (sent .entry)) (now (resent .entry))) (now (evs .entry)) (now (answers .entry)) ⌝ }
 {
     if !is_lent(part, state) {
-        return crate::UNSOUND;
+        return sender::UNSOUND;
     }
     let held = held_of(part);
     let given = words::unpack(state);

@@ -5,7 +5,7 @@ pub mod judge;
 pub mod mark;
 pub mod send;
 pub mod slots;
-pub mod stretch;
+mod stretch;
 pub mod whole;
 
 // The status of a slot.

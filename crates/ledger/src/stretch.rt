@@ -10,7 +10,7 @@ ghost use Rattle.ledger.specs.Coherent.{allTo};
 ghost use Rattle.ledger.specs.Stretch.{between, sumTo, oneAt, sizeAt};
 
 // Whether every byte lies in low..high.
-pub fn bytes_within(xs: &[u8], low: u8, high: u8, from: usize, to: usize) -> bool
+pub(crate) fn bytes_within(xs: &[u8], low: u8, high: u8, from: usize, to: usize) -> bool
     requires { ⌜ (from ≤ to) × (to ≤ length (now xs)) ⌝ }
     ensures { λ r. ⌜ r ≡ allTo (between low high (now (xs .entry)) from) (to - from) ⌝ }
 {
@@ -42,7 +42,7 @@ fn is_within(x: u32, low: u32, high: u32) -> bool
 }
 
 // Whether every size lies in low..high.
-pub fn sizes_within(xs: &[u32], low: u32, high: u64, from: usize, to: usize) -> bool
+pub(crate) fn sizes_within(xs: &[u32], low: u32, high: u64, from: usize, to: usize) -> bool
     requires { ⌜ (from ≤ to) × (to ≤ length (now xs)) ⌝ }
     ensures { λ r. ⌜ r ≡ allTo (between low high (now (xs .entry)) from) (to - from) ⌝ }
 {
@@ -57,7 +57,7 @@ pub fn sizes_within(xs: &[u32], low: u32, high: u64, from: usize, to: usize) -> 
 }
 
 // Whether no time is past `most`.
-pub fn times_until(xs: &[u64], most: u64, from: usize, to: usize) -> bool
+pub(crate) fn times_until(xs: &[u64], most: u64, from: usize, to: usize) -> bool
     requires { ⌜ (from ≤ to) × (to ≤ length (now xs)) ⌝ }
     ensures { λ r. ⌜ r ≡ allTo (between 0 most (now (xs .entry)) from) (to - from) ⌝ }
 {
@@ -79,7 +79,7 @@ fn one_of(x: u8, status: u8) -> u32
 }
 
 // How many slots have this status.
-pub fn count_of(xs: &[u8], status: u8, from: usize, to: usize) -> u32
+pub(crate) fn count_of(xs: &[u8], status: u8, from: usize, to: usize) -> u32
     requires { ⌜ (from ≤ to) × (to ≤ length (now xs)) × (to ≤ 4096) ⌝ }
     ensures { λ r. ⌜ (r ≡ sumTo (oneAt status (now (xs .entry)) from) (to - from)) × (r ≤ 4096) ⌝ }
 {
@@ -104,7 +104,7 @@ fn size_of(status: u8, size: u32) -> u64
 }
 
 // What the sizes of marked slots add up to.
-pub fn marked_sum<'a>(status: &'a [u8], size: &'a [u32], from: usize, to: usize) -> u64
+pub(crate) fn marked_sum<'a>(status: &'a [u8], size: &'a [u32], from: usize, to: usize) -> u64
     requires { ⌜ (from ≤ to) × (to ≤ length (now status)) × (to ≤ length (now size)) × (to ≤ 4096) ⌝ }
     ensures { λ r. ⌜ (r ≡ sumTo (sizeAt (now (status .entry)) (now (size .entry)) from) (to - from)) × (r ≤ 4096 * 2 ^ 32) ⌝ }
 {

@@ -81,7 +81,7 @@ pub fn tally<'a, 'b, 'c, 'd, 'e, 'f, 'g>(
     let whole = is_whole(place, state, status, size, sent, resent, evs);
     if (figures.len() != FIGURES) | !whole {
         return Tallied {
-            number: sender::judge::UNSOUND,
+            number: sender::UNSOUND,
             place,
             state,
         };

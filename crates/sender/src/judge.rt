@@ -17,24 +17,22 @@ ghost use Rattle.sender.specs.Limits.{timeEnd};
 ghost use Rattle.sender.specs.Bounds.{Bounded, roomAfter};
 ghost use Rattle.sender.specs.Rows.{newDataRows, sendAllRows, ackAllRows, nackAllRows, lossAllRows, pathRows};
 
-// The numbers of the table that the sender gives itself: document 01's, with its field row told apart by request M-100.
-pub const UNSOUND: u32 = 2;
+// The numbers past 2 that the sender gives itself: document 01's, with its field row told apart by request M-100.
+const BAD_TIME: u32 = 3;
 
-pub const BAD_TIME: u32 = 3;
+const BAD_SIZE: u32 = 4;
 
-pub const BAD_SIZE: u32 = 4;
+const WINDOW_FULL: u32 = 6;
 
-pub const WINDOW_FULL: u32 = 6;
+const BAD_BYTES: u32 = 20;
 
-pub const BAD_BYTES: u32 = 20;
+const BAD_COUNT: u32 = 21;
 
-pub const BAD_COUNT: u32 = 21;
+const BAD_REASON: u32 = 22;
 
-pub const BAD_REASON: u32 = 22;
+const BAD_EV: u32 = 23;
 
-pub const BAD_EV: u32 = 23;
-
-pub const BAD_TRIGGER: u32 = 24;
+const BAD_TRIGGER: u32 = 24;
 
 // Refusal 3: a time before the held clock, or 2^48 or more.
 fn bad_time(time: u64, clock: u64) -> bool
@@ -44,7 +42,7 @@ fn bad_time(time: u64, clock: u64) -> bool
 }
 
 // New data: 3, 20.
-pub fn judge_new_data(c: Controller, time: u64, bytes: u64) -> u32
+pub(crate) fn judge_new_data(c: Controller, time: u64, bytes: u64) -> u32
     requires { ⌜ Bounded c ⌝ }
     ensures { λ r. ⌜ r ≡ firstOf (newDataRows time bytes c) ⌝ }
 {
@@ -77,7 +75,7 @@ fn judge_room(c: Controller, number: u32) -> u32
 }
 
 // A send: 3, 4, 8, 5, 7, 6.
-pub fn judge_send<'a>(
+pub(crate) fn judge_send<'a>(
     c: Controller,
     status: &'a [u8],
     size: &'a [u32],
@@ -111,7 +109,7 @@ pub fn judge_send<'a>(
 }
 
 // An ACK: 3, 21, 23, 24, 9, 11.
-pub fn judge_ack(c: Controller, time: u64, a: Ack) -> u32
+pub(crate) fn judge_ack(c: Controller, time: u64, a: Ack) -> u32
     requires { ⌜ Bounded c ⌝ }
     ensures { λ r. ⌜ r ≡ firstOf (ackAllRows time a c) ⌝ }
 {
@@ -134,7 +132,7 @@ pub fn judge_ack(c: Controller, time: u64, a: Ack) -> u32
 }
 
 // A NACK: 3, 22, 23, 10, 11.
-pub fn judge_nack<'a>(
+pub(crate) fn judge_nack<'a>(
     c: Controller,
     status: &'a [u8],
     size: &'a [u32],
@@ -163,7 +161,7 @@ pub fn judge_nack<'a>(
 }
 
 // A loss: 3, 23, 10, 11.
-pub fn judge_loss<'a>(
+pub(crate) fn judge_loss<'a>(
     c: Controller,
     status: &'a [u8],
     size: &'a [u32],
@@ -189,7 +187,7 @@ pub fn judge_loss<'a>(
 }
 
 // A path choice: 3.
-pub fn judge_path(c: Controller, time: u64) -> u32
+pub(crate) fn judge_path(c: Controller, time: u64) -> u32
     ensures { λ r. ⌜ r ≡ firstOf (pathRows time c) ⌝ }
 {
     if bad_time(time, c.clock) {

@@ -1,11 +1,11 @@
 // The sender: one congestion control context. Each event is a method on the controller by value that answers the state and the outcome;
 // the ring and the EV times are lent. No event has a `requires`: whatever is handed in, it ends, and answers by document 01's table.
-pub mod judge;
+mod judge;
 pub mod naming;
 pub mod rely;
 pub mod sound;
 pub mod start;
-pub mod steps;
+mod steps;
 
 use crate::sound::is_sound;
 use crate::steps::Sensed;
@@ -21,6 +21,11 @@ ghost use Rattle.ledger.specs.Ring.{ring};
 ghost use Rattle.sender.specs.Numbers.{rowOf, inTable, numberOf, feedbackNumber, saysOf, pathNumber, pathEv};
 ghost use Rattle.sender.specs.World.{world, answered, routed};
 ghost use Rattle.sender.specs.Events.{onNewData, onSend, onAck, ackSays, onNack, nackSays, onLoss, onPath};
+
+// Refusals 1, "a setting is outside its range", and 2, "state or buffers don't hold together", by which whoever stands above the sender answers too.
+pub const SETTING: u32 = 1;
+
+pub const UNSOUND: u32 = 2;
 
 // "Time is in ticks of 128 ns, below 2^48."
 pub const TIME_END: u64 = 1 << 48;
@@ -269,7 +274,7 @@ impl Controller {
         ensures { λ r. ⌜ answered (numberOf (r .outcome)) (r .state) (ring (now (status .entry)) (now (size .entry)) (now (sent .entry)) (now (resent .entry))) (now (evs .entry)) ≡ onNewData time bytes (world self (ring (now (status .entry)) (now (size .entry)) (now (sent .entry)) (now (resent .entry))) (now (evs .entry))) ⌝ }
     {
         if !is_sound(self, status, size, sent, resent, evs) {
-            return refused(self, judge::UNSOUND);
+            return refused(self, UNSOUND);
         }
         rely::new_data(self, status, size, sent, resent, evs, time, bytes)
     }
@@ -288,7 +293,7 @@ impl Controller {
         ensures { λ r. ⌜ answered (numberOf (r .outcome)) (r .state) (ring (now (status .exit)) (now (size .exit)) (now (sent .exit)) (now (resent .exit))) (now (evs .entry)) ≡ onSend time a (world self (ring (now (status .entry)) (now (size .entry)) (now (sent .entry)) (now (resent .entry))) (now (evs .entry))) ⌝ }
     {
         if !is_sound(self, status, size, sent, resent, evs) {
-            return refused(self, judge::UNSOUND);
+            return refused(self, UNSOUND);
         }
         rely::send(self, status, size, sent, resent, evs, time, a)
     }
@@ -308,7 +313,7 @@ impl Controller {
         ensures { λ r. ⌜ saysOf (r .feedback) ≡ ackSays time a (world self (ring (now (status .entry)) (now (size .entry)) (now (sent .entry)) (now (resent .entry))) (now (evs .entry))) ⌝ }
     {
         if !is_sound(self, status, size, sent, resent, evs) {
-            return feedback_refused(self, judge::UNSOUND);
+            return feedback_refused(self, UNSOUND);
         }
         rely::ack(self, status, size, sent, resent, evs, time, a)
     }
@@ -328,7 +333,7 @@ impl Controller {
         ensures { λ r. ⌜ saysOf (r .feedback) ≡ nackSays time a (world self (ring (now (status .entry)) (now (size .entry)) (now (sent .entry)) (now (resent .entry))) (now (evs .entry))) ⌝ }
     {
         if !is_sound(self, status, size, sent, resent, evs) {
-            return feedback_refused(self, judge::UNSOUND);
+            return feedback_refused(self, UNSOUND);
         }
         rely::nack(self, status, size, sent, resent, evs, time, a)
     }
@@ -347,7 +352,7 @@ impl Controller {
         ensures { λ r. ⌜ answered (numberOf (r .outcome)) (r .state) (ring (now (status .exit)) (now (size .entry)) (now (sent .entry)) (now (resent .entry))) (now (evs .exit)) ≡ onLoss time a (world self (ring (now (status .entry)) (now (size .entry)) (now (sent .entry)) (now (resent .entry))) (now (evs .entry))) ⌝ }
     {
         if !is_sound(self, status, size, sent, resent, evs) {
-            return refused(self, judge::UNSOUND);
+            return refused(self, UNSOUND);
         }
         rely::loss(self, status, size, sent, resent, evs, time, a)
     }

@@ -27,13 +27,13 @@ ghost use Rattle.sender.specs.Bounds.{Bounded};
 ghost use Rattle.sender.specs.Steps.{avoidedIn, newDataState, sendStep, ackSampling, ackStep, nackSampling, nackStep, lossStep, pathState};
 
 // A path choice: the state, and the EV.
-pub struct Stepped {
+pub(crate) struct Stepped {
     pub state: Controller,
     pub ev: u32,
 }
 
 // An ACK or a NACK: the state, and what the sample step says.
-pub struct Sensed {
+pub(crate) struct Sensed {
     pub state: Controller,
     pub sampling: Sampling,
 }
@@ -57,7 +57,7 @@ fn avoid(on: bool, ev: u32, time: u64, base: u64, evs: &mut [u64])
 }
 
 // New data.
-pub fn new_data(c: Controller, time: u64, bytes: u64) -> Controller
+pub(crate) fn new_data(c: Controller, time: u64, bytes: u64) -> Controller
     requires { ⌜ Bounded c ⌝ }
     requires { ⌜ firstOf (newDataRows time bytes c) ≡ 0 ⌝ }
     ensures { λ r. ⌜ r ≡ newDataState time bytes c ⌝ }
@@ -70,7 +70,7 @@ pub fn new_data(c: Controller, time: u64, bytes: u64) -> Controller
 }
 
 // A new packet or a resend.
-pub fn send<'a, 'b, 'c, 'd, 'e>(
+pub(crate) fn send<'a, 'b, 'c, 'd, 'e>(
     c: Controller,
     status: &'a mut [u8],
     size: &'b mut [u32],
@@ -98,7 +98,7 @@ pub fn send<'a, 'b, 'c, 'd, 'e>(
 }
 
 // An ACK: the sample is read before the ledger's step, and the window's rules come after it.
-pub fn ack<'a, 'b, 'c, 'd, 'e>(
+pub(crate) fn ack<'a, 'b, 'c, 'd, 'e>(
     c: Controller,
     status: &'a mut [u8],
     size: &'b mut [u32],
@@ -141,7 +141,7 @@ pub fn ack<'a, 'b, 'c, 'd, 'e>(
 }
 
 // A NACK.
-pub fn nack<'a, 'b, 'c>(
+pub(crate) fn nack<'a, 'b, 'c>(
     c: Controller,
     status: &'a mut [u8],
     size: &'b [u32],
@@ -182,7 +182,7 @@ pub fn nack<'a, 'b, 'c>(
 }
 
 // A loss.
-pub fn loss<'a, 'b, 'c>(
+pub(crate) fn loss<'a, 'b, 'c>(
     c: Controller,
     status: &'a mut [u8],
     size: &'b [u32],
@@ -211,7 +211,7 @@ pub fn loss<'a, 'b, 'c>(
 }
 
 // The next path.
-pub fn path(c: Controller, evs: &[u64], time: u64) -> Stepped
+pub(crate) fn path(c: Controller, evs: &[u64], time: u64) -> Stepped
     requires { ⌜ Bounded c ⌝ }
     requires { ⌜ (length (now evs) ≡ c .settings .«ev_count») × (c .cursor < c .settings .«ev_count») ⌝ }
     requires { ⌜ (timesOk (now evs) ≡ true) × (time < timeEnd) ⌝ }

@@ -10,7 +10,7 @@ ghost use Rattle.window.specs.Range.{isEvCount, inRange, InRange};
 ghost use Rattle.window.specs.Held.{isHeld, freshOf};
 
 // max_wnd: the ceiling of the window at a base round trip. An inner step: in these bounds the product does not overflow.
-pub fn ceiling(s: Settings, base: u64) -> u64
+pub(crate) fn ceiling(s: Settings, base: u64) -> u64
     requires { ⌜ InRange s ⌝ }
     requires { ⌜ base ≤ s .«config_base_rtt» ⌝ }
     ensures { λ r. ⌜ r ≡ ceilingOf s base ⌝ }
