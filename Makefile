@@ -12,11 +12,10 @@ SOURCES := crates.txt $(shell find crates -name must-fail -prune -o -type f -pri
 
 RUN = cargo run --release --quiet --offline --locked --manifest-path rust/Cargo.toml
 
-# Proves and builds the program where that is not done yet, and replays the log. What the proof says goes to target/run.log.
+# Proves and builds the program where that is not done yet, and says so as it goes; then replays the log.
 run:
-	@mkdir -p target
-	@rt check nscc >target/run.log 2>&1 || { cat target/run.log >&2; exit 1; }
-	@tools/x86-64 run target/bin/nscc "$(LOG)"
+	@tools/prove nscc
+	@tools/nscc -- "$(LOG)"
 
 # Proves every crate of crates.txt, tries every must-fail edit and runs every program; then the tests from Rust and C over what was proved.
 # The last line is 'N passed, 0 failed' where all is well; anything red is red.
@@ -36,4 +35,4 @@ target/staticlib/libexports.a: $(SOURCES)
 	@rt staticlib exports
 
 target/bin/nscc: $(SOURCES)
-	@rt check nscc
+	@tools/prove nscc

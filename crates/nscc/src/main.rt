@@ -1,86 +1,144 @@
-// Replays an event log: `nscc LOG`, or `nscc` with the log on standard input. `nscc -p ..` tells its progress on standard error; `nscc -r ..` writes a report of
-// the run in place of its lines.
+// Replays an event log: `nscc LOG`, or `nscc` with the log on standard input. USAGE and HELP say what else it takes. Messages go to standard error and begin
+// with its name. A program here has no exit status: with `--status` it writes one to descriptor 3, for tools/nscc.
+mod options;
+
+use crate::options::Options;
 use libc::STDERR_FILENO;
 use libc::STDIN_FILENO;
+use libc::STDOUT_FILENO;
 use player::Input;
 use player::Task;
 
-// Says on standard error why a log was not replayed to its end.
-fn report(input: Input, name: &[u8]) {
+// How it ended, as a digit: all is written; a log could not be read, or what is made of it not written, to the end; a wrong usage.
+const DONE: u8 = b'0';
+
+const FAILED: u8 = b'1';
+
+const MISUSED: u8 = b'2';
+
+// Where `--status` has it written.
+const STATUS_FILENO: i32 = 3;
+
+// Begins a message.
+fn name_itself() {
+    io::write_all(STDERR_FILENO, b"nscc: ");
+}
+
+// A message: what failed, and why by errno.
+fn tell_failed(what: &[u8]) -> u8 {
+    name_itself();
+    os::fail(what);
+    FAILED
+}
+
+// Says what a usage is.
+fn tell_usage() -> u8 {
+    name_itself();
+    io::write_all(STDERR_FILENO, b"usage: nscc [-p] [-r] [--] [LOG]\n");
+    MISUSED
+}
+
+// Says why a log was not replayed to its end.
+fn tell_ending(input: Input, name: &[u8]) -> u8 {
     match input {
-        Input::Done => {}
+        Input::Done => DONE,
         Input::Long => {
+            name_itself();
             io::write_all(STDERR_FILENO, name);
             io::write_all(STDERR_FILENO, b": reaches 2^48 bytes\n");
+            FAILED
         }
-        Input::Failed => os::fail(name),
+        Input::Failed => tell_failed(name),
     }
+}
+
+// Writes a text to standard output.
+fn write_text(text: &[u8]) -> u8 {
+    if io::write_all(STDOUT_FILENO, text) {
+        return DONE;
+    }
+    tell_failed(b"standard output")
+}
+
+fn write_version() -> u8 {
+    write_text(b"nscc 1.0.0\n")
+}
+
+fn write_help() -> u8 {
+    write_text(
+        b"usage: nscc [-p] [-r] [--] [LOG]\nReplays an event log, of standard input where LOG is - or is not there, and writes a line for each record.\n  -p, --progress  tells on standard error how many records are done\n  -r, --report    writes a report of the run in place of its lines\n  -h, --help      writes this\n      --version   writes the version\n      --          what follows is no option\n",
+    )
 }
 
 // Replays the log that a file has.
-fn run(fd: i32, name: &[u8], task: Task) {
+fn run(fd: i32, name: &[u8], task: Task) -> u8 {
     let replayed = player::replay_from(fd, task);
     let input = replayed.input;
-    report(input, name);
+    tell_ending(input, name)
 }
 
-// Opens the log that an argument names, and replays it.
-fn open_and_run(index: usize, task: Task) {
+// Opens the log that a word names, and replays it; `-` is standard input.
+fn open_and_run(index: usize, task: Task) -> u8 {
     let mut path = io::buffer();
     let length = os::arg(index, &mut path);
     if os::errno() != 0 {
-        os::fail(b"nscc: LOG");
-        return;
+        return tell_failed(b"LOG");
+    }
+    if (length == 1) & (path[0] == b'-') {
+        return run(STDIN_FILENO, b"standard input", task);
     }
     let fd = os::open_read(&path[..length]);
     if fd < 0 {
-        os::fail(&path[..length]);
-        return;
+        return tell_failed(&path[..length]);
     }
-    run(fd, &path[..length], task);
+    let status = run(fd, &path[..length], task);
     libc::close(fd);
+    status
 }
 
-// The letter of argument 1 where that is `-p` or `-r`, else 0.
-fn option() -> u8 {
-    let mut word = io::buffer();
-    let length = os::arg(1, &mut word);
-    let letter = word[1];
-    if (length == 2) & (word[0] == b'-') & ((letter == b'p') | (letter == b'r')) {
-        return letter;
-    }
-    0
-}
-
-// What is asked for.
-fn task_of(letter: u8) -> Task {
-    if letter == b'r' {
+// What is made of a log.
+fn task_of(o: Options) -> Task {
+    let progress = o.progress;
+    if o.report {
         return Task::Report;
     }
-    Task::Lines {
-        progress: letter == b'p',
-    }
+    Task::Lines { progress }
 }
 
-// Replays the one log that the arguments from `first` on name, or the one on standard input where there are none.
-fn replay_named(count: usize, first: usize, task: Task) {
-    if count <= first {
-        run(STDIN_FILENO, b"standard input", task);
-        return;
+// Says which word is no option.
+fn tell_unknown(index: usize) -> u8 {
+    let mut word = io::buffer();
+    let length = os::arg(index, &mut word);
+    name_itself();
+    io::write_all(STDERR_FILENO, &word[..length]);
+    io::write_all(STDERR_FILENO, b": no such option\n");
+    tell_usage()
+}
+
+// Does what is asked for, and answers how that ended.
+fn answer(o: Options) -> u8 {
+    if o.unknown != 0 {
+        return tell_unknown(o.unknown);
     }
-    if count - first > 1 {
-        io::write_all(STDERR_FILENO, b"usage: nscc [-p | -r] [LOG]\n");
-        return;
+    if o.help {
+        return write_help();
     }
-    open_and_run(first, task);
+    if o.version {
+        return write_version();
+    }
+    if o.many {
+        return tell_usage();
+    }
+    if o.log == 0 {
+        return run(STDIN_FILENO, b"standard input", task_of(o));
+    }
+    open_and_run(o.log, task_of(o))
 }
 
 fn main() {
-    let count = os::arg_count();
-    let letter = option();
-    if letter == 0 {
-        replay_named(count, 1, task_of(letter));
-        return;
+    let o = options::read();
+    let ended = answer(o);
+    if o.status {
+        io::write_all(STATUS_FILENO, &[ended]);
     }
-    replay_named(count, 2, task_of(letter));
 }
