@@ -1,6 +1,7 @@
 -- `ack` puts the ledger's step, the window's rules and the EV's time together (`ack-is`); each call's need is what a sound world and an ACK that
 -- no row refuses leave (`ack-ready`).
 use borrow.Author.Needs.{needs}
+use native.Mathlib.Omega.{arith}
 use Rattle.ledger.specs.Ring.{Ledger, ring, ledger}
 use Rattle.sender.specs.World.{World, world}
 use Rattle.sender.proofs.Sounds.{SoundFacts, sound-facts, sound-even, sound-coheres}
@@ -57,11 +58,20 @@ ack-requires-2 c κs =
     let R = after p in
     (R .range, (R .held, (sampled-at _ _ _ _ _ _ (p .before .before .before .before .before .sample-in .ensures) (m .sampled .ensures), (m .before .before .before .before .before .before .before .newly .ensures .1, R .early, ready-above R))))
 
+-- what the last two calls ask are bounds that the window before the ACK and the one after it both keep: a step that hands on the wrong one of the two is
+-- refused by its promise
 avoid-requires : tie.Need-avoid-requires
-avoid-requires c κs = let s = c .before .before .before .before .before .before .before .before .before .before .before .before .before .before .before .before .before .before .before .before .before .before .before .before .before .before .before .before .before .before .before .before .before .before .before .before in avoid-asks (facts s) (accepted s .timely) (accepted s .ev-ok)
+avoid-requires c κs =
+    let s = c .before .before .before .before .before .before .before .before .before .before .before .before .before .before .before .before .before .before .before .before .before .before .before .before .before .before .before .before .before .before .before .before .before .before .before .before in
+    let asks = avoid-asks (facts s) (accepted s .timely) (accepted s .ev-ok) in
+    (asks .0, asks .1, omega (arith, asks .2, facts s .range .rtt-high, c .before .ack2 .ensures .held .base-high))
 
 state-of-requires : tie.Need-state-of-requires
-state-of-requires c κs = state-asks (after (c .before .before .before .before .before .before .before .before .before .before .before .before .before .before .before .before)) (c .before .before .before .before .ack2 .ensures .held)
+state-of-requires c κs =
+    let R = after (c .before .before .before .before .before .before .before .before .before .before .before .before .before .before .before .before) in
+    let old = state-asks R (R .held) in
+    let new = state-asks R (c .before .before .before .before .ack2 .ensures .held) in
+    (new .0, (new .1 .0, omega (arith, old .1 .1, new .1 .1)))
 
 same-length : tie.Need-same-length
 same-length c = c .before .before .before .before .before .before .before .before .before .before .before .before .before .before .before .before .before .ack .kept .1 .1 .1 .1 .0
