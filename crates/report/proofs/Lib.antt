@@ -6,6 +6,7 @@ pub mod Layers
 pub mod Exact
 pub mod Highest
 pub mod Totals
+pub mod Sent
 pub mod Parts
 pub mod Alike
 pub mod Served
