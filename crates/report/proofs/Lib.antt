@@ -11,3 +11,4 @@ pub mod Parts
 pub mod Alike
 pub mod Served
 pub mod Ambiguous
+pub mod Instance
