@@ -1,6 +1,7 @@
--- The laws that the proofs of `chunks` share.
+-- The laws that the proofs of `chunks` share, and that no two outcomes satisfy one promise.
 pub mod Bytes
 pub mod Joined
 pub mod Joins
 pub mod Keeping
 pub mod Tests
+pub mod Unique

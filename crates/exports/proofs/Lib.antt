@@ -1,7 +1,8 @@
--- The laws that the proofs of `exports` share, the theorem on refused calls, and the one on what the header calls const.
+-- The laws that the proofs of `exports` share, the theorem on refused calls, the one on what the header calls const, and that no two outcomes satisfy one promise.
 pub mod Answers
 pub mod Singles
 pub mod Handing
 pub mod Parting
 pub mod Untouched
 pub mod Constant
+pub mod Unique

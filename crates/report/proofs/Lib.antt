@@ -1,4 +1,4 @@
--- The laws that the proofs of `report` share, and the theorems of requests M-105 and M-106.
+-- The laws that the proofs of `report` share, the theorems of requests M-105 and M-106, and that no two outcomes satisfy one promise.
 pub mod Buckets
 pub mod Adding
 pub mod Tallies
@@ -12,3 +12,4 @@ pub mod Alike
 pub mod Served
 pub mod Ambiguous
 pub mod Instance
+pub mod Unique
