@@ -1,4 +1,5 @@
--- What definitions are written with: choices by a test, tests, and rows of refusals.
+-- What definitions are written with: choices by a test, tests, and rows of refusals; and what a promise is judged by.
 pub mod Branch
 pub mod Test
 pub mod Rows
+pub mod Unique

@@ -1,10 +1,11 @@
--- "Prove that no two outcomes satisfy one promise": `unique`, for a promise of any type, and `calls-unique`, `ack-unique`, `nack-unique` and `path-unique`, for the sender's entry
--- points. Every promise is one equation, "what is made from the outcome ≡ what 01 says", and what is made tells the outcome.
+-- "Prove that no two outcomes satisfy one promise": `calls-unique`, `ack-unique`, `nack-unique` and `path-unique`, for the sender's entry points. Every promise is one
+-- equation, "what is made from the outcome ≡ what 01 says", and what is made tells the outcome.
 -- Assumes nothing.
 use mathlib.Core.Path.{_≡_, refl, sym, ap, ap₂, _∙_}
 use mathlib.Core.List.{List}
 use mathlib.Core.Option.{Option, Option·some-injective, Option·none-ne-some}
 use Prim.Native.Nat.{ℕ}
+use Rattle.decide.specs.Unique.{OneOutcome, Tells, unique}
 use Rattle.window.specs.declared.Settings.{Settings}
 use Rattle.window.specs.declared.Sampling.{Sampling}
 use Rattle.window.specs.declared.Sampling.the-variants.{Gone}
@@ -26,22 +27,6 @@ use Rattle.sender.specs.declared.Ack.{Ack}
 use Rattle.sender.specs.declared.Nack.{Nack}
 use Rattle.sender.specs.declared.Loss.{Loss}
 use Rattle.sender.proofs.Refusals.{outcome-one, one-outcome, one-route}
-
--- ---- of any promise
-
--- what is made from an outcome tells the outcome
-abbrev pub Tells : {A B : Type 0} → (A → B) → Type 0
-Tells {A} made = (x y : A) → made x ≡ made y → x ≡ y
-
--- then no two outcomes satisfy the promise `made outcome ≡ wanted`, whatever is wanted
-pub unique : {A B : Type 0} (made : A → B) → Tells made → (wanted : B) (x y : A) → made x ≡ wanted → made y ≡ wanted → x ≡ y
-unique made tells wanted x y e f = tells x y (e ∙ sym f)
-
--- the plainest promise, `outcome ≡ wanted`
-pub unique-plain : {A : Type 0} (wanted x y : A) → x ≡ wanted → y ≡ wanted → x ≡ y
-unique-plain = unique (λ x. x) (λ x y e. e)
-
--- ---- of the sender's entry points
 
 -- the whole outcome of a call: its answer, and the final contents of the ring and of the EV times
 pub record Outcomes (A : Type 0) : Type 0 where
@@ -105,18 +90,16 @@ wanted (send w time a) = onSend time a w
 wanted (loss w time a) = onLoss time a w
 
 -- no two outcomes of `set_up`, `new_data`, `send` or `loss` satisfy its contract ..
-pub calls-unique : (c : Call) (x y : Outcomes Answer) → made x ≡ wanted c → made y ≡ wanted c → x ≡ y
+pub calls-unique : (c : Call) → OneOutcome made (wanted c)
 calls-unique c = unique made made-tells (wanted c)
 
 -- .. no two of `ack` or of `nack` ..
-pub ack-unique : (w : World) (time : ℕ) (a : Ack) (x y : Outcomes Heard) → madeHeard x ≡ (onAck time a w, ackSays time a w)
-    → madeHeard y ≡ (onAck time a w, ackSays time a w) → x ≡ y
+pub ack-unique : (w : World) (time : ℕ) (a : Ack) → OneOutcome madeHeard (onAck time a w, ackSays time a w)
 ack-unique w time a = unique madeHeard heard-tells (onAck time a w, ackSays time a w)
 
-pub nack-unique : (w : World) (time : ℕ) (a : Nack) (x y : Outcomes Heard) → madeHeard x ≡ (onNack time a w, nackSays time a w)
-    → madeHeard y ≡ (onNack time a w, nackSays time a w) → x ≡ y
+pub nack-unique : (w : World) (time : ℕ) (a : Nack) → OneOutcome madeHeard (onNack time a w, nackSays time a w)
 nack-unique w time a = unique madeHeard heard-tells (onNack time a w, nackSays time a w)
 
 -- .. and no two of `path`
-pub path-unique : (w : World) (time : ℕ) (x y : Outcomes Routed) → madeRoute x ≡ onPath time w → madeRoute y ≡ onPath time w → x ≡ y
+pub path-unique : (w : World) (time : ℕ) → OneOutcome madeRoute (onPath time w)
 path-unique w time = unique madeRoute route-tells (onPath time w)

@@ -6,7 +6,7 @@ use mathlib.Core.List.{List}
 use Prim.Native.Nat.{ℕ}
 use Rattle.ledger.specs.Ring.{Ring}
 use Rattle.sender.specs.Events.{onNewData, onSend, onLoss}
-use Rattle.replay.proofs.Unique.{OneOutcome, one-outcome}
+use Rattle.decide.specs.Unique.{OneOutcome, one-outcome}
 use Rattle.exports.specs.Calls.{sendBy, ackBy, nackBy, lossBy, Called, called, onWords, pathBeside, ackBeside, nackBeside, onBesideWords, onSetUpWords}
 use Rattle.exports.specs.Batch.{Replayed, replayCalled, onReplayWords}
 use Rattle.exports.specs.Parts.{Chunked, chunkCalled, onChunkWords}

@@ -8,7 +8,7 @@ use Rattle.sender.specs.World.{World}
 use Rattle.replay.specs.Places.{feed}
 use Rattle.replay.specs.declared.Place.{Place}
 use Rattle.replay.specs.declared.Source.{Source}
-use Rattle.replay.proofs.Unique.{OneOutcome, one-outcome}
+use Rattle.decide.specs.Unique.{OneOutcome, one-outcome}
 use Rattle.report.specs.Tallies.{Tallying, tallying, tallyOf}
 use Rattle.report.specs.declared.Tallied.{Tallied}
 
