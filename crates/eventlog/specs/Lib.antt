@@ -3,3 +3,4 @@ pub mod Layout
 pub mod Parse
 pub mod Write
 pub mod Statements
+pub mod Logs
