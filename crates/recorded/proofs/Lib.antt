@@ -1,0 +1,6 @@
+-- The theorems, and the laws under them.
+pub mod Replays
+pub mod Single
+pub mod Places
+pub mod Widths
+pub mod Theorems
