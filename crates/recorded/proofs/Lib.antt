@@ -4,3 +4,4 @@ pub mod Single
 pub mod Places
 pub mod Widths
 pub mod Theorems
+pub mod Instance

@@ -5,12 +5,12 @@ use mathlib.Core.Path.{_≡_, refl, sym, ap, _∙_}
 use mathlib.Core.Bool.{Bool, true, false, not, _&&_, false≢true}
 use mathlib.Core.List.{List, [], _∷_, _++_, map}
 use mathlib.Core.Option.{Option, none, some}
-use Prim.Native.Nat.{ℕ, suc, _+_}
+use Prim.Native.Nat.{ℕ, _+_}
 use lib.Dec.{eqb}
 use native.Mathlib.Omega.{arith}
 use Rattle.decide.specs.Branch.{ifSo, ifEq, so-yes, eq-no, eq-both}
 use Rattle.decide.specs.Test.{both}
-use Rattle.decide.specs.Rows.{Row, row}
+use Rattle.decide.specs.Rows.{Row}
 use Rattle.window.specs.declared.Sampling.{Sampling}
 use Rattle.window.specs.declared.Settings.{Settings}
 use Rattle.sender.specs.World.{World, Answered}
@@ -25,20 +25,19 @@ use Rattle.eventlog.specs.declared.Parsed.{Parsed}
 use Rattle.eventlog.specs.declared.Parsed.the-variants.{Whole, End, Cut, Malformed}
 use Rattle.eventlog.proofs.Logs.{read-on, read-end, read-twelve}
 use Rattle.eventlog.proofs.Runs.{every-log}
-use Rattle.replay.specs.Answers.{Telling, malformed, shownSays, shownPath, shownFirst, onFirst, onLater, onEvent}
-use Rattle.replay.specs.Places.{Feed, logged, foundIn, foundFrom, Turning, over, stops, placeAfter, turned, onFound, turnOf, turnsOf}
+use Rattle.replay.specs.Answers.{malformed, shownSays, shownPath, shownFirst, onFirst, onLater, onEvent}
+use Rattle.replay.specs.Places.{logged, foundIn, foundFrom, Turning, over, stops, placeAfter, turned, onFound, turnOf, turnsOf}
 use Rattle.replay.specs.Records.{eventOf}
 use Rattle.replay.specs.declared.Place.{Place}
 use Rattle.replay.specs.declared.Shown.{Shown}
-use Rattle.replay.specs.declared.Shown.the-variants.{Nothing, State, Path, Sample}
+use Rattle.replay.specs.declared.Shown.the-variants.{State, Path}
 use Rattle.replay.specs.declared.records.Event.{Event as Logged}
 use Rattle.replay.specs.declared.records.Event.the-variants as event
-use Rattle.replay.specs.declared.turns.Found.{Found}
 use Rattle.replay.specs.declared.turns.Found.the-variants as found
 use Rattle.replay.proofs.Progress.{turns-none, turns-more}
 use Rattle.demands.specs.Events.{Event, newData, send, ack, nack, loss, path, rowsOf, answer, run}
 use Rattle.demands.proofs.Theorems.{number-exact}
-use Rattle.recorded.specs.Histories.{start, withEvent, withStop, eventsOf, stopsWith, Opened, answerOf, told, answers, stop}
+use Rattle.recorded.specs.Histories.{start, withEvent, withStop, eventsOf, stopsWith, answerOf, answers, stop}
 use Rattle.recorded.specs.Recorded.{Replayed}
 
 -- ---- no event is answered 12, at which a replay stops

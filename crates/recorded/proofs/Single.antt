@@ -19,10 +19,9 @@ use Rattle.eventlog.specs.declared.Parsed.the-variants.{Whole}
 use Rattle.eventlog.proofs.Logs.{read-on}
 use Rattle.eventlog.proofs.Runs.{every-log}
 use Rattle.replay.specs.Answers.{malformed, shownFirst, onFirst}
-use Rattle.replay.specs.Places.{logged, Turning, placeAfter, stops, turned, turnOf, turnsOf}
+use Rattle.replay.specs.Places.{logged, Turning, placeAfter, stops, turned, turnOf}
 use Rattle.replay.specs.Records.{eventOf}
 use Rattle.replay.specs.declared.Place.{Place}
-use Rattle.replay.specs.declared.Shown.{Shown}
 use Rattle.replay.specs.declared.Shown.the-variants.{Nothing}
 use Rattle.replay.specs.declared.records.Event.{Event as Logged}
 use Rattle.replay.specs.declared.records.Event.the-variants as event

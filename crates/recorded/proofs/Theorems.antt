@@ -1,15 +1,13 @@
 -- Every statement of specs/Recorded with its proof, in the order of the statements. Assumes nothing.
 use mathlib.Core.Path.{_≡_, refl, sym, ap, subst, _∙_}
-use mathlib.Core.List.{List, [], _∷_, _++_, append-assoc}
+use mathlib.Core.List.{List, [], _∷_, _++_}
 use Prim.Native.Nat.{ℕ, suc, _+_}
 use lib.ListN.{length, take}
 use lib.Seq.{take-at, take-append-seam, take-append-add}
-use native.Mathlib.Omega.{arith}
 use Rattle.little.proofs.Spelling.{Bytes}
-use Rattle.serial.specs.Psn.{psns}
 use Rattle.window.specs.declared.Settings.{Settings}
 use Rattle.sender.specs.World.{World, ledgerOf}
-use Rattle.eventlog.specs.Logs.{recordsOf, AllWritable}
+use Rattle.eventlog.specs.Logs.{AllWritable}
 use Rattle.eventlog.specs.declared.Record.{Record}
 use Rattle.eventlog.proofs.Logs.{records-writable}
 use Rattle.demands.specs.Events.{Event, answer, run, AllFit, SetUp}

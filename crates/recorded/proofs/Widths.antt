@@ -1,6 +1,6 @@
 -- The numbers of settings and events that are read from bytes fit the machine's words that carry them: a PSN is read from four bytes, a map from eight.
 -- Assumes nothing.
-use mathlib.Core.Path.{_≡_, refl, ap}
+use mathlib.Core.Path.{_≡_}
 use mathlib.Core.Logic.{⊎-elim}
 use mathlib.Core.List.{List, [], _∷_, List·Memᴰ, List·Memᴰ·head, List·Memᴰ·tail, List·Memᴰ·not-nil, List·Memᴰ·cases-cons}
 use Prim.Native.Nat.{ℕ, zero, suc, _^_, _<_}
@@ -14,9 +14,8 @@ use Rattle.eventlog.specs.declared.Record.{Record}
 use Rattle.eventlog.specs.declared.Record.the-variants as log
 use Rattle.eventlog.specs.Layout.{shortEvs}
 use Rattle.replay.specs.Records.{settingsOf, eventOf}
-use Rattle.replay.specs.declared.records.Event.{Event as Logged}
 use Rattle.replay.specs.declared.records.Event.the-variants as event
-use Rattle.demands.specs.Events.{Event, newData, send, ack, nack, loss, path, Fits, AllFit}
+use Rattle.demands.specs.Events.{Event, Fits, AllFit}
 use Rattle.recorded.specs.Histories.{withEvent, eventsOf}
 
 -- each number of a record is below what its field holds
