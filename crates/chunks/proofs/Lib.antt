@@ -1,7 +1,9 @@
 -- The laws that the proofs of `chunks` share, and that no two outcomes satisfy one promise.
 pub mod Bytes
+pub mod Calls
 pub mod Joined
 pub mod Joins
 pub mod Keeping
 pub mod Tests
 pub mod Unique
+pub mod Within
