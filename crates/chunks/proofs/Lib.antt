@@ -1,6 +1,7 @@
 -- The laws that the proofs of `chunks` share, and that no two outcomes satisfy one promise.
 pub mod Bytes
 pub mod Calls
+pub mod Instance
 pub mod Joined
 pub mod Joins
 pub mod Keeping
