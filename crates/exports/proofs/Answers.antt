@@ -40,7 +40,7 @@ unpacked-good : (ws : List ℕ) → unpacked ws .good ≡ wordsOk ws
 unfolding unpacked
 unpacked-good ws = so-both (λ (u : Unpacked). u .good ≡ wordsOk ws) (wordsOk ws) _ _ (λ e. sym e) (λ e. sym e)
 
-unpacked-state : (ws : List ℕ) → wordsOk ws ≡ true → unpacked ws .state ≡ stateFrom ws
+pub unpacked-state : (ws : List ℕ) → wordsOk ws ≡ true → unpacked ws .state ≡ stateFrom ws
 unfolding unpacked
 unpacked-state ws ok = ap (λ (u : Unpacked). u .state) (sym (so-yes (wordsOk ws) _ _ _ ok refl))
 
