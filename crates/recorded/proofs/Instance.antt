@@ -1,20 +1,17 @@
 -- Document 01's worked example, settings E and its four events as the log's bytes: a log that meets the premises, so that the theorems are not empty.
 -- Assumes nothing.
 use mathlib.Core.Path.{_≡_, refl, ap, _∙_}
-use mathlib.Core.Bool.{Bool, true, false, _&&_}
+use mathlib.Core.Bool.{false}
 use mathlib.Core.List.{List, [], _∷_, map, append-nil}
 use mathlib.Core.Option.{some}
 use lib.Count.{leadingZeros}
 use Prim.Native.Nat.{ℕ}
-use lib.Dec.{ltb}
 use lib.IntN.{pos, _-ℤ_}
 use lib.ListN.{getD, getElem?, replicate}
-use borrow.Author.Tests.{ltb-true}
 use Rattle.decide.specs.Branch.{ifSo, ifLt, ifEq}
 use Rattle.decide.specs.Rows.{firstOf}
-use Rattle.decide.specs.Test.{inside, both}
+use Rattle.decide.specs.Test.{inside}
 use Rattle.little.specs.Little.{littleEndian, numberAt}
-use Rattle.little.proofs.Spelling.{Bytes, none, one}
 use Rattle.serial.specs.Wrap.{minus}
 use Rattle.serial.specs.Psn.{plus, bitOf, covered, backOf, spanOf, unsentOrOld}
 use Rattle.serial.specs.Count.{aheadOf, isOld, forwardOf}
@@ -83,16 +80,6 @@ first =
 unfoldable pub lent : World
 lent = world (freshState noSettings) (ring (replicate 64 0) (replicate 64 0) (replicate 64 0) (replicate 64 0)) (replicate 256 0)
 
--- every element is a byte
-below : List ℕ → Bool
-below [] = true
-below (b ∷ bs) = ltb b 256 && below bs
-
-all-below : (bs : List ℕ) → below bs ≡ true → Bytes bs
-unfolding below
-all-below [] e = none
-all-below (b ∷ bs) e = let t = both (ltb b 256) (below bs) e in one (ltb-true b 256 (t .0)) (all-below bs (t .1))
-
 worked-read : recordsOf worked ≡ first ∷ behind
 unfolding worked readFrom readIn parseAt frontOf lookUp wholeOf checked properOf ifSo ifLt ifEq numberAt littleEndian
 worked-read = refl
@@ -100,10 +87,6 @@ worked-read = refl
 worked-last : lastOf worked ≡ 0
 unfolding worked readFrom readIn parseAt frontOf lookUp wholeOf checked properOf ifSo ifLt ifEq numberAt littleEndian
 worked-last = refl
-
-worked-bytes : Bytes worked
-unfolding worked below
-worked-bytes = all-below worked refl
 
 pub worked-opened : Opened worked lent settingsE behind
 unfolding lent settingsE onSetUp firstOf inRange inside isEvCount isRing isCapacity ifSo ifEq
@@ -168,5 +151,5 @@ worked-flights = ap (map (λ (a : Answered). a .after .state .totals .«in_fligh
 pub worked-history : (t : Turning) → getElem? (turns worked lent) 4 ≡ some t → t .after .state .totals .«in_flight» ≡ pos 4096 -ℤ pos 4096 -ℤ pos 0
 unfolding eventsOf
 worked-history t there =
-    turn-history worked lent settingsE behind worked-bytes worked-opened 4 t there
+    turn-history worked lent settingsE behind worked-opened 4 t there
     ∙ ap (λ (ns : List ℕ). pos (getD ns 0 0) -ℤ pos (getD ns 1 0) -ℤ pos (getD ns 2 0)) given-sums

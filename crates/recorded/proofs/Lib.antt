@@ -2,6 +2,5 @@
 pub mod Replays
 pub mod Single
 pub mod Places
-pub mod Widths
 pub mod Theorems
 pub mod Instance

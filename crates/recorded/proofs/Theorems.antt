@@ -1,25 +1,20 @@
 -- Every statement of specs/Recorded with its proof, in the order of the statements. Assumes nothing.
-use mathlib.Core.Path.{_≡_, refl, sym, ap, subst, _∙_}
+use mathlib.Core.Path.{_≡_, refl, sym, ap, _∙_}
 use mathlib.Core.List.{List, [], _∷_, _++_}
 use Prim.Native.Nat.{ℕ, suc, _+_}
 use lib.ListN.{length, take}
 use lib.Seq.{take-at, take-append-seam, take-append-add}
-use Rattle.little.proofs.Spelling.{Bytes}
 use Rattle.window.specs.declared.Settings.{Settings}
 use Rattle.sender.specs.World.{World, ledgerOf}
-use Rattle.eventlog.specs.Logs.{AllWritable}
 use Rattle.eventlog.specs.declared.Record.{Record}
-use Rattle.eventlog.proofs.Logs.{records-writable}
-use Rattle.demands.specs.Events.{Event, answer, run, AllFit, SetUp}
+use Rattle.demands.specs.Events.{Event, answer, run, SetUp}
 use Rattle.demands.specs.Burst.{Arrival, deliver}
-use Rattle.demands.proofs.Sounded.{Holds, set-up-holds, answer-holds}
 use Rattle.demands.proofs.Theorems as demands
 use Rattle.recorded.specs.Histories.{eventsOf, Opened, opened, acks}
 use Rattle.recorded.specs.Recorded as recorded
 use Rattle.recorded.proofs.Replays as replays
 use Rattle.recorded.proofs.Single as single
 use Rattle.recorded.proofs.Places as places
-use Rattle.recorded.proofs.Widths.{first-fits, events-fit, first-of}
 
 pub replayed : recorded.Replayed
 replayed = replays.replayed
@@ -38,29 +33,22 @@ number-of = places.number-of
 
 -- ---- the demands
 
-module _ (log : List ℕ) (lent : World) (s : Settings) (behind : List Record) (bytes : Bytes log) (O : Opened log lent s behind) where
-  writable : AllWritable (O .first ∷ behind)
-  writable = subst AllWritable (O .reads) (records-writable log bytes)
-
-  -- record 1 is an accepted setting up
-  set-up : SetUp s (lent .slots) (lent .times) (opened s lent)
-  set-up = record { first = first-fits (O .first) s (writable .0) (O .settings); accepted = O .accepted; gives = refl }
-
-  all-fit : (k : ℕ) → AllFit (take k (eventsOf behind))
-  all-fit k = first-of k (eventsOf behind) (events-fit behind (writable .1))
+-- record 1 is an accepted setting up
+set-up : {log : List ℕ} {lent : World} {s : Settings} {behind : List Record} → Opened log lent s behind → SetUp s (lent .slots) (lent .times) (opened s lent)
+set-up O = record { accepted = O .accepted; gives = refl }
 
 pub turn-sound : recorded.TurnSound
-turn-sound log lent s behind bytes O k t there =
-    rw (world-after log lent s behind O k t there) (demands.always-sound s _ _ _ (take k (eventsOf behind)) (set-up log lent s behind bytes O))
+turn-sound log lent s behind O k t there =
+    rw (world-after log lent s behind O k t there) (demands.always-sound s _ _ _ (take k (eventsOf behind)) (set-up O))
 
 pub turn-between : recorded.TurnBetween
-turn-between log lent s behind bytes O k t there =
-    rw (world-after log lent s behind O k t there) (demands.cwnd-between s _ _ _ (take k (eventsOf behind)) (set-up log lent s behind bytes O))
+turn-between log lent s behind O k t there =
+    rw (world-after log lent s behind O k t there) (demands.cwnd-between s _ _ _ (take k (eventsOf behind)) (set-up O))
 
 pub turn-history : recorded.TurnHistory
-turn-history log lent s behind bytes O k t there =
+turn-history log lent s behind O k t there =
     rw (world-after log lent s behind O k t there)
-    (demands.history s _ _ _ (take k (eventsOf behind)) (set-up log lent s behind bytes O) (all-fit log lent s behind bytes O k))
+    (demands.history s _ _ _ (take k (eventsOf behind)) (set-up O))
 
 -- ---- bursts
 
@@ -76,13 +64,8 @@ long-acks : (ds : List Arrival) → length (acks ds) ≡ length ds
 long-acks [] = refl
 long-acks (d ∷ ds) = ap suc (long-acks ds)
 
--- low and next are PSNs of the machine's width after every run
-run-holds : (es : List Event) (w : World) → Holds w → Holds (run w es)
-run-holds [] w H = H
-run-holds (e ∷ es) w H = run-holds es (answer e w .after) (answer-holds e w H)
-
 pub turn-burst : recorded.TurnBurst
-turn-burst log lent s behind bytes O before more ds is t u there then at newest others N of-these arrives timely =
+turn-burst log lent s behind O before more ds is t u there then at newest others N of-these arrives timely =
     let w = opened s lent in
     let here : t .after ≡ run w before
     = world-after log lent s behind O (length before) t there
@@ -93,5 +76,5 @@ turn-burst log lent s behind bytes O before more ds is t u there then at newest 
     let delivered : u .after ≡ deliver (t .after) ds
     = world-after log lent s behind O (length before + length ds) u then
     ∙ (ap (run w) stretch ∙ (run-append before (acks ds) w ∙ (ap (λ (v : World). run v (acks ds)) (sym here) ∙ run-acks ds (t .after)))) in
-    let H : Holds (t .after) = rw here (run-holds before w (set-up-holds (set-up log lent s behind bytes O))) in
-    ap ledgerOf delivered ∙ demands.burst (t .after) at newest others ds (H .sound-so) (H .low-fits) (H .next-fits) N of-these arrives timely
+    let good = turn-sound log lent s behind O (length before) t there in
+    ap ledgerOf delivered ∙ demands.burst (t .after) at newest others ds good N of-these arrives timely

@@ -11,7 +11,6 @@ use mathlib.Core.Option.{some}
 use Prim.Native.Nat.{ℕ, suc, _+_, _≤_}
 use lib.IntN.{pos, _-ℤ_}
 use lib.ListN.{length, take, getElem?}
-use Rattle.little.proofs.Spelling.{Bytes}
 use Rattle.window.specs.Limits.{ceilingOf}
 use Rattle.window.specs.declared.Settings.{Settings}
 use Rattle.sender.specs.World.{World, ledgerOf}
@@ -58,18 +57,18 @@ NumberOf = (log : List ℕ) (lent : World) (s : Settings) (behind : List Record)
 
 -- DEMAND 2. After every turn state and buffers pass the full test of number 2.
 abbrev pub TurnSound : Type 0
-TurnSound = (log : List ℕ) (lent : World) (s : Settings) (behind : List Record) → Bytes log → Opened log lent s behind
+TurnSound = (log : List ℕ) (lent : World) (s : Settings) (behind : List Record) → Opened log lent s behind
     → (k : ℕ) (t : Turning) → getElem? (turns log lent) k ≡ some t → sound (t .after) ≡ true
 
 -- Request M-101. "cwnd always lies between MTU and max_wnd": after every turn
 abbrev pub TurnBetween : Type 0
-TurnBetween = (log : List ℕ) (lent : World) (s : Settings) (behind : List Record) → Bytes log → Opened log lent s behind
+TurnBetween = (log : List ℕ) (lent : World) (s : Settings) (behind : List Record) → Opened log lent s behind
     → (k : ℕ) (t : Turning) → getElem? (turns log lent) k ≡ some t
     → let c = t .after .state in (c .settings .mtu ≤ c .window .cwnd) × (c .window .cwnd ≤ ceilingOf (c .settings) (c .window .base))
 
 -- DEMAND 2. "In-flight bytes equal sent less reported less taken out as lost, summed from set-up on": over the events of the turns so far
 abbrev pub TurnHistory : Type 0
-TurnHistory = (log : List ℕ) (lent : World) (s : Settings) (behind : List Record) → Bytes log → Opened log lent s behind
+TurnHistory = (log : List ℕ) (lent : World) (s : Settings) (behind : List Record) → Opened log lent s behind
     → (k : ℕ) (t : Turning) → getElem? (turns log lent) k ≡ some t
     → let w = opened s lent in let es = take k (eventsOf behind) in
     t .after .state .totals .«in_flight» ≡ pos (sum sentBy w noPast es) -ℤ pos (sum reportedBy w noPast es) -ℤ pos (sum lostBy w noPast es)
@@ -77,7 +76,7 @@ TurnHistory = (log : List ℕ) (lent : World) (s : Settings) (behind : List Reco
 -- DEMAND 3. "Take a burst of acknowledgements with no other event between .. The ledger then equals the one that the newest alone leaves": neighbouring ACK
 -- records ds of the log, behind the records of the turns up to t; u is the turn of the last of them
 abbrev pub TurnBurst : Type 0
-TurnBurst = (log : List ℕ) (lent : World) (s : Settings) (behind : List Record) → Bytes log → Opened log lent s behind
+TurnBurst = (log : List ℕ) (lent : World) (s : Settings) (behind : List Record) → Opened log lent s behind
     → (before more : List Event) (ds : List Arrival) → eventsOf behind ≡ before ++ (acks ds ++ more)
     → (t u : Turning) → getElem? (turns log lent) (length before) ≡ some t → getElem? (turns log lent) (length before + length ds) ≡ some u
     → (at : ℕ) (newest : Ack) (others : List Ack) → Newest (t .after) at newest others → Of newest others ds → Arrives newest ds
