@@ -1,7 +1,7 @@
 -- `nscc_chunk` call after call: between calls the words hold what the definitions of `chunks` hold, whatever the calls are, and what the calls answer and take is
 -- what those say. Assumes nothing.
 use mathlib.Core.Path.{_≡_, refl, sym, ap, subst, _∙_}
-use mathlib.Core.Bool.{Bool, true, false, _&&_}
+use mathlib.Core.Bool.{Bool, true, _&&_}
 use mathlib.Core.List.{List, [], _∷_, _++_}
 use Prim.Native.Nat.{ℕ, zero, suc, _+_, _-_, _<_}
 use native.Mathlib.Omega.{arith}
@@ -44,7 +44,8 @@ kept-bytes h piece chunk room ts some more =
     so-both Bytes (lastPlace (h .place) ts .stopped) [] _ (λ _. none)
     (λ _. bytes-drop (gone h ts) (bytes-append (bytes-take (h .length) some) (bytes-take (usedOf h chunk room ts) more)))
 
-takes-bytes : (h : Held) (w : World) (piece chunk : List ℕ) (ended : Bool) (room : List ℕ) → Bytes piece → Bytes chunk → Bytes (takes h w piece chunk ended room .piece)
+takes-bytes : (h : Held) (w : World) (piece chunk : List ℕ) (ended : Bool) (room : List ℕ) → Bytes piece → Bytes chunk
+    → Bytes (takes h w piece chunk ended room .piece)
 unfolding takes
 takes-bytes h w piece chunk ended room some more =
     let ts = take (length room) (turnsOf (partOf h piece chunk ended) (h .place) w) in
@@ -113,7 +114,10 @@ module _ (l : Lent) (c : Call) (s : Sound l) (chunk : Bytes (c .chunk)) where
   is-handed = sym (so-yes (partOk (l .part) (l .words)) _ _ _ (s .ok) refl)
 
   -- left out: all is as it was
-  left-matches : Matches l c (handedPart (l .part) (l .words) (untouched 28 0 (b .held) (b .after) (b .piece) (c .room))) (untouched 28 0 (b .held) (b .after) (b .piece) (c .room))
+  abbrev out : Chunking
+  out = untouched 28 0 (b .held) (b .after) (b .piece) (c .room)
+
+  left-matches : Matches l c (handedPart (l .part) (l .words) out) out
   unfolding handedPart partThen wordsThen toldBy ifEq
   left-matches =
       record {
@@ -164,7 +168,8 @@ module _ (l : Lent) (c : Call) (s : Sound l) (chunk : Bytes (c .chunk)) where
 
   made-next : between (chunkLeft made) ≡ left r
   made-next =
-      ap (λ (h : Held). record { held = h; piece = r .piece; after = world (unpacked ws .state) (r .after .slots) (r .after .times) }) (held-back (r .held) (r .count) (r .taken))
+      ap (λ (h : Held). record { held = h; piece = r .piece; after = world (unpacked ws .state) (r .after .slots) (r .after .times) })
+      (held-back (r .held) (r .count) (r .taken))
       ∙ ap (λ (d : Controller). record { held = r .held; piece = r .piece; after = world d (r .after .slots) (r .after .times) }) state-back
 
   made-machine : (r .held .place .done ≡ 0 → ⊥) → Machine (unpacked ws .state)
@@ -222,14 +227,13 @@ fed-twice b cs good count ws =
     let f = partOf (b .held) (b .piece) (joinedLog b cs) true in
     rw (g .place, g .after) (rw (sym (g .turns)) at (twice f (length (turnsFed b cs)) (b .held .place) (b .after) count ws))
 
-module _ (l : Lent) (c : Call) (x : Chunked) (m : Matches l c x (answered (between l) c)) where
-  ends-first : (cs : List Call) → chunkCall l c ≡ x → (ChunkEnds (chunkLeft x) cs → Ends (between (chunkLeft x)) cs) → ChunkEnds l (c ∷ cs) → Ends (between l) (c ∷ cs)
-  ends-first [] is later e =
-      let e′ : (c .ended ≡ true) × ((x .number ≡ 0) × (toldBy (x .number) (x .part) partAnswered < length (c .room))) = rw is at e in
-      (e′ .0, (sym (m .number) ∙ e′ .1 .0, subst (λ (n : ℕ). n < length (c .room)) (m .told) (e′ .1 .1)))
-  ends-first (d ∷ ds) is later e =
-      let e′ : ChunkEnds (chunkLeft x) (d ∷ ds) = rw is at e in
-      subst (λ (y : Between). Ends y (d ∷ ds)) (m .next) (later e′)
+module _ (l : Lent) (c : Call) (m : Matches l c (chunkCall l c) (answered (between l) c)) where
+  abbrev then : Lent
+  then = chunkLeft (chunkCall l c)
+
+  ends-first : (cs : List Call) → (ChunkEnds then cs → Ends (between then) cs) → ChunkEnds l (c ∷ cs) → Ends (between l) (c ∷ cs)
+  ends-first [] later e = (e .0, (sym (m .number) ∙ e .1 .0, subst (λ (n : ℕ). n < length (c .room)) (m .told) (e .1 .1)))
+  ends-first (d ∷ ds) later e = subst (λ (y : Between). Ends y (d ∷ ds)) (m .next) (later e)
 
 pub run : (l : Lent) (cs : List Call) → Sound l → ChunkBytes cs → Run l cs
 run l [] s all =
@@ -251,7 +255,8 @@ run l (c ∷ cs) s all =
     let stop : flag (x .part) partStopped ≡ r .held .place .stopped = ap (λ (d : Between). d .held .place .stopped) (m .next) in
     let us = turnsFed (left r) cs in
     let e = endFed (left r) cs in
-    let counted : r .count + length us ≡ length (turnsBy b c r ++ us) = ap (λ (n : ℕ). n + length us) (sym (o .counted)) ∙ sym (length-append (turnsBy b c r) us) in
+    let counted : r .count + length us ≡ length (turnsBy b c r ++ us)
+    = ap (λ (n : ℕ). n + length us) (sym (o .counted)) ∙ sym (length-append (turnsBy b c r) us) in
     record {
       answers =
           ap (λ (a : List ℕ). a ++ chunkAll (chunkLeft x) cs) (m .answers)
@@ -267,5 +272,5 @@ run l (c ∷ cs) s all =
           ∙ (ap (λ (ws : List ℕ). wordsThen 0 (e .held .place) (length us) (e .after .state) ws) (m .words)
           ∙ (fed-twice (left r) cs (o .good) (r .count) (l .words) ∙ ap (λ (n : ℕ). wordsThen 0 (e .held .place) n (e .after .state) (l .words)) counted)));
       sound = later .sound;
-      ends = ends-first l c x m cs refl (later .ends);
+      ends = ends-first l c m cs (later .ends);
     }

@@ -1,17 +1,17 @@
 -- THE THEOREM on `nscc_chunk`, include/nscc.h: "The answers of all calls are those of nscc_replay on the joined log." Both are the turns of one replay (chunks'
 -- `log-begun` and `log-joined`), and between calls the words hold what the definitions hold. Assumes nothing.
 use mathlib.Core.Path.{_≡_, refl, sym, ap, _∙_}
-use mathlib.Core.Bool.{Bool, true, false}
+use mathlib.Core.Bool.{true}
 use mathlib.Core.List.{List}
 use mathlib.Core.Logic.{⊎-elim, inl, inr}
-use Prim.Native.Nat.{ℕ, _≤_}
+use Prim.Native.Nat.{ℕ}
 use native.Mathlib.Omega.{arith}
 use lib.ListN.{length, take}
 use lib.Seq.{take-all}
 use borrow.Author.Tests.{eq-eqb}
 use Rattle.little.proofs.Spelling.{bytes-of}
 use Rattle.ledger.specs.Ring.{Ring}
-use Rattle.sender.specs.World.{World, world}
+use Rattle.sender.specs.World.{World}
 use Rattle.replay.specs.Answers.{soundAfter}
 use Rattle.replay.specs.Places.{logged, holds, Turning, turnsOf, lastPlace, lastWorld}
 use Rattle.replay.specs.Batches.{wordsOf}
@@ -22,7 +22,7 @@ use Rattle.chunks.proofs.Calls.{left-out, taken-in, either-way}
 use Rattle.chunks.proofs.Joined.{log-begun, log-joined}
 use Rattle.chunks.proofs.Joins.{words-long}
 use Rattle.chunks.proofs.Tests.{keeps-yes}
-use Rattle.words.specs.Layout.{wordCount, bit, unpacked}
+use Rattle.words.specs.Layout.{wordCount, bit}
 use Rattle.exports.specs.Batch.{lentOk, wordsThen}
 use Rattle.exports.specs.Parts.{partOk}
 use Rattle.exports.specs.Statements.{Lent, chunkStart, chunkLog, chunkAll, chunkLast, ChunkFinished, Placed, replayStart, roomsLong, SameReplay, Enough, AreBytes, ChunkBytes, Sized, ChunkReplays, Takes, ChunkTaken}

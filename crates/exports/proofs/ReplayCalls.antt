@@ -70,7 +70,8 @@ module _ (log : List ℕ) (all : Bytes log) where
     unfolding onReplayWords batchOf
     gave-is =
         sym
-        (so-yes (lentOk (a .place) (a .words)) gave (handed (a .place) (a .words) (batchOf f (placeFrom (a .place)) (world (unpacked (a .words) .state) (a .slots) (a .times)) room)) _ (s .ok)
+        (so-yes (lentOk (a .place) (a .words)) gave
+        (handed (a .place) (a .words) (batchOf f (placeFrom (a .place)) (world (unpacked (a .words) .state) (a .slots) (a .times)) room)) _ (s .ok)
         (gave-filled
         ∙ ap (handed (a .place) (a .words))
         (so-yes (holds p w) (filled f p w room) (filled f p w room) _ (s .going .0) refl
