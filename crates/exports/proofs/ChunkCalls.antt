@@ -22,7 +22,7 @@ use Rattle.words.specs.Layout.{wordCount, flag, unpacked}
 use Rattle.words.specs.Statements.{Machine}
 use Rattle.exports.specs.Batch.{wordsThen}
 use Rattle.exports.specs.Parts.{partWords, heldFrom, partOk, Chunked, chunkCalled, partThen, handedPart, onChunkWords}
-use Rattle.exports.specs.Statements.{Lent, chunkCall, chunkLeft, partStopped, partAnswered, partTaken, toldBy, chunkAnswers, chunkTook, chunkLog, chunkAll, chunkLast, ChunkEnds, ChunkBytes}
+use Rattle.exports.specs.Statements.{Lent, chunkCall, chunkLeft, partStopped, partAnswered, partTaken, toldBy, chunkAnswers, chunkTook, chunkLog, chunkAll, chunkLast, ChunkEnds, sharedWords, ChunkBytes}
 use Rattle.exports.proofs.Machines.{Fed, Going, part-fed, turns-going}
 use Rattle.exports.proofs.Parting.{part-long}
 use Rattle.exports.proofs.Stored.{none-stored, then-long, back, twice, held-back, threeWords, three-back, part-ok}
@@ -81,7 +81,7 @@ pub record Sound (l : Lent) : Type 0 where
   pub good : Kept (between l)
   pub bytes : Bytes (l .piece)
   pub machine : (between l .held .place .done ≡ 0 → ⊥) → Machine (between l .after .state)
-  pub first-words : take 3 (l .part) ≡ threeWords (between l .held .place)
+  pub first-words : take sharedWords (l .part) ≡ threeWords (between l .held .place)
 
 -- what a call hands back in words is what the chunk is answered
 pub record Matches (l : Lent) (c : Call) (x : Chunked) (r : Chunking) : Type 0 where

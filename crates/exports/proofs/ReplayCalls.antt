@@ -18,7 +18,7 @@ use Rattle.chunks.proofs.Calls.{words-first}
 use Rattle.chunks.proofs.Joins.{words-append}
 use Rattle.words.specs.Layout.{unpacked}
 use Rattle.exports.specs.Batch.{placeWords, placeFrom, lentOk, Replayed, replayCalled, placeThen, wordsThen, handed, onReplayWords}
-use Rattle.exports.specs.Statements.{Placed, replayCall, replayLeft, toldBy, replayAnswers, replayAll, replayLast, roomsLong}
+use Rattle.exports.specs.Statements.{Placed, replayCall, replayLeft, toldBy, replayAnswers, replayAll, replayLast, roomsLong, sharedWords}
 use Rattle.exports.proofs.Handing.{lent-long}
 use Rattle.exports.proofs.Machines.{Going, log-fed, turns-going}
 use Rattle.exports.proofs.Stored.{none-stored, then-long, back, twice, place-back, threeWords, place-ok}
@@ -40,7 +40,7 @@ pub record Stands (a : Placed) (p : Place) (w : World) : Type 0 where
   pub place : placeFrom (a .place) ≡ p
   pub world-is : world (unpacked (a .words) .state) (a .slots) (a .times) ≡ w
   pub going : Going p w
-  pub first-words : take 3 (a .place) ≡ threeWords p
+  pub first-words : take sharedWords (a .place) ≡ threeWords p
 
 module _ (log : List ℕ) (all : Bytes log) where
   abbrev f : Feed
