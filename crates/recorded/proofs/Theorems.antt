@@ -76,5 +76,4 @@ turn-burst log lent s behind O before more ds is t u there then at newest others
     let delivered : u .after ≡ deliver (t .after) ds
     = world-after log lent s behind O (length before + length ds) u then
     ∙ (ap (run w) stretch ∙ (run-append before (acks ds) w ∙ (ap (λ (v : World). run v (acks ds)) (sym here) ∙ run-acks ds (t .after)))) in
-    let good = turn-sound log lent s behind O (length before) t there in
-    ap ledgerOf delivered ∙ demands.burst (t .after) at newest others ds good N of-these arrives timely
+    ap ledgerOf delivered ∙ demands.burst (t .after) at newest others ds N of-these arrives timely
