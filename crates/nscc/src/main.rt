@@ -49,6 +49,7 @@ fn tell_ending(input: Input, name: &[u8]) -> u8 {
             FAILED
         }
         Input::Failed => tell_failed(name),
+        Input::Unwritten => tell_failed(b"standard output"),
     }
 }
 
@@ -100,7 +101,7 @@ fn open_and_run(index: usize, task: Task) -> u8 {
 fn task_of(o: Options) -> Task {
     let progress = o.progress;
     if o.report {
-        return Task::Report;
+        return Task::Report { progress };
     }
     Task::Lines { progress }
 }

@@ -1,7 +1,7 @@
 -- The laws that the proofs of `player` share.
 pub mod Moving
+pub mod Behind
 pub mod Opened
 pub mod Playing
-pub mod Reading
 pub mod Standing
-pub mod Onward
+pub mod Ends

@@ -13,6 +13,7 @@ fn report(input: Input) {
         Input::Failed => {
             io::write_all(STDOUT_FILENO, b"not read\n");
         }
+        Input::Unwritten => {}
     }
 }
 
