@@ -5,3 +5,4 @@ pub mod Opened
 pub mod Playing
 pub mod Standing
 pub mod Ends
+pub mod Lending
