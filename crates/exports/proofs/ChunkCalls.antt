@@ -3,16 +3,14 @@
 use mathlib.Core.Path.{_≡_, refl, sym, ap, subst, _∙_}
 use mathlib.Core.Bool.{Bool, true, _&&_}
 use mathlib.Core.List.{List, [], _∷_, _++_}
-use Prim.Native.Nat.{ℕ, zero, suc, _+_, _-_, _<_}
-use native.Mathlib.Omega.{arith}
-use lib.ListN.{length, take, replicate, length-append}
-use Rattle.decide.specs.Branch.{ifSo, ifEq, so-yes, so-both, lt-both}
-use Rattle.little.proofs.Spelling.{Bytes, none, one as byte, bytes-of, bytes-take, bytes-drop}
+use Prim.Native.Nat.{ℕ, _+_, _<_}
+use lib.ListN.{length, take, length-append}
+use Rattle.decide.specs.Branch.{ifSo, ifEq, so-yes}
 use Rattle.sender.specs.World.{World, world}
 use Rattle.sender.specs.declared.Controller.{Controller}
-use Rattle.replay.specs.Places.{Feed, offsetMost, Turning, turnsOf, lastPlace, lastWorld}
+use Rattle.replay.specs.Places.{Feed, Turning, lastPlace, lastWorld}
 use Rattle.replay.specs.declared.Place.{Place}
-use Rattle.chunks.specs.Chunks.{pieceMost, keeps, partOf, Chunking, untouched, gone, usedOf, keptOf, takes, chunkOf}
+use Rattle.chunks.specs.Chunks.{partOf, Chunking, untouched}
 use Rattle.chunks.specs.Statements.{Between, Kept, Call, answered, left, tookBy, answersBy, turnsBy, overBy, joinedLog, answersFed, turnsFed, endFed, Ends}
 use Rattle.chunks.specs.declared.Held.{Held}
 use Rattle.chunks.proofs.Calls.{One, one, left-out, taken-in, either-way}
@@ -22,53 +20,10 @@ use Rattle.words.specs.Layout.{wordCount, flag, unpacked}
 use Rattle.words.specs.Statements.{Machine}
 use Rattle.exports.specs.Batch.{wordsThen}
 use Rattle.exports.specs.Parts.{partWords, heldFrom, partOk, Chunked, chunkCalled, partThen, handedPart, onChunkWords}
-use Rattle.exports.specs.Statements.{Lent, chunkCall, chunkLeft, partStopped, partAnswered, partTaken, toldBy, chunkAnswers, chunkTook, chunkLog, chunkAll, chunkLast, ChunkEnds, sharedWords, ChunkBytes}
-use Rattle.exports.proofs.Machines.{Fed, Going, part-fed, turns-going}
+use Rattle.exports.specs.Statements.{Lent, chunkCall, chunkLeft, partStopped, partAnswered, toldBy, chunkAnswers, chunkTook, chunkLog, chunkAll, chunkLast, ChunkEnds, sharedWords}
+use Rattle.exports.proofs.Machines.{Going, turns-going}
 use Rattle.exports.proofs.Parting.{part-long}
 use Rattle.exports.proofs.Stored.{none-stored, then-long, back, twice, held-back, threeWords, three-back, part-ok}
-
--- ---- bytes
-
-bytes-append : {xs ys : List ℕ} → Bytes xs → Bytes ys → Bytes (xs ++ ys)
-bytes-append none all = all
-bytes-append (byte h some) all = byte h (bytes-append some all)
-
-bytes-zeros : (n : ℕ) → Bytes (replicate n 0)
-bytes-zeros zero = none
-bytes-zeros (suc n) = byte {b = 0} (omega arith) (bytes-zeros n)
-
--- the piece's room has bytes again
-kept-bytes : (h : Held) (piece chunk room : List ℕ) (ts : List Turning) → Bytes piece → Bytes chunk → Bytes (keptOf h piece chunk room ts)
-unfolding keptOf
-kept-bytes h piece chunk room ts some more =
-    so-both Bytes (lastPlace (h .place) ts .stopped) [] _ (λ _. none)
-    (λ _. bytes-drop (gone h ts) (bytes-append (bytes-take (h .length) some) (bytes-take (usedOf h chunk room ts) more)))
-
-takes-bytes : (h : Held) (w : World) (piece chunk : List ℕ) (ended : Bool) (room : List ℕ) → Bytes piece → Bytes chunk
-    → Bytes (takes h w piece chunk ended room .piece)
-unfolding takes
-takes-bytes h w piece chunk ended room some more =
-    let ts = take (length room) (turnsOf (partOf h piece chunk ended) (h .place) w) in
-    let kept = keptOf h piece chunk room ts in
-    bytes-append (kept-bytes h piece chunk room ts some more) (bytes-zeros (pieceMost - length kept))
-
-piece-bytes : (b : Between) (c : Call) → Bytes (b .piece) → Bytes (c .chunk) → Bytes (answered b c .piece)
-unfolding chunkOf
-piece-bytes b c piece chunk =
-    let h = b .held in
-    let P : Chunking → Type 0 = λ r. Bytes (r .piece) in
-    so-both P (keeps h (b .after) (b .piece)) _ _
-    (λ _.
-    so-both P (h .place .stopped) _ _ (λ _. piece)
-    (λ _. lt-both P offsetMost _ _ _ (λ _. piece) (λ _. takes-bytes h (b .after) (b .piece) (c .chunk) (c .ended) (c .room) piece chunk)))
-    (λ _. piece)
-
-pub log-bytes : (l : Lent) (cs : List Call) → ChunkBytes cs → Bytes (chunkLog l cs)
-log-bytes l [] all = none
-log-bytes l (c ∷ cs) all =
-    let x = chunkCall l c in
-    bytes-append (bytes-take (toldBy (x .number) (x .part) partTaken) (bytes-of (c .chunk) (all .0)))
-    (so-both Bytes (c .ended && flag (x .part) partStopped) [] _ (λ _. none) (λ _. log-bytes (chunkLeft x) cs (all .1)))
 
 -- ---- nscc_chunk: what is lent, as the definitions hold it
 
@@ -79,7 +34,6 @@ between l = record { held = heldFrom (l .part); piece = l .piece; after = world 
 pub record Sound (l : Lent) : Type 0 where
   pub ok : partOk (l .part) (l .words) ≡ true
   pub good : Kept (between l)
-  pub bytes : Bytes (l .piece)
   pub machine : (between l .held .place .done ≡ 0 → ⊥) → Machine (between l .after .state)
   pub first-words : take sharedWords (l .part) ≡ threeWords (between l .held .place)
 
@@ -93,7 +47,7 @@ pub record Matches (l : Lent) (c : Call) (x : Chunked) (r : Chunking) : Type 0 w
   pub words : x .words ≡ wordsThen 0 (r .held .place) (r .count) (r .after .state) (l .words)
   pub sound : Sound (chunkLeft x)
 
-module _ (l : Lent) (c : Call) (s : Sound l) (chunk : Bytes (c .chunk)) where
+module _ (l : Lent) (c : Call) (s : Sound l) where
   abbrev b : Between
   b = between l
 
@@ -146,9 +100,6 @@ module _ (l : Lent) (c : Call) (s : Sound l) (chunk : Bytes (c .chunk)) where
       (r .after .slots) (r .after .times) (r .room))
       e
 
-  fed : Fed whole
-  fed = part-fed (b .held .place .at) (c .ended) (take (b .held .length) (b .piece) ++ c .chunk) (bytes-append (bytes-take (b .held .length) (s .bytes)) chunk)
-
   going : Going (b .held .place) (b .after)
   going = (keeps-holds (b .held) (b .after) (b .piece) (s .good), s .machine)
 
@@ -164,7 +115,7 @@ module _ (l : Lent) (c : Call) (s : Sound l) (chunk : Bytes (c .chunk)) where
 
   state-back : unpacked ws .state ≡ r .after .state
   state-back =
-      rw ws-are (back whole (r .count) (b .held .place) (b .after) fed going (l .words) refl ∙ sym (ap (λ (v : World). v .state) (o .after)))
+      rw ws-are (back whole (r .count) (b .held .place) (b .after) going (l .words) refl ∙ sym (ap (λ (v : World). v .state) (o .after)))
 
   made-next : between (chunkLeft made) ≡ left r
   made-next =
@@ -175,7 +126,7 @@ module _ (l : Lent) (c : Call) (s : Sound l) (chunk : Bytes (c .chunk)) where
   made-machine : (r .held .place .done ≡ 0 → ⊥) → Machine (unpacked ws .state)
   made-machine some =
       let done : lastPlace (b .held .place) ts .done ≡ 0 → ⊥ = λ z. some (ap (λ (q : Place). q .done) (o .place) ∙ z) in
-      let m : Machine (lastWorld (b .after) ts .state) = turns-going whole fed (r .count) (b .held .place) (b .after) going .1 done in
+      let m : Machine (lastWorld (b .after) ts .state) = turns-going whole (r .count) (b .held .place) (b .after) going .1 done in
       rw (state-back ∙ ap (λ (v : World). v .state) (o .after)) m
 
   made-matches : r .number ≡ 0 → Matches l c made r
@@ -192,7 +143,6 @@ module _ (l : Lent) (c : Call) (s : Sound l) (chunk : Bytes (c .chunk)) where
             record {
               ok = part-ok (r .held) (r .count) (r .taken) ws (then-long (r .held .place) (r .count) (r .after .state) (l .words) words-few);
               good = subst Kept (sym made-next) (o .good);
-              bytes = piece-bytes b c (s .bytes) chunk;
               machine = made-machine;
               first-words = three-back (r .held .place);
             };
@@ -235,8 +185,8 @@ module _ (l : Lent) (c : Call) (m : Matches l c (chunkCall l c) (answered (betwe
   ends-first [] later e = (e .0, (sym (m .number) ∙ e .1 .0, subst (λ (n : ℕ). n < length (c .room)) (m .told) (e .1 .1)))
   ends-first (d ∷ ds) later e = subst (λ (y : Between). Ends y (d ∷ ds)) (m .next) (later e)
 
-pub run : (l : Lent) (cs : List Call) → Sound l → ChunkBytes cs → Run l cs
-run l [] s all =
+pub run : (l : Lent) (cs : List Call) → Sound l → Run l cs
+run l [] s =
     record {
       answers = refl;
       log = refl;
@@ -245,13 +195,13 @@ run l [] s all =
       sound = s;
       ends = λ e. e;
     }
-run l (c ∷ cs) s all =
+run l (c ∷ cs) s =
     let b = between l in
     let x = chunkCall l c in
     let r = answered b c in
     let o = one b c (s .good) in
-    let m = matches l c s (bytes-of (c .chunk) (all .0)) in
-    let later = run (chunkLeft x) cs (m .sound) (all .1) in
+    let m = matches l c s in
+    let later = run (chunkLeft x) cs (m .sound) in
     let stop : flag (x .part) partStopped ≡ r .held .place .stopped = ap (λ (d : Between). d .held .place .stopped) (m .next) in
     let us = turnsFed (left r) cs in
     let e = endFed (left r) cs in

@@ -9,7 +9,6 @@ use native.Mathlib.Omega.{arith}
 use lib.ListN.{length, take}
 use lib.Seq.{take-all}
 use borrow.Author.Tests.{eq-eqb}
-use Rattle.little.proofs.Spelling.{bytes-of}
 use Rattle.ledger.specs.Ring.{Ring}
 use Rattle.sender.specs.World.{World}
 use Rattle.replay.specs.Answers.{soundAfter}
@@ -25,8 +24,8 @@ use Rattle.chunks.proofs.Tests.{keeps-yes}
 use Rattle.words.specs.Layout.{wordCount, bit}
 use Rattle.exports.specs.Batch.{lentOk, wordsThen}
 use Rattle.exports.specs.Parts.{partOk}
-use Rattle.exports.specs.Statements.{Lent, chunkStart, chunkLog, chunkAll, chunkLast, ChunkFinished, Placed, replayStart, roomsLong, SameReplay, Enough, AreBytes, ChunkBytes, Sized, ChunkReplays, Takes, ChunkTaken}
-use Rattle.exports.proofs.ChunkCalls.{log-bytes, between, Sound, matches, Run, run}
+use Rattle.exports.specs.Statements.{Lent, chunkStart, chunkLog, chunkAll, chunkLast, ChunkFinished, Placed, replayStart, roomsLong, SameReplay, Enough, Sized, ChunkReplays, Takes, ChunkTaken}
+use Rattle.exports.proofs.ChunkCalls.{between, Sound, matches, Run, run}
 use Rattle.exports.proofs.ReplayCalls.{Stands, replays}
 use Rattle.exports.proofs.Stored.{threeWords}
 
@@ -60,7 +59,6 @@ module _ (piece ws : List ℕ) (r : Ring) (t : List ℕ) (sized : Sized piece ws
       record {
         ok = rw (eq-eqb (length ws) wordCount (sized .many));
         good = start-kept;
-        bytes = bytes-of piece (sized .bytes);
         machine = λ some. absurd (some refl);
         first-words = refl;
       }
@@ -76,9 +74,9 @@ module _ (piece ws : List ℕ) (r : Ring) (t : List ℕ) (sized : Sized piece ws
         first-words = refl;
       }
 
-  module _ (cs : List Call) (chunks : ChunkBytes cs) where
+  module _ (cs : List Call) where
     abbrev calls : Run l cs
-    calls = run l cs start-sound chunks
+    calls = run l cs start-sound
 
     abbrev ts : List Turning
     ts = turnsFed b cs
@@ -109,7 +107,7 @@ module _ (piece ws : List ℕ) (r : Ring) (t : List ℕ) (sized : Sized piece ws
     the-same rooms enough =
         let g = log-begun b cs start-kept refl refl in
         let us = take (roomsLong rooms) all in
-        let made = replays (chunkLog l cs) (log-bytes l cs chunks) a p w rooms start-stands in
+        let made = replays (chunkLog l cs) a p w rooms start-stands in
         let same : ts ≡ us = same-turns rooms enough in
         let place : endFed b cs .held .place ≡ lastPlace p us = g .place ∙ ap (lastPlace p) same in
         let after : endFed b cs .after ≡ lastWorld w us = g .after ∙ ap (lastWorld w) same in
@@ -130,11 +128,11 @@ module _ (piece ws : List ℕ) (r : Ring) (t : List ℕ) (sized : Sized piece ws
         }
 
     -- a call behind them
-    takes-in : (c : Call) → AreBytes (c .chunk) → Takes (chunkLast l cs) c
-    takes-in c bytes =
+    takes-in : (c : Call) → Takes (chunkLast l cs) c
+    takes-in c =
         let d = chunkLast l cs in
         let s = calls .sound in
-        let m = matches d c s (bytes-of (c .chunk) bytes) in
+        let m = matches d c s in
         either-way (between d) c (s .good)
         (λ q. inl (q, m .number ∙ ap (λ (x : Chunking). x .number) (left-out (between d) c (s .good) q)))
         (λ q.

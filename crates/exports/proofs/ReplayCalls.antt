@@ -7,7 +7,6 @@ use native.Mathlib.Omega.{arith}
 use lib.ListN.{length, take, drop, length-append, length-take, take-append-drop}
 use lib.Seq.{sets, take-add, drop-append-seam}
 use Rattle.decide.specs.Branch.{ifEq, so-yes}
-use Rattle.little.proofs.Spelling.{Bytes}
 use Rattle.sender.specs.World.{World, world}
 use Rattle.sender.specs.declared.Controller.{Controller}
 use Rattle.replay.specs.Places.{Feed, logged, holds, Turning, turnsOf, lastPlace, lastWorld}
@@ -20,7 +19,7 @@ use Rattle.words.specs.Layout.{unpacked}
 use Rattle.exports.specs.Batch.{placeWords, placeFrom, lentOk, Replayed, replayCalled, placeThen, wordsThen, handed, onReplayWords}
 use Rattle.exports.specs.Statements.{Placed, replayCall, replayLeft, toldBy, replayAnswers, replayAll, replayLast, roomsLong, sharedWords}
 use Rattle.exports.proofs.Handing.{lent-long}
-use Rattle.exports.proofs.Machines.{Going, log-fed, turns-going}
+use Rattle.exports.proofs.Machines.{Going, turns-going}
 use Rattle.exports.proofs.Stored.{none-stored, then-long, back, twice, place-back, threeWords, place-ok}
 
 -- the first turns, and then the next of those that are left
@@ -42,7 +41,7 @@ pub record Stands (a : Placed) (p : Place) (w : World) : Type 0 where
   pub going : Going p w
   pub first-words : take sharedWords (a .place) ≡ threeWords p
 
-module _ (log : List ℕ) (all : Bytes log) where
+module _ (log : List ℕ) where
   abbrev f : Feed
   f = logged log
 
@@ -84,12 +83,12 @@ module _ (log : List ℕ) (all : Bytes log) where
     gave-stands : Stands (replayLeft gave) q v
     gave-stands =
         let state : unpacked stored .state ≡ v .state
-        = back f (length room) p w (log-fed log all) (s .going) (a .words) (ap (λ (y : World). y .state) (s .world-is)) in
+        = back f (length room) p w (s .going) (a .words) (ap (λ (y : World). y .state) (s .world-is)) in
         record {
           ok = place-ok q (length first) stored (then-long q (length first) (v .state) (a .words) (lent-long (a .place) (a .words) (s .ok) .1));
           place = place-back q (length first);
           world-is = ap (λ (d : Controller). world d (v .slots) (v .times)) state;
-          going = turns-going f (log-fed log all) (length room) p w (s .going);
+          going = turns-going f (length room) p w (s .going);
           first-words = refl;
         }
 

@@ -22,7 +22,7 @@ use Rattle.words.proofs.Inverse.{long, unpack-pack}
 use Rattle.exports.specs.Batch.{placeWords, placeFrom, lentOk, wordsThen}
 use Rattle.exports.specs.Parts.{partWords, heldFrom, partOk}
 use Rattle.exports.proofs.Answers.{unpacked-state}
-use Rattle.exports.proofs.Machines.{Fed, Going, turns-going, done-forward, none-changed}
+use Rattle.exports.proofs.Machines.{Going, turns-going, done-forward, none-changed}
 
 and-no : (b : Bool) → (b && false) ≡ false
 and-no true = refl
@@ -66,9 +66,9 @@ module _ (f : Feed) (n : ℕ) (p : Place) (w : World) where
   abbrev then : World
   then = lastWorld w ts
 
-  pub back : Fed f → Going p w → (ws : List ℕ) → unpacked ws .state ≡ w .state → unpacked (wordsThen 0 there (length ts) (then .state) ws) .state ≡ then .state
+  pub back : Going p w → (ws : List ℕ) → unpacked ws .state ≡ w .state → unpacked (wordsThen 0 there (length ts) (then .state) ws) .state ≡ then .state
   unfolding lastWorld
-  back fed going ws e =
+  back going ws e =
       by-cases (ℕ-discrete (length ts) 0)
       (λ z.
       rw (none-stored there (length ts) (then .state) ws z)
@@ -76,7 +76,7 @@ module _ (f : Feed) (n : ℕ) (p : Place) (w : World) where
       (λ some.
       by-cases (ℕ-discrete (there .done) 0)
       (λ z. rw (not-stored there (length ts) (then .state) ws z) (e ∙ sym (ap (λ (v : World). v .state) (none-changed f n p w z))))
-      (λ done. rw (stored there (length ts) (then .state) ws some done) (read-back (then .state) (turns-going f fed n p w going .1 done))))
+      (λ done. rw (stored there (length ts) (then .state) ws some done) (read-back (then .state) (turns-going f n p w going .1 done))))
 
   pub twice : (count : ℕ) (ws : List ℕ)
       → wordsThen 0 there (length ts) (then .state) (wordsThen 0 p count (w .state) ws) ≡ wordsThen 0 there (count + length ts) (then .state) ws
