@@ -1,5 +1,5 @@
-//! The bundled logs: small logs of known content, each with the text that its replay prints, and
-//! the examples. Another implementation is held to them.
+//! The bundled logs: small logs of known content, each with the text that its replay prints and
+//! how much of it is written back, and the examples. Another implementation is held to them.
 
 mod basics;
 mod build;
@@ -14,6 +14,7 @@ mod samples;
 mod sampling;
 mod window;
 
+use crate::log::Reader;
 use crate::replay::replay;
 
 /// A log and the name of its file, without the ending.
@@ -58,9 +59,22 @@ pub fn args() -> String {
     lines(|vector| vector.file_name() + "\n")
 }
 
-/// What a replay of the bundled logs prints: each log's name and then its text.
+/// What is printed of the bundled logs: each log's name, the text of its replay, and how many of
+/// its bytes are written back from the records that it is read as.
 pub fn stdout() -> String {
-    lines(|vector| format!("log {}\n{}", vector.file_name(), replay(&vector.log)))
+    lines(|vector| {
+        let (name, text) = (vector.file_name(), replay(&vector.log));
+        let (back, length) = (readable(&vector.log), vector.log.len());
+        format!("log {name}\n{text}back {back} of {length}\n")
+    })
+}
+
+/// How many bytes of a log its records have, up to its end or the first that is refused. A replay
+/// may have stopped before: a second settings record is read like any other.
+pub fn readable(log: &[u8]) -> usize {
+    let mut reader = Reader::new(log);
+    while let Ok(Some(_)) = reader.next_record() {}
+    reader.offset()
 }
 
 fn lines(of_one: impl Fn(&Vector) -> String) -> String {

@@ -1,7 +1,7 @@
 //! The bundled logs: their files are up to date, and lines of them that were worked out by hand.
 
-use model::vectors::{bundled, examples, files, Vector, DATA};
-use model::{replay, Reader, Record};
+use model::vectors::{bundled, examples, files, readable, Vector, DATA};
+use model::{replay, write, Reader, Record};
 use std::collections::BTreeSet;
 use std::fs;
 use std::path::{Path, PathBuf};
@@ -162,6 +162,45 @@ fn start_of(log: &[u8], record: usize) -> usize {
         let length = u16::from_le_bytes([log[start], log[start + 1]]);
         start + 2 + usize::from(length)
     })
+}
+
+/// "so every log is written back byte for byte" (M-110), up to the first record that is refused.
+#[test]
+fn every_log_is_written_back() {
+    for vector in bundled().into_iter().chain(examples()) {
+        let mut reader = Reader::new(&vector.log);
+        let mut room = vec![0; vector.log.len()];
+        let mut back = 0;
+        while let Ok(Some(record)) = reader.next_record() {
+            back += write(&record, &mut room[back..]).expect("room for what was read");
+        }
+        assert_eq!(back, readable(&vector.log), "{}", vector.name);
+        assert_eq!(room[..back], vector.log[..back], "{}", vector.name);
+    }
+}
+
+/// What is read and what there is; the records have the lengths that 01 and M-110 name, and two.
+#[test]
+fn bytes_written_back_worked_out_by_hand() {
+    let expected = [
+        ("empty", 0, 0),
+        ("worked", 57 + 16 + 2 * 21 + 39, 154),
+        ("settings-twice", 57 + 57 + 12, 126), // read on, though its replay stops at 57
+        ("first-path", 12 + 12, 24),
+        ("evs-768", 61 + 12, 73),
+        ("evs-256", 0, 73), // the longer record that says 256 is refused
+        ("cut-1", 57, 57 + 1),
+        ("cut-last", 57, 57 + 15),
+        ("settings-cut-1", 0, 1),
+        ("offset-73", 57 + 16, 73 + 13 + 12),
+        ("kind-262", 57, 57 + 12 + 12),
+    ];
+    let bundled = bundled();
+    for (name, back, length) in expected {
+        let vector = bundled.iter().find(|vector| vector.name == name);
+        let log = &vector.expect(name).log;
+        assert_eq!((readable(log), log.len()), (back, length), "{name}");
+    }
 }
 
 fn text(vectors: &[Vector], name: &str) -> String {
