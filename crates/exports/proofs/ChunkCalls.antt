@@ -165,7 +165,7 @@ pub record Run (l : Lent) (cs : List Call) : Type 0 where
       chunkLast l cs .words
       ≡ wordsThen 0 (endFed (between l) cs .held .place) (length (turnsFed (between l) cs)) (endFed (between l) cs .after .state) (l .words)
   pub sound : Sound (chunkLast l cs)
-  pub ends : ChunkEnds l cs → Ends (between l) cs
+  pub ends : ChunkEnds l cs → Ends true (between l) cs
 
 -- what is stored by a call and by those behind it is what one would store
 fed-twice : (b : Between) (cs : List Call) → Kept b → (count : ℕ) (ws : List ℕ)
@@ -181,9 +181,9 @@ module _ (l : Lent) (c : Call) (m : Matches l c (chunkCall l c) (answered (betwe
   abbrev then : Lent
   then = chunkLeft (chunkCall l c)
 
-  ends-first : (cs : List Call) → (ChunkEnds then cs → Ends (between then) cs) → ChunkEnds l (c ∷ cs) → Ends (between l) (c ∷ cs)
+  ends-first : (cs : List Call) → (ChunkEnds then cs → Ends true (between then) cs) → ChunkEnds l (c ∷ cs) → Ends true (between l) (c ∷ cs)
   ends-first [] later e = (e .0, (sym (m .number) ∙ e .1 .0, subst (λ (n : ℕ). n < length (c .room)) (m .told) (e .1 .1)))
-  ends-first (d ∷ ds) later e = subst (λ (y : Between). Ends y (d ∷ ds)) (m .next) (later e)
+  ends-first (d ∷ ds) later e = subst (λ (y : Between). Ends true y (d ∷ ds)) (m .next) (later e)
 
 pub run : (l : Lent) (cs : List Call) → Sound l → Run l cs
 run l [] s =

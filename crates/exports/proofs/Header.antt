@@ -90,7 +90,7 @@ module _ (piece ws : List ℕ) (r : Ring) (t : List ℕ) (sized : Sized piece ws
     answered-long : length (chunkAll l cs) ≡ length ts
     answered-long = ap length (calls .answers ∙ log-begun b cs start-kept refl refl .answers) ∙ words-long ts
 
-    finished : ChunkFinished l cs → Finished b cs
+    finished : ChunkFinished l cs → Finished true b cs
     finished = ⊎-elim (λ s. inl (ap (λ (d : Between). d .held .place .stopped) (sym (calls .last)) ∙ s)) (λ e. inr (calls .ends e))
 
     -- the calls' turns are as many of the log's as the rooms have words
