@@ -21,6 +21,9 @@ const LATEST: Duration = Duration::from_secs(20);
 /// Under an emulator one cut in so many.
 const SHARE: usize = if EMULATED { 10 } else { 1 };
 
+/// The bytes of the log's first record.
+const FIRST: usize = 61;
+
 const HEADER: &str = "rec ans inflight cwnd flying waiting backlog state\n";
 
 /// Settings of 512 EVs, a record of 59 bytes and its length, and three records behind it.
@@ -116,7 +119,8 @@ fn ends_at_first_end(options: &[&str], model: fn(&[u8]) -> String) {
 
 #[test]
 fn an_end_is_an_end() {
-    assert_eq!(model::replay(&log()[..30]), format!("{HEADER}1 12 0\n"));
+    let cut = &log()[..FIRST - 1];
+    assert_eq!(model::replay(cut), format!("{HEADER}1 12 0\n"));
     assert_eq!(model::replay(b""), HEADER);
     ends_at_first_end(&[], model::replay);
 }
@@ -131,14 +135,10 @@ fn a_failed_read_is_no_end() {
     let log = log();
     let latest = Duration::from_millis(50);
     let why = "nscc: standard input: Resource temporarily unavailable\n";
-    for cut in [1, 30, 61, 70] {
+    for (cut, whole) in [(1, 0), (FIRST - 1, 0), (FIRST, FIRST), (FIRST + 9, FIRST)] {
         let (output, _) = read_by_read(&[], &[&log[..cut]], latest);
         // A record that is cut is not refused, since the log has not ended.
-        let whole = if cut < 61 { 0 } else { 61 };
-        let expected = match whole {
-            0 => HEADER.into(),
-            _ => model::replay(&log[..whole]),
-        };
+        let expected = model::replay(&log[..whole]);
         assert_eq!(text(&output.stdout), expected, "cut at {cut}");
         assert_eq!(text(&output.stderr), why, "cut at {cut}");
         let (output, _) = read_by_read(&["-r"], &[&log[..cut]], latest);
