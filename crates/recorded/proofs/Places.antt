@@ -3,21 +3,28 @@ use mathlib.Core.Path.{_≡_, refl, sym, ap, _∙_}
 use mathlib.Core.Logic.{_⊎_, inl, inr, ⊎-elim}
 use mathlib.Core.Bool.{Bool, true, false, false≢true}
 use mathlib.Core.List.{List, [], _∷_, _++_, map}
-use mathlib.Core.Option.{some}
+use mathlib.Core.Option.{none, some}
 use Prim.Native.Nat.{ℕ, zero, suc, _+_}
 use lib.ListN.{take, getElem?}
 use native.Mathlib.Omega.{arith}
 use Rattle.decide.specs.Branch.{eq-both}
 use Rattle.window.specs.declared.Settings.{Settings}
 use Rattle.sender.specs.World.{World, Answered}
+use Rattle.eventlog.specs.Logs.{stopOf}
+use Rattle.eventlog.specs.Parse.{parseAt, parsedNumber}
+use Rattle.eventlog.specs.declared.Parsed.{Parsed}
+use Rattle.eventlog.specs.declared.Parsed.the-variants.{Whole, End, Cut, Malformed}
 use Rattle.eventlog.specs.declared.Record.{Record}
 use Rattle.replay.specs.Places.{Feed, logged, Turning, placeAfter, turnOf, turnsOf}
+use Rattle.replay.specs.Records.{eventOf}
 use Rattle.replay.specs.declared.Place.{Place}
+use Rattle.replay.specs.declared.records.Event.{Event as Logged}
+use Rattle.replay.specs.declared.records.Event.the-variants as event
 use Rattle.replay.specs.declared.Shown.{Shown}
 use Rattle.replay.proofs.Progress.{turn-cases, turns-none, turns-more}
 use Rattle.demands.specs.Events.{Event, answer, run}
-use Rattle.recorded.specs.Histories.{start, turns, eventsOf, stopsWith, Opened, opened, lastOf, answerOf, told, answers, stop}
-use Rattle.recorded.specs.Recorded.{RecordCounted, WorldAfter, NumberOf}
+use Rattle.recorded.specs.Histories.{start, turns, eventsOf, withStop, stopsWith, Opened, opened, lastOf, answerOf, told, answers, stop}
+use Rattle.recorded.specs.Recorded.{RecordCounted, WorldAfter, NumberOf, NoEvent}
 use Rattle.recorded.proofs.Replays.{stopped-turns, replayed}
 
 -- ---- lists
@@ -105,6 +112,40 @@ number-at [] w rest k e a there is = absurd (no-element k e there)
 number-at (d ∷ es) w rest zero e a there is = rw (same-element d e there) (ap (λ (x : Answered). x .number) (same-element (answer d w) a is))
 number-at (d ∷ es) w rest (suc k) e a there is = number-at es (answer d w .after) rest k e a there is
 
+-- a replay stops with 12 or at the log's end
+stops-so : (rs : List Record) (n : ℕ) → (n ≡ 0) ⊎ (n ≡ 12) → (stopsWith rs n ≡ 0) ⊎ (stopsWith rs n ≡ 12)
+unfolding stopsWith
+stops-so [] n so = so
+stops-so (r ∷ rs) n so = by (eventOf r) (stops-so rs n so)
+  where
+    by : (e : Logged) → (stopsWith rs n ≡ 0) ⊎ (stopsWith rs n ≡ 12) → (withStop e (stopsWith rs n) ≡ 0) ⊎ (withStop e (stopsWith rs n) ≡ 12)
+    by (event.NewData time bytes) more = more
+    by (event.Send time a) more = more
+    by (event.Ack time a) more = more
+    by (event.Nack time a) more = more
+    by (event.Loss time a) more = more
+    by (event.Path time) more = more
+    by (event.SetUp s) more = inr refl
+
+read-so : (x : Parsed) → (parsedNumber x ≡ 0) ⊎ (parsedNumber x ≡ 12)
+read-so (Whole r next) = inl refl
+read-so End = inl refl
+read-so Cut = inr refl
+read-so Malformed = inr refl
+
+-- behind the events there is a refusal or nothing
+no-event-at : (es : List Event) (w : World) (n k : ℕ) (a : Answered) → (n ≡ 0) ⊎ (n ≡ 12) → getElem? es k ≡ none
+    → getElem? (answers w es ++ stop n (run w es)) k ≡ some a → a .number ≡ 12
+unfolding answers
+no-event-at [] w n k a so past is =
+    eq-both (λ (l : List Answered). getElem? l k ≡ some a → a .number ≡ 12) n 0 [] (told n w ∷ []) (λ _ e. absurd (no-element k a e)) (λ not. one not k) is
+  where
+    one : (n ≡ 0 → ⊥) → (k : ℕ) → getElem? (told n w ∷ []) k ≡ some a → a .number ≡ 12
+    one not zero e = ap (λ (x : Answered). x .number) (same-element (told n w) a e) ∙ ⊎-elim (λ z. absurd (not z)) (λ t. t) so
+    one not (suc k) e = absurd (no-element k a e)
+no-event-at (e ∷ es) w n zero a so past is = absurd (no-element zero e (sym past))
+no-event-at (e ∷ es) w n (suc k) a so past is = no-event-at es (answer e w .after) n k a so past is
+
 -- a turn's answer stands at its place among the answers
 answer-at : (log : List ℕ) (lent : World) (s : Settings) (behind : List Record) → Opened log lent s behind
     → (k : ℕ) (t : Turning) → getElem? (turns log lent) k ≡ some t
@@ -128,3 +169,8 @@ world-after log lent s behind O k t there = by k (answer-at log lent s behind O 
 
 pub number-of : NumberOf
 number-of log lent s behind O k t e there is = number-at (eventsOf behind) (opened s lent) _ k e (answerOf t) is (answer-at log lent s behind O (suc k) t there)
+
+pub no-event : NoEvent
+no-event log lent s behind O k t there past =
+    no-event-at (eventsOf behind) (opened s lent) _ k (answerOf t) (stops-so behind (lastOf log) (read-so (parseAt log (stopOf log)))) past
+    (answer-at log lent s behind O (suc k) t there)

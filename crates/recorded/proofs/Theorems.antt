@@ -31,6 +31,9 @@ world-after = places.world-after
 pub number-of : recorded.NumberOf
 number-of = places.number-of
 
+pub no-event : recorded.NoEvent
+no-event = places.no-event
+
 -- ---- the demands
 
 -- record 1 is an accepted setting up

@@ -7,7 +7,7 @@ use mathlib.Core.Path.{_≡_}
 use mathlib.Core.Logic.{_⊎_}
 use mathlib.Core.Bool.{true}
 use mathlib.Core.List.{List, [], _∷_, _++_, map}
-use mathlib.Core.Option.{some}
+use mathlib.Core.Option.{none, some}
 use Prim.Native.Nat.{ℕ, suc, _+_, _≤_}
 use lib.IntN.{pos, _-ℤ_}
 use lib.ListN.{length, take, getElem?}
@@ -47,11 +47,16 @@ abbrev pub WorldAfter : Type 0
 WorldAfter = (log : List ℕ) (lent : World) (s : Settings) (behind : List Record) → Opened log lent s behind
     → (k : ℕ) (t : Turning) → getElem? (turns log lent) k ≡ some t → t .after ≡ run (opened s lent) (take k (eventsOf behind))
 
--- .. and its number is the one that the sender answers to its event.
+-- .. its number is the one that the sender answers to its event ..
 abbrev pub NumberOf : Type 0
 NumberOf = (log : List ℕ) (lent : World) (s : Settings) (behind : List Record) → Opened log lent s behind
     → (k : ℕ) (t : Turning) (e : Event) → getElem? (turns log lent) (suc k) ≡ some t → getElem? (eventsOf behind) k ≡ some e
     → t .number ≡ answer e (run (opened s lent) (take k (eventsOf behind))) .number
+
+-- .. and 12 where it has none.
+abbrev pub NoEvent : Type 0
+NoEvent = (log : List ℕ) (lent : World) (s : Settings) (behind : List Record) → Opened log lent s behind
+    → (k : ℕ) (t : Turning) → getElem? (turns log lent) (suc k) ≡ some t → getElem? (eventsOf behind) k ≡ none → t .number ≡ 12
 
 -- ---- the demands, of the state that a line shows
 
