@@ -1,5 +1,5 @@
-// Replays an event log: `nscc LOG`, or `nscc` with the log on standard input. USAGE and HELP say what else it takes. Messages go to standard error and begin
-// with its name. A program here has no exit status: with `--status` it writes one to descriptor 3, for tools/nscc.
+// Replays an event log: `nscc LOG`, or `nscc` with the log on standard input; `nscc --help` says what else there is. Messages go to standard
+// error and begin with the program's name. A program here has no exit status: with `--status` it writes one to descriptor 3, for tools/nscc.
 mod options;
 
 use crate::options::Options;
@@ -53,22 +53,33 @@ fn tell_ending(input: Input, name: &[u8]) -> u8 {
     }
 }
 
-// Writes a text to standard output.
-fn write_text(text: &[u8]) -> u8 {
-    if io::write_all(STDOUT_FILENO, text) {
+// Writes a text to standard output, and answers whether it is written.
+fn put(text: &[u8]) -> bool {
+    io::write_all(STDOUT_FILENO, text)
+}
+
+// How it ended that a text was to be written.
+fn ended(written: bool) -> u8 {
+    if written {
         return DONE;
     }
     tell_failed(b"standard output")
 }
 
-fn write_version() -> u8 {
-    write_text(b"nscc 1.0.0\n")
+fn write_version() -> bool {
+    put(b"nscc 1.0.0\n")
 }
 
-fn write_help() -> u8 {
-    write_text(
-        b"usage: nscc [-p] [-r] [--] [LOG]\nReplays an event log, of standard input where LOG is - or is not there, and writes a line for each record.\n  -p, --progress  tells on standard error how many records are done\n  -r, --report    writes a report of the run in place of its lines\n  -h, --help      writes this\n      --version   writes the version\n      --          what follows is no option\n",
-    )
+fn write_help() -> bool {
+    put(b"usage: nscc [-p] [-r] [--] [LOG]\n")
+        & put(
+            b"Replays an event log, of standard input where LOG is - or is not there, and writes a line for each record.\n",
+        )
+        & put(b"  -p, --progress  tells on standard error how many records are done\n")
+        & put(b"  -r, --report    writes a report of the run in place of its lines\n")
+        & put(b"  -h, --help      writes this\n")
+        & put(b"      --version   writes the version\n")
+        & put(b"      --          what follows is no option\n")
 }
 
 // Replays the log that a file has.
@@ -122,10 +133,10 @@ fn answer(o: Options) -> u8 {
         return tell_unknown(o.unknown);
     }
     if o.help {
-        return write_help();
+        return ended(write_help());
     }
     if o.version {
-        return write_version();
+        return ended(write_version());
     }
     if o.many {
         return tell_usage();

@@ -22,7 +22,7 @@ ghost use Rattle.sender.specs.Numbers.{rowOf, inTable, numberOf, feedbac
 ghost use Rattle.sender.specs.World.{world, answered, routed};
 ghost use Rattle.sender.specs.Events.{onNewData, onSend, onAck, ackSays, onNack, nackSays, onLoss, onPath};
 
-// Refusals 1, "a setting is outside its range", and 2, "state or buffers don't hold together", by which whoever stands above the sender answers too.
+// Refusals 1, "a setting is outside its range", and 2, "state or buffers don't hold together": crates above the sender give them too.
 pub const SETTING: u32 = 1;
 
 pub const UNSOUND: u32 = 2;
