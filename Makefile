@@ -23,16 +23,16 @@ test:
 	@tools/test
 
 # Random cases against the model for so many seconds; a failure prints its seed and the shortest log that still fails.
-fuzz: target/staticlib/libexports.a target/bin/nscc
+fuzz: target/lib/libnscc.a target/bin/nscc
 	@$(RUN) -p differential --bin fuzz -- $(SECONDS)
 
 # What the library costs beside the model, as a table. On a processor other than x86-64 the same code is compiled for that processor first.
-bench: target/staticlib/libexports.a
+bench: target/lib/libnscc.a
 	@tools/native-archive target/native >target/native.log 2>&1 || { cat target/native.log >&2; exit 1; }
 	@NSCC_ARCHIVE_DIR=$(CURDIR)/target/native $(RUN) -p bench
 
-target/staticlib/libexports.a: $(SOURCES)
-	@rt staticlib exports
+target/lib/libnscc.a: $(SOURCES)
+	@tools/library
 
 target/bin/nscc: $(SOURCES)
 	@tools/prove nscc

@@ -1,7 +1,7 @@
 /*
  * A card's first steps with nscc.h: the requirements' worked example by calls, then a packet that is trimmed, sent again and acknowledged twice.
  *
- *     gcc -std=c99 -Wall -Wextra -Werror -Iinclude examples/card.c target/staticlib/libexports.a
+ *     gcc -std=c99 -Wall -Wextra -Werror -Iinclude examples/card.c target/lib/libnscc.a
  *
  * The archive is for x86-64. card.out has what this program prints.
  */

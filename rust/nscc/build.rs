@@ -7,7 +7,7 @@ use std::{env, fs};
 
 /// The variable that names a folder with an archive for this processor.
 const FOLDER: &str = "NSCC_ARCHIVE_DIR";
-const ARCHIVE: &str = "libexports.a";
+const ARCHIVE: &str = "libnscc.a";
 
 fn main() {
     println!("cargo:rerun-if-env-changed={FOLDER}");
@@ -15,19 +15,19 @@ fn main() {
     let root = PathBuf::from(variable("CARGO_MANIFEST_DIR")).join("../..");
     let named = env::var_os(FOLDER).map(PathBuf::from);
     let native = named.is_some() || variable("CARGO_CFG_TARGET_ARCH") == "x86_64";
-    let folder = named.unwrap_or_else(|| root.join("target/staticlib"));
+    let folder = named.unwrap_or_else(|| root.join("target/lib"));
     let archive = folder.join(ARCHIVE);
     println!("cargo:rerun-if-changed={}", archive.display());
     if !archive.is_file() {
         fail(&format!(
-            "{} is missing.\nMake it with `rt staticlib exports` at the repository's root, \
+            "{} is missing.\nMake it with `tools/library` at the repository's root, \
              or name its folder in {FOLDER}.",
             archive.display()
         ));
     }
     if native {
         println!("cargo:rustc-link-search=native={}", folder.display());
-        println!("cargo:rustc-link-lib=static:-bundle=exports");
+        println!("cargo:rustc-link-lib=static:-bundle=nscc");
     } else {
         build_bridge(&root, &archive);
     }

@@ -8,7 +8,7 @@ use Prim.Native.Nat.{ℕ, _*_, _≤_, _<_}
 use native.Mathlib.Omega.{arith}
 use lib.Dec.{leb, ltb}
 use borrow.Author.Tests.{lt-ltb, le-ltb, le-leb, lt-leb}
-use Rattle.decide.specs.Branch.{ifSo, ifLt, lt-both, so-yes, so-no, lt-yes, lt-no}
+use Rattle.rules.specs.Branch.{ifSo, ifLt, lt-both, so-yes, so-no, lt-yes, lt-no}
 use Rattle.window.specs.Delays.{fedBy, feedOf, loweredOf, measuredOf}
 use Rattle.window.specs.Events.{rttFed}
 use Rattle.window.specs.declared.Settings.{Settings}

@@ -13,8 +13,8 @@ use lib.Dec.{ltb, eqb}
 use lib.IntN.{ℤ, pos, negsuc, negℤ, subℕ, _+ℤ_, +ℤ-assoc, +ℤ-idr, negℤ-+ℤ, -ℤ-+ℤ-cancel}
 use lib.Signed.{ltZ}
 use borrow.Author.Tests.{ltb-false, le-ltb, lt-ltb}
-use Rattle.decide.specs.Branch.{ifSo}
-use Rattle.decide.specs.Rows.{firstOf}
+use Rattle.rules.specs.Branch.{ifSo}
+use Rattle.rules.specs.Rows.{firstOf}
 use Rattle.serial.specs.Wrap.{minus}
 use Rattle.serial.specs.Psn.{unsentOrOld}
 use Rattle.serial.specs.Count.{counts, half, isOld, forwardOf}

@@ -3,9 +3,9 @@
 use mathlib.Core.Path.{_≡_, refl}
 use mathlib.Core.Bool.{true}
 use lib.Count.{leadingZeros}
-use Rattle.decide.specs.Branch.{ifSo, ifLt, ifEq}
-use Rattle.decide.specs.Test.{inside}
-use Rattle.decide.specs.Rows.{firstOf}
+use Rattle.rules.specs.Branch.{ifSo, ifLt, ifEq}
+use Rattle.rules.specs.Test.{inside}
+use Rattle.rules.specs.Rows.{firstOf}
 use Rattle.serial.specs.Wrap.{minus}
 use Rattle.serial.specs.Psn.{plus, bitOf, covered, backOf, spanOf, unsentOrOld}
 use Rattle.serial.specs.Count.{aheadOf, isOld, forwardOf}

@@ -13,7 +13,7 @@ use lib.IntN.{ℤ}
 use lib.ListN.{getD}
 use lib.Seq.{getD-drop}
 use borrow.Author.Tests.{eq-eqb, ne-eqb}
-use Rattle.decide.specs.Branch.{lt-yes, lt-no, eq-both}
+use Rattle.rules.specs.Branch.{lt-yes, lt-no, eq-both}
 use Rattle.serial.specs.Wrap.{minus}
 use Rattle.serial.specs.Psn.{psns, plus}
 use Rattle.serial.proofs.Wraps.{minus-is, minus-lt}

@@ -9,8 +9,8 @@ use Prim.Native.Nat.{ℕ, _+_, _%_}
 use native.Mathlib.Decide.{ℕ-discrete}
 use native.Mathlib.Omega.{arith}
 use lib.IntN.{ℤ, pos, _+ℤ_, _-ℤ_, +ℤ-assoc, +ℤ-comm, +ℤ-idr, +ℤ-idl, negℤ-+ℤ}
-use Rattle.decide.specs.Branch.{so-both, eq-yes, eq-no}
-use Rattle.decide.specs.Rows.{firstOf}
+use Rattle.rules.specs.Branch.{so-both, eq-yes, eq-no}
+use Rattle.rules.specs.Rows.{firstOf}
 use Rattle.serial.specs.Psn.{psns}
 use Rattle.window.specs.declared.Settings.{Settings}
 use Rattle.ledger.specs.Ring.{Ring, Ledger, packetOf}

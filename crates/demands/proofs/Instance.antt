@@ -12,9 +12,9 @@ use native.Mathlib.Omega.{arith}
 use lib.Count.{leadingZeros}
 use lib.IntN.{pos}
 use lib.ListN.{length, replicate}
-use Rattle.decide.specs.Branch.{ifSo, ifLt, ifEq, eq-yes}
-use Rattle.decide.specs.Test.{inside}
-use Rattle.decide.specs.Rows.{firstOf}
+use Rattle.rules.specs.Branch.{ifSo, ifLt, ifEq, eq-yes}
+use Rattle.rules.specs.Test.{inside}
+use Rattle.rules.specs.Rows.{firstOf}
 use Rattle.serial.specs.Wrap.{minus}
 use Rattle.serial.specs.Psn.{plus, bitOf, covered, backOf, spanOf, unsentOrOld}
 use Rattle.serial.specs.Count.{counts, half, aheadOf, isOld, forwardOf}

@@ -12,9 +12,9 @@ use lib.Dec.{leb, eqb}
 use lib.IntN.{ℤ}
 use lib.ListN.{length, getD, drop, length-drop}
 use borrow.Author.Tests.{le-ltb, lt-leb, leb-false, ne-eqb, eqb-false}
-use Rattle.decide.specs.Branch.{eq-yes, eq-both}
-use Rattle.decide.specs.Test.{neither}
-use Rattle.decide.specs.Rows.{firstOf, first-later, none-here}
+use Rattle.rules.specs.Branch.{eq-yes, eq-both}
+use Rattle.rules.specs.Test.{neither}
+use Rattle.rules.specs.Rows.{firstOf, first-later, none-here}
 use Rattle.serial.specs.Psn.{psns, plus, covered, unsentOrOld}
 use Rattle.serial.specs.Count.{counts}
 use Rattle.serial.proofs.Cover.{plus-lt, plus-plus, minus-step}

@@ -11,8 +11,8 @@ use native.Mathlib.Decide.{decLt, ℕ-discrete}
 use native.Mathlib.Omega.{arith}
 use lib.ListN.{length, getD, set, drop, length-set, length-append, length-drop, List·getD-append}
 use lib.Seq.{getD-set-same, getD-set-other, getD-append-seam, getD-drop}
-use Rattle.decide.specs.Branch.{ifSo, ifEq, so-both, eq-yes, eq-no}
-use Rattle.decide.specs.Rows.{firstOf}
+use Rattle.rules.specs.Branch.{ifSo, ifEq, so-both, eq-yes, eq-no}
+use Rattle.rules.specs.Rows.{firstOf}
 use Rattle.serial.specs.Wrap.{minus}
 use Rattle.serial.specs.Psn.{psns, plus, covered}
 use Rattle.serial.proofs.Wraps.{minus-self, minus-turns}

@@ -8,8 +8,8 @@ use mathlib.Core.List.{List}
 use Prim.Native.Nat.{ℕ}
 use native.Mathlib.Omega.{arith}
 use borrow.Author.Tests.{not-false}
-use Rattle.decide.specs.Branch.{ifSo, ifEq, eq-both}
-use Rattle.decide.specs.Rows.{Row, firstOf, none-here}
+use Rattle.rules.specs.Branch.{ifSo, ifEq, eq-both}
+use Rattle.rules.specs.Rows.{Row, firstOf, none-here}
 use Rattle.window.specs.declared.Settings.{Settings}
 use Rattle.ledger.specs.Ring.{Ring, Ledger, ledger}
 use Rattle.ledger.specs.Steps.{suppliedOf, pushedOf, resentOf, markedOf, ackedOf}

@@ -7,7 +7,7 @@ use mathlib.Core.Bool.{Bool, true, false, _||_}
 use Prim.Native.Nat.{ℕ, min}
 use lib.Dec.{eqb}
 use borrow.Author.Tests.{eqb-true, eq-eqb}
-use Rattle.decide.specs.Branch.{lt-both, eq-both}
+use Rattle.rules.specs.Branch.{lt-both, eq-both}
 use Rattle.window.specs.Delays.{sampleOf, loweredOf, measuredOf}
 use Rattle.window.specs.Events.{rttFed}
 use Rattle.window.specs.declared.Settings.{Settings}

@@ -5,7 +5,7 @@ use mathlib.Core.Path.{_≡_}
 use mathlib.Core.Bool.{true}
 use mathlib.Core.List.{List, [], _∷_}
 use Prim.Native.Nat.{ℕ}
-use Rattle.decide.specs.Rows.{firstOf}
+use Rattle.rules.specs.Rows.{firstOf}
 use Rattle.window.specs.declared.Settings.{Settings}
 use Rattle.ledger.specs.Ring.{Ring}
 use Rattle.ledger.proofs.Facts.{Facts}

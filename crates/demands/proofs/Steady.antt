@@ -5,7 +5,7 @@ use mathlib.Core.Path.{_≡_, refl, ap, _∙_}
 use mathlib.Core.Bool.{Bool, true, false}
 use Prim.Native.Nat.{ℕ, _-_, _/_}
 use lib.IntN.{ℤ}
-use Rattle.decide.specs.Branch.{ifLt, so-both, lt-both, lt-yes, lt-no}
+use Rattle.rules.specs.Branch.{ifLt, so-both, lt-both, lt-yes, lt-no}
 use Rattle.window.specs.Delays.{loweredOf, measuredOf}
 use Rattle.window.specs.Quick.{firedOf, restartedOf, adaptedOf}
 use Rattle.window.specs.Fields.{withIgnored, withTrigger}

@@ -5,7 +5,7 @@ use mathlib.Core.Path.{_≡_, refl, sym, ap, ap₂}
 use mathlib.Core.List.{List}
 use mathlib.Core.Option.{Option, Option·some-injective, Option·none-ne-some}
 use Prim.Native.Nat.{ℕ}
-use Rattle.decide.specs.Unique.{OneOutcome, Tells, unique}
+use Rattle.rules.specs.Unique.{OneOutcome, Tells, unique}
 use Rattle.window.specs.declared.Settings.{Settings}
 use Rattle.window.specs.declared.Sampling.{Sampling}
 use Rattle.window.specs.declared.Sampling.the-variants.{Gone}

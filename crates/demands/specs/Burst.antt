@@ -7,7 +7,7 @@ use mathlib.Core.List.{List, [], _∷_, List·Memᴰ}
 use Prim.Native.Nat.{ℕ, _≤_, _<_}
 use lib.Dec.{eqb}
 use lib.ListN.{getD}
-use Rattle.decide.specs.Branch.{ifLt}
+use Rattle.rules.specs.Branch.{ifLt}
 use Rattle.serial.specs.Wrap.{minus}
 use Rattle.serial.specs.Psn.{plus, covered}
 use Rattle.serial.specs.Count.{counts, half}

@@ -6,7 +6,7 @@ use Prim.Native.Nat.{ℕ}
 use Rattle.window.specs.declared.Settings.{Settings}
 use Rattle.ledger.specs.Ring.{Ring}
 use Rattle.sender.specs.World.{World, Answered}
-use Rattle.decide.specs.Rows.{Row}
+use Rattle.rules.specs.Rows.{Row}
 use Rattle.sender.specs.Rows.{withSound, newDataRows, sendAllRows, ackAllRows, nackAllRows, lossAllRows, pathRows}
 use Rattle.sender.specs.Steps.{newDataStep, sendStep, ackStep, nackStep, lossStep, pathStep}
 use Rattle.sender.specs.Start.{onSetUp}

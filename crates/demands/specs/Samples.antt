@@ -6,7 +6,7 @@ use mathlib.Core.Logic.{_⊎_}
 use mathlib.Core.Bool.{Bool, true, false, not, _&&_}
 use Prim.Native.Nat.{ℕ, _+_, _-_, _*_, _/_, _≤_, min}
 use lib.Dec.{leb, ltb}
-use Rattle.decide.specs.Branch.{ifSo}
+use Rattle.rules.specs.Branch.{ifSo}
 use Rattle.window.specs.Limits.{sampleMost}
 use Rattle.ledger.specs.Packets.{flyingStatus, markedStatus}
 use Rattle.ledger.specs.Ring.{packetOf}

@@ -3,7 +3,7 @@
 -- Assumes nothing.
 use mathlib.Core.List.{List, [], _∷_}
 use Prim.Native.Nat.{ℕ, _+_, _%_}
-use Rattle.decide.specs.Branch.{ifEq, ifSo}
+use Rattle.rules.specs.Branch.{ifEq, ifSo}
 use Rattle.serial.specs.Psn.{psns}
 use Rattle.ledger.specs.Steps.{heldOf, newlyOf}
 use Rattle.sender.specs.World.{World}

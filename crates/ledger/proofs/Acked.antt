@@ -12,8 +12,8 @@ use lib.Seq.{getD-drop}
 use lib.IntN.{ℤ, pos, _-ℤ_}
 use mir.Syntax.{w64}
 use mir.Val.{toZ, ofZ}
-use Rattle.decide.specs.Branch.{so-both}
-use Rattle.decide.specs.Rows.{firstOf}
+use Rattle.rules.specs.Branch.{so-both}
+use Rattle.rules.specs.Rows.{firstOf}
 use Rattle.serial.specs.Psn.{plus, covered, backOf, spanOf}
 use Rattle.serial.specs.Count.{counts, isOld}
 use Rattle.serial.proofs.Cover.{plus-lt, minus-step, sent-facts, beyond}

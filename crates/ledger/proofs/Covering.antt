@@ -12,8 +12,8 @@ use lib.IntN.{ℤ}
 use lib.ListN.{length, getD, set, take}
 use lib.Seq.{set-getD}
 use borrow.Author.Tests.{eqb-true, ne-eqb}
-use Rattle.decide.specs.Branch.{ifSo, so-yes, eq-yes, eq-no}
-use Rattle.decide.specs.Test.{both}
+use Rattle.rules.specs.Branch.{ifSo, so-yes, eq-yes, eq-no}
+use Rattle.rules.specs.Test.{both}
 use Rattle.serial.specs.Psn.{psns, plus, covered}
 use Rattle.ledger.specs.Packets.{flyingStatus, markedStatus, doneStatus, none, withStatus, isFlying, isMarked, isOut, flyingOne, markedOne, markedSize, sumOf, coverOne, coverAll, coveredSum}
 use Rattle.ledger.specs.Ring.{Ring, Ledger, ring, ledger, capOf, packetAt, placeOf, laid, queueOf, longOf, packets}

@@ -13,8 +13,8 @@ use lib.IntN.{ℤ, pos, negsuc}
 use lib.ListN.{length, getD, List·getD-eq-default}
 use lib.Dec.{leb, ltb, eqb}
 use borrow.Author.Tests.{leb-true, ltb-true, eqb-true, le-leb, lt-leb, lt-ltb, eq-eqb, ne-eqb, not-true}
-use Rattle.decide.specs.Branch.{ifLt, lt-yes, lt-no, eq-both}
-use Rattle.decide.specs.Test.{inside, both, whole, inside-tells, inside-yes}
+use Rattle.rules.specs.Branch.{ifLt, lt-yes, lt-no, eq-both}
+use Rattle.rules.specs.Test.{inside, both, whole, inside-tells, inside-yes}
 use Rattle.serial.specs.Psn.{psns}
 use Rattle.serial.specs.Count.{counts}
 use Rattle.ledger.specs.Packets.{flyingStatus, doneStatus, none, isDone, flyingOne, markedOne, markedSize, sumOf}

@@ -7,8 +7,8 @@ use native.Mathlib.Omega.{arith}
 use lib.Dec.{eqb}
 use lib.IntN.{ℤ}
 use borrow.Author.Tests.{lt-ltb, le-ltb, eq-eqb, ne-eqb, ltb-false, eqb-true, eqb-false, not-false}
-use Rattle.decide.specs.Test.{neither}
-use Rattle.decide.specs.Rows.{firstOf, first-none, first-here, first-later, none-here}
+use Rattle.rules.specs.Test.{neither}
+use Rattle.rules.specs.Rows.{firstOf, first-none, first-here, first-later, none-here}
 use Rattle.serial.specs.Psn.{unsentOrOld}
 use Rattle.ledger.specs.declared.Flow.{Flow}
 use Rattle.ledger.specs.declared.Packet.{Packet}

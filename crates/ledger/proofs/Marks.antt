@@ -6,7 +6,7 @@ use Prim.Native.Nat.{ℕ, _+_, _-_, _%_, _^_, _≤_, _<_}
 use native.Mathlib.Omega.{arith}
 use lib.IntN.{ℤ, pos, _-ℤ_}
 use lib.ListN.{set}
-use Rattle.decide.specs.Rows.{firstOf}
+use Rattle.rules.specs.Rows.{firstOf}
 use Rattle.serial.specs.Psn.{psns}
 use Rattle.ledger.specs.declared.Packet.{Packet}
 use Rattle.ledger.specs.Packets.{flyingStatus, markedStatus, withStatus, isFlying, isDone, flyingOne}

@@ -11,7 +11,7 @@ use borrow.Author.Tests.{eqb-true, eq-eqb, ne-eqb}
 use lib.Dec.{eqb}
 use lib.ListN.{length, getD, set, take, drop, drop-of-length-le}
 use lib.Seq.{drop-cons}
-use Rattle.decide.specs.Branch.{ifSo, ifEq, so-both, eq-both}
+use Rattle.rules.specs.Branch.{ifSo, ifEq, so-both, eq-both}
 use Rattle.serial.specs.Psn.{psns, plus}
 use Rattle.serial.proofs.Cover.{plus-plus, plus-lt}
 use Rattle.ledger.specs.Packets.{flyingStatus, markedStatus, doneStatus, none, withStatus, isFlying, isMarked, isDone, isOut, flyingOne, markedOne, markedSize, sumOf, coverOne, coverAll, coveredSum, doneRun}

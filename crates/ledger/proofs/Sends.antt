@@ -13,8 +13,8 @@ use lib.Signed.{leZ}
 use lib.ListN.{length, getD, set, length-set, length-append, List·getD-append}
 use lib.Seq.{getD-set-same, getD-set-other, getD-append-seam}
 use borrow.Author.Tests.{eqb-true}
-use Rattle.decide.specs.Branch.{ifEq}
-use Rattle.decide.specs.Rows.{firstOf}
+use Rattle.rules.specs.Branch.{ifEq}
+use Rattle.rules.specs.Rows.{firstOf}
 use Rattle.serial.specs.Wrap.{minus}
 use Rattle.serial.specs.Psn.{psns, plus}
 use Rattle.serial.proofs.Wraps.{minus-is, laps, minus-turns}

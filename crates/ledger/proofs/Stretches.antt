@@ -10,8 +10,8 @@ use native.Mathlib.Numerals.{add-one}
 use lib.Dec.{leb, eqb}
 use lib.ListN.{getD}
 use borrow.Author.Tests.{le-leb, leb-true, leb-false, lt-leb, eq-eqb, ne-eqb}
-use Rattle.decide.specs.Branch.{ifEq}
-use Rattle.decide.specs.Test.{inside}
+use Rattle.rules.specs.Branch.{ifEq}
+use Rattle.rules.specs.Test.{inside}
 use Rattle.ledger.specs.Packets.{flyingStatus, markedStatus, doneStatus, flyingOne, markedOne, markedSize, sumOf}
 use Rattle.ledger.specs.Bounds.{sizeLeast, resentMost}
 use Rattle.ledger.specs.Ring.{Ring, capOf, packetAt, placeOf, queueOf, tabulate}

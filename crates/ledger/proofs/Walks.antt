@@ -9,7 +9,7 @@ use native.Mathlib.Nat.{add-zero, add-suc, le-refl, le-of-suc-le-suc, not-suc-le
 use native.Mathlib.Omega.{arith}
 use native.Mathlib.Numerals.{add-one}
 use lib.ListN.{length, getD, set}
-use Rattle.decide.specs.Test.{both, whole}
+use Rattle.rules.specs.Test.{both, whole}
 use Rattle.ledger.specs.Packets.{none, sumOf}
 use Rattle.ledger.specs.Ring.{tabulate}
 use Rattle.ledger.specs.Coherent.{allTo}

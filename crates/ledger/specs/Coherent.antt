@@ -8,8 +8,8 @@ use Prim.Native.Nat.{ℕ, zero, suc, _^_, _≤_, _<_}
 use mathlib.Core.Path.{_≡_}
 use lib.ListN.{length}
 use lib.Dec.{leb, ltb, eqb}
-use Rattle.decide.specs.Branch.{ifLt}
-use Rattle.decide.specs.Test.{inside}
+use Rattle.rules.specs.Branch.{ifLt}
+use Rattle.rules.specs.Test.{inside}
 use Rattle.serial.specs.Psn.{psns}
 use Rattle.serial.specs.Count.{counts}
 use Rattle.ledger.specs.Packets.{flyingStatus, doneStatus, isDone, flyingOne, markedOne, markedSize, sumOf}

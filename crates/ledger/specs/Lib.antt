@@ -1,6 +1,7 @@
 -- What the contracts of `ledger` cite.
 pub mod Packets
 pub mod Ring
+pub mod Lent
 pub mod Coherent
 pub mod Stretch
 pub mod Steps

@@ -4,7 +4,7 @@ use mathlib.Core.Bool.{Bool, _&&_, _||_}
 use mathlib.Core.List.{List, [], _∷_}
 use Prim.Native.Nat.{ℕ, suc, _+_}
 use lib.Dec.{eqb}
-use Rattle.decide.specs.Branch.{ifSo, ifEq}
+use Rattle.rules.specs.Branch.{ifSo, ifEq}
 use Rattle.serial.specs.Psn.{plus}
 use Rattle.ledger.specs.declared.Packet.{Packet}
 

@@ -5,7 +5,7 @@ use mathlib.Core.List.{List, [], _∷_}
 use Prim.Native.Nat.{ℕ}
 use lib.Dec.{ltb, eqb}
 use lib.IntN.{ℤ}
-use Rattle.decide.specs.Rows.{Row, row}
+use Rattle.rules.specs.Rows.{Row, row}
 use Rattle.serial.specs.Psn.{unsentOrOld}
 use Rattle.ledger.specs.Packets.{isFlying, isMarked}
 use Rattle.ledger.specs.Bounds.{sinks}

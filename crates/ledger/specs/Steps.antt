@@ -4,7 +4,7 @@ use mathlib.Core.List.{[], _∷_, _++_}
 use Prim.Native.Nat.{ℕ, _+_, _-_, _*_, min}
 use lib.ListN.{drop, set}
 use lib.IntN.{ℤ, pos, _+ℤ_}
-use Rattle.decide.specs.Branch.{ifSo}
+use Rattle.rules.specs.Branch.{ifSo}
 use Rattle.serial.specs.Psn.{plus, covered}
 use Rattle.serial.specs.Count.{isOld, forwardOf}
 use Rattle.ledger.specs.Packets.{flyingStatus, markedStatus, withStatus, flyingOne, markedOne, markedSize, coverAll, coveredSum, doneRun}

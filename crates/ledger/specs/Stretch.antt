@@ -4,8 +4,8 @@ use mathlib.Core.Bool.{Bool}
 use mathlib.Core.List.{List}
 use Prim.Native.Nat.{ℕ, zero, suc, _+_}
 use lib.ListN.{getD}
-use Rattle.decide.specs.Branch.{ifEq}
-use Rattle.decide.specs.Test.{inside}
+use Rattle.rules.specs.Branch.{ifEq}
+use Rattle.rules.specs.Test.{inside}
 use Rattle.ledger.specs.Packets.{markedStatus}
 
 -- the number at the slot k after `from` is one of low .. high

@@ -13,8 +13,9 @@ ghost use mathlib.Core.Path.{_≡_};
 ghost use mathlib.Core.Bool.{_&&_, _||_};
 ghost use Prim.Native.Nat.{_+_, _-_, _≤_};
 ghost use lib.Dec.{eqb};
-ghost use Rattle.decide.specs.Rows.{firstOf};
+ghost use Rattle.rules.specs.Rows.{firstOf};
 ghost use Rattle.serial.specs.Psn.{covered};
+ghost use Rattle.ledger.specs.Lent.{ringGiven, ringBefore, ringAfter};
 ghost use Rattle.ledger.specs.Packets.{flyingStatus, markedStatus};
 ghost use Rattle.ledger.specs.Ring.{ring, ledger};
 ghost use Rattle.ledger.specs.Coherent.{Coheres};
@@ -49,12 +50,12 @@ fn cover_run<'a, 'b>(
     map: u64,
     totals: Totals,
 ) -> Totals
-    requires { ⌜ Cover (ledger flow totals (ring (now status) (now size) (now sent) (now resent))) reach cum map ⌝ }
-    requires { ⌜ Run (ledger flow totals (ring (now status) (now size) (now sent) (now resent))) reach k from to ⌝ }
-    requires { ⌜ Spent (ledger flow totals (ring (now status) (now size) (now sent) (now resent))) cum map k ⌝ }
-    ensures { λ r. ⌜ Cover (ledger flow r (ring (now (status .exit)) (now (size .entry)) (now (sent .entry)) (now (resent .entry)))) reach cum map ⌝ }
-    ensures { λ r. ⌜ Spent (ledger flow r (ring (now (status .exit)) (now (size .entry)) (now (sent .entry)) (now (resent .entry)))) cum map (k + (to - from)) ⌝ }
-    ensures { λ r. ⌜ Onward (ledger flow totals (ring (now (status .entry)) (now (size .entry)) (now (sent .entry)) (now (resent .entry)))) (ledger flow r (ring (now (status .exit)) (now (size .entry)) (now (sent .entry)) (now (resent .entry)))) cum map ⌝ }
+    requires { ⌜ Cover (ledger flow totals (ringGiven status size sent resent)) reach cum map ⌝ }
+    requires { ⌜ Run (ledger flow totals (ringGiven status size sent resent)) reach k from to ⌝ }
+    requires { ⌜ Spent (ledger flow totals (ringGiven status size sent resent)) cum map k ⌝ }
+    ensures { λ r. ⌜ Cover (ledger flow r (ringAfter status size sent resent)) reach cum map ⌝ }
+    ensures { λ r. ⌜ Spent (ledger flow r (ringAfter status size sent resent)) cum map (k + (to - from)) ⌝ }
+    ensures { λ r. ⌜ Onward (ledger flow totals (ringBefore status size sent resent)) (ledger flow r (ringAfter status size sent resent)) cum map ⌝ }
 {
     let mut flying = totals.flying;
     let mut marked = totals.marked;
@@ -99,8 +100,8 @@ fn cover<'a, 'b>(
     map: u64,
     totals: Totals,
 ) -> Totals
-    requires { ⌜ Cover (ledger flow totals (ring (now status) (now size) (now sent) (now resent))) reach cum map ⌝ }
-    ensures { λ r. ⌜ Covered (ledger flow totals (ring (now (status .entry)) (now (size .entry)) (now (sent .entry)) (now (resent .entry)))) cum map r (ring (now (status .exit)) (now (size .entry)) (now (sent .entry)) (now (resent .entry))) ⌝ }
+    requires { ⌜ Cover (ledger flow totals (ringGiven status size sent resent)) reach cum map ⌝ }
+    ensures { λ r. ⌜ Covered (ledger flow totals (ringBefore status size sent resent)) cum map r (ringAfter status size sent resent) ⌝ }
 {
     let cap = status.len();
     let i = place(cap, flow.low);
@@ -160,8 +161,8 @@ fn retire<'a, 'b, 'c, 'd>(
     low: u32,
     n: u32,
 ) -> u32
-    requires { ⌜ Laid (ring (now status) (now size) (now sent) (now resent)) low n ⌝ }
-    ensures { λ r. ⌜ Retired (ring (now (status .entry)) (now (size .entry)) (now (sent .entry)) (now (resent .entry))) low n r (ring (now (status .exit)) (now (size .exit)) (now (sent .exit)) (now (resent .exit))) ⌝ }
+    requires { ⌜ Laid (ringGiven status size sent resent) low n ⌝ }
+    ensures { λ r. ⌜ Retired (ringBefore status size sent resent) low n r (ringAfter status size sent resent) ⌝ }
 {
     let cap = status.len();
     let mut i = place(cap, low);
@@ -221,9 +222,9 @@ pub fn ack<'a, 'b, 'c, 'd>(
     sent: &'c mut [u64],
     resent: &'d mut [u8],
 ) -> Books
-    requires { ⌜ Coheres (ledger (books .flow) (books .totals) (ring (now status) (now size) (now sent) (now resent))) ⌝ }
+    requires { ⌜ Coheres (ledger (books .flow) (books .totals) (ringGiven status size sent resent)) ⌝ }
     requires { ⌜ firstOf (ackRows (books .flow) (books .totals .«in_flight») cum map count) ≡ 0 ⌝ }
-    ensures { λ r. ⌜ ledger (r .flow) (r .totals) (ring (now (status .exit)) (now (size .exit)) (now (sent .exit)) (now (resent .exit))) ≡ ackedOf cum map count (ledger (books .flow) (books .totals) (ring (now (status .entry)) (now (size .entry)) (now (sent .entry)) (now (resent .entry)))) ⌝ }
+    ensures { λ r. ⌜ ledger (r .flow) (r .totals) (ringAfter status size sent resent) ≡ ackedOf cum map count (ledger (books .flow) (books .totals) (ringBefore status size sent resent)) ⌝ }
 {
     let mut flow = books.flow;
     let low = flow.low;

@@ -7,9 +7,9 @@ use crate::slots::long;
 ghost use mathlib.Core.Path.{_≡_};
 ghost use Prim.Native.Nat.{_<_, _*_, _^_};
 ghost use lib.IntN.{pos, _-ℤ_};
-ghost use Rattle.decide.specs.Rows.{firstOf};
+ghost use Rattle.rules.specs.Rows.{firstOf};
+ghost use Rattle.ledger.specs.Lent.{ringGiven, ringBefore};
 ghost use Rattle.ledger.specs.Bounds.{sinks, Flown};
-ghost use Rattle.ledger.specs.Ring.{ring};
 ghost use Rattle.ledger.specs.Coherent.{Even};
 ghost use Rattle.ledger.specs.Steps.{newlyOf};
 ghost use Rattle.ledger.specs.Rows.{newRows, resendRows, ackRows, markRows};
@@ -80,8 +80,8 @@ pub fn judge_resend<'a>(
     psn: u32,
     bytes: u32,
 ) -> u32
-    requires { ⌜ Even (ring (now status) (now size) (now sent) (now resent)) ⌝ }
-    ensures { λ r. ⌜ r ≡ firstOf (resendRows flow (ring (now (status .entry)) (now (size .entry)) (now (sent .entry)) (now (resent .entry))) psn bytes) ⌝ }
+    requires { ⌜ Even (ringGiven status size sent resent) ⌝ }
+    ensures { λ r. ⌜ r ≡ firstOf (resendRows flow (ringBefore status size sent resent) psn bytes) ⌝ }
 {
     let x = find(flow, status, size, sent, resent, psn);
     if (x.status != crate::MARKED) | (bytes != x.size) {
@@ -115,9 +115,9 @@ pub fn judge_mark<'a>(
     resent: &'a [u8],
     psn: u32,
 ) -> u32
-    requires { ⌜ Even (ring (now status) (now size) (now sent) (now resent)) ⌝ }
+    requires { ⌜ Even (ringGiven status size sent resent) ⌝ }
     requires { ⌜ Flown (2 ^ 26) (books .totals .«in_flight») ⌝ }
-    ensures { λ r. ⌜ r ≡ firstOf (markRows (books .flow) (books .totals .«in_flight») (ring (now (status .entry)) (now (size .entry)) (now (sent .entry)) (now (resent .entry))) psn) ⌝ }
+    ensures { λ r. ⌜ r ≡ firstOf (markRows (books .flow) (books .totals .«in_flight») (ringBefore status size sent resent) psn) ⌝ }
 {
     let flow = books.flow;
     let totals = books.totals;

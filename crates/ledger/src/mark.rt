@@ -6,8 +6,9 @@ use crate::slots::find;
 use crate::slots::place;
 ghost use mathlib.Core.Path.{_≡_};
 ghost use mathlib.Core.Bool.{true};
+ghost use Rattle.ledger.specs.Lent.{ringGiven, ringBefore, ringAfter};
 ghost use Rattle.ledger.specs.Packets.{isFlying};
-ghost use Rattle.ledger.specs.Ring.{ring, ledger, packetOf};
+ghost use Rattle.ledger.specs.Ring.{ledger, packetOf};
 ghost use Rattle.ledger.specs.Coherent.{Coheres};
 ghost use Rattle.ledger.specs.Steps.{markedOf};
 
@@ -19,9 +20,9 @@ pub fn mark<'a, 'b>(
     sent: &'b [u64],
     resent: &'b [u8],
 ) -> Books
-    requires { ⌜ Coheres (ledger (books .flow) (books .totals) (ring (now status) (now size) (now sent) (now resent))) ⌝ }
-    requires { ⌜ isFlying (packetOf (books .flow) (ring (now status) (now size) (now sent) (now resent)) psn) ≡ true ⌝ }
-    ensures { λ r. ⌜ ledger (r .flow) (r .totals) (ring (now (status .exit)) (now (size .entry)) (now (sent .entry)) (now (resent .entry))) ≡ markedOf psn (ledger (books .flow) (books .totals) (ring (now (status .entry)) (now (size .entry)) (now (sent .entry)) (now (resent .entry)))) ⌝ }
+    requires { ⌜ Coheres (ledger (books .flow) (books .totals) (ringGiven status size sent resent)) ⌝ }
+    requires { ⌜ isFlying (packetOf (books .flow) (ringGiven status size sent resent) psn) ≡ true ⌝ }
+    ensures { λ r. ⌜ ledger (r .flow) (r .totals) (ringAfter status size sent resent) ≡ markedOf psn (ledger (books .flow) (books .totals) (ringBefore status size sent resent)) ⌝ }
 {
     let flow = books.flow;
     let mut totals = books.totals;

@@ -9,9 +9,10 @@ ghost use mathlib.Core.Path.{_≡_};
 ghost use mathlib.Core.Bool.{true};
 ghost use Prim.Native.Nat.{_+_, _≤_, _<_, _^_, min};
 ghost use lib.IntN.{pos, _+ℤ_};
+ghost use Rattle.ledger.specs.Lent.{ringGiven, ringBefore, ringAfter};
 ghost use Rattle.ledger.specs.Packets.{isMarked};
 ghost use Rattle.ledger.specs.Bounds.{backlogMost, resentMost, Flown};
-ghost use Rattle.ledger.specs.Ring.{ring, ledger, capOf, longOf, packetOf};
+ghost use Rattle.ledger.specs.Ring.{ledger, capOf, longOf, packetOf};
 ghost use Rattle.ledger.specs.Coherent.{Coheres};
 ghost use Rattle.ledger.specs.Steps.{suppliedOf, pushedOf, resentOf};
 
@@ -45,9 +46,9 @@ pub fn push<'a, 'b, 'c, 'd>(
     sent: &'c mut [u64],
     resent: &'d mut [u8],
 ) -> Books
-    requires { ⌜ Coheres (ledger (books .flow) (books .totals) (ring (now status) (now size) (now sent) (now resent))) ⌝ }
-    requires { ⌜ (bytes ≤ books .flow .backlog) × (longOf (books .flow) < capOf (ring (now status) (now size) (now sent) (now resent))) ⌝ }
-    ensures { λ r. ⌜ ledger (r .flow) (r .totals) (ring (now (status .exit)) (now (size .exit)) (now (sent .exit)) (now (resent .exit))) ≡ pushedOf time bytes (ledger (books .flow) (books .totals) (ring (now (status .entry)) (now (size .entry)) (now (sent .entry)) (now (resent .entry)))) ⌝ }
+    requires { ⌜ Coheres (ledger (books .flow) (books .totals) (ringGiven status size sent resent)) ⌝ }
+    requires { ⌜ (bytes ≤ books .flow .backlog) × (longOf (books .flow) < capOf (ringGiven status size sent resent)) ⌝ }
+    ensures { λ r. ⌜ ledger (r .flow) (r .totals) (ringAfter status size sent resent) ≡ pushedOf time bytes (ledger (books .flow) (books .totals) (ringBefore status size sent resent)) ⌝ }
 {
     let mut flow = books.flow;
     let mut totals = books.totals;
@@ -96,9 +97,9 @@ pub fn resend<'a, 'b, 'c, 'd>(
     sent: &'c mut [u64],
     resent: &'d mut [u8],
 ) -> Books
-    requires { ⌜ Coheres (ledger (books .flow) (books .totals) (ring (now status) (now size) (now sent) (now resent))) ⌝ }
-    requires { ⌜ isMarked (packetOf (books .flow) (ring (now status) (now size) (now sent) (now resent)) psn) ≡ true ⌝ }
-    ensures { λ r. ⌜ ledger (r .flow) (r .totals) (ring (now (status .exit)) (now (size .exit)) (now (sent .exit)) (now (resent .exit))) ≡ resentOf time psn (ledger (books .flow) (books .totals) (ring (now (status .entry)) (now (size .entry)) (now (sent .entry)) (now (resent .entry)))) ⌝ }
+    requires { ⌜ Coheres (ledger (books .flow) (books .totals) (ringGiven status size sent resent)) ⌝ }
+    requires { ⌜ isMarked (packetOf (books .flow) (ringGiven status size sent resent) psn) ≡ true ⌝ }
+    ensures { λ r. ⌜ ledger (r .flow) (r .totals) (ringAfter status size sent resent) ≡ resentOf time psn (ledger (books .flow) (books .totals) (ringBefore status size sent resent)) ⌝ }
 {
     let flow = books.flow;
     let mut totals = books.totals;

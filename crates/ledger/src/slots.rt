@@ -4,6 +4,7 @@ use crate::Packet;
 ghost use mathlib.Core.Path.{_≡_};
 ghost use mathlib.Core.Bool.{true};
 ghost use Prim.Native.Nat.{_%_, _+_, _<_};
+ghost use Rattle.ledger.specs.Lent.{ringGiven, ringBefore, ringAfter};
 ghost use Rattle.ledger.specs.Ring.{ring, capOf, packetAt, putAt, longOf, packetOf};
 ghost use Rattle.ledger.specs.Coherent.{isCapacity, Even};
 
@@ -50,9 +51,9 @@ pub(crate) fn read<'a>(
     resent: &'a [u8],
     i: usize,
 ) -> Packet
-    requires { ⌜ Even (ring (now status) (now size) (now sent) (now resent)) ⌝ }
-    requires { ⌜ i < capOf (ring (now status) (now size) (now sent) (now resent)) ⌝ }
-    ensures { λ r. ⌜ r ≡ packetAt (ring (now (status .entry)) (now (size .entry)) (now (sent .entry)) (now (resent .entry))) i ⌝ }
+    requires { ⌜ Even (ringGiven status size sent resent) ⌝ }
+    requires { ⌜ i < capOf (ringGiven status size sent resent) ⌝ }
+    ensures { λ r. ⌜ r ≡ packetAt (ringBefore status size sent resent) i ⌝ }
 {
     Packet {
         status: status[i],
@@ -71,9 +72,9 @@ pub(crate) fn write<'a, 'b, 'c, 'd>(
     i: usize,
     x: Packet,
 )
-    requires { ⌜ Even (ring (now status) (now size) (now sent) (now resent)) ⌝ }
-    requires { ⌜ i < capOf (ring (now status) (now size) (now sent) (now resent)) ⌝ }
-    ensures { λ _. ⌜ ring (now (status .exit)) (now (size .exit)) (now (sent .exit)) (now (resent .exit)) ≡ putAt (ring (now (status .entry)) (now (size .entry)) (now (sent .entry)) (now (resent .entry))) i x ⌝ }
+    requires { ⌜ Even (ringGiven status size sent resent) ⌝ }
+    requires { ⌜ i < capOf (ringGiven status size sent resent) ⌝ }
+    ensures { λ _. ⌜ ringAfter status size sent resent ≡ putAt (ringBefore status size sent resent) i x ⌝ }
 {
     status[i] = x.status;
     size[i] = x.size;
@@ -90,8 +91,8 @@ pub fn find<'a>(
     resent: &'a [u8],
     psn: u32,
 ) -> Packet
-    requires { ⌜ Even (ring (now status) (now size) (now sent) (now resent)) ⌝ }
-    ensures { λ r. ⌜ r ≡ packetOf flow (ring (now (status .entry)) (now (size .entry)) (now (sent .entry)) (now (resent .entry))) psn ⌝ }
+    requires { ⌜ Even (ringGiven status size sent resent) ⌝ }
+    ensures { λ r. ⌜ r ≡ packetOf flow (ringBefore status size sent resent) psn ⌝ }
 {
     let low = flow.low;
     let offset = serial::psn_minus(psn, low);

@@ -3,8 +3,8 @@
 ghost use mathlib.Core.Path.{_≡_};
 ghost use Prim.Native.Nat.{_-_, _*_, _^_, _≤_, _<_, min};
 ghost use lib.ListN.{length};
-ghost use Rattle.decide.specs.Branch.{ifEq};
-ghost use Rattle.decide.specs.Test.{inside};
+ghost use Rattle.rules.specs.Branch.{ifEq};
+ghost use Rattle.rules.specs.Test.{inside};
 ghost use Rattle.ledger.specs.Packets.{markedStatus};
 ghost use Rattle.ledger.specs.Coherent.{allTo};
 ghost use Rattle.ledger.specs.Stretch.{between, sumTo, oneAt, sizeAt};

@@ -11,6 +11,7 @@ use crate::stretch::times_until;
 ghost use mathlib.Core.Path.{_≡_};
 ghost use mathlib.Core.Bool.{true};
 ghost use Prim.Native.Nat.{_-_, _*_, _^_, _≤_};
+ghost use Rattle.ledger.specs.Lent.{ringGiven, ringBefore};
 ghost use Rattle.ledger.specs.Bounds.{inBounds};
 ghost use Rattle.ledger.specs.Ring.{ring, ledger, capOf};
 ghost use Rattle.ledger.specs.Coherent.{allTo, isCapacity, isRing, slotOk, headOk, coherent, Even, Tallied};
@@ -32,7 +33,7 @@ fn is_capacity(n: usize) -> bool
 
 // Whether the four slices have one length, and it is a capacity.
 pub fn is_ring<'a>(status: &'a [u8], size: &'a [u32], sent: &'a [u64], resent: &'a [u8]) -> bool
-    ensures { λ r. ⌜ r ≡ isRing (ring (now (status .entry)) (now (size .entry)) (now (sent .entry)) (now (resent .entry))) ⌝ }
+    ensures { λ r. ⌜ r ≡ isRing (ringBefore status size sent resent) ⌝ }
 {
     let cap = status.len();
     is_capacity(cap) & (size.len() == cap) & (sent.len() == cap) & (resent.len() == cap)
@@ -49,9 +50,9 @@ fn run<'a>(
     from: usize,
     to: usize,
 ) -> Sums
-    requires { ⌜ Even (ring (now status) (now size) (now sent) (now resent)) ⌝ }
-    requires { ⌜ (from ≤ to) × (to ≤ capOf (ring (now status) (now size) (now sent) (now resent))) ⌝ }
-    ensures { λ r. ⌜ Tallied mtu clock (ring (now (status .entry)) (now (size .entry)) (now (sent .entry)) (now (resent .entry))) from (to - from) (r .sound) (r .flying) (r .marked) (r .«marked_bytes») ⌝ }
+    requires { ⌜ Even (ringGiven status size sent resent) ⌝ }
+    requires { ⌜ (from ≤ to) × (to ≤ capOf (ringGiven status size sent resent)) ⌝ }
+    ensures { λ r. ⌜ Tallied mtu clock (ringBefore status size sent resent) from (to - from) (r .sound) (r .flying) (r .marked) (r .«marked_bytes») ⌝ }
     ensures { λ r. ⌜ (r .flying ≤ 4096) × (r .marked ≤ 4096) × (r .«marked_bytes» ≤ 4096 * 2 ^ 32) ⌝ }
 {
     let sound = bytes_within(status, crate::FLYING, crate::DONE, from, to)
@@ -77,10 +78,10 @@ fn tally<'a>(
     low: u32,
     n: u32,
 ) -> Sums
-    requires { ⌜ Even (ring (now status) (now size) (now sent) (now resent)) ⌝ }
-    requires { ⌜ n ≤ capOf (ring (now status) (now size) (now sent) (now resent)) ⌝ }
-    requires { ⌜ isCapacity (capOf (ring (now status) (now size) (now sent) (now resent))) ≡ true ⌝ }
-    ensures { λ r. ⌜ Tallied mtu clock (ring (now (status .entry)) (now (size .entry)) (now (sent .entry)) (now (resent .entry))) low n (r .sound) (r .flying) (r .marked) (r .«marked_bytes») ⌝ }
+    requires { ⌜ Even (ringGiven status size sent resent) ⌝ }
+    requires { ⌜ n ≤ capOf (ringGiven status size sent resent) ⌝ }
+    requires { ⌜ isCapacity (capOf (ringGiven status size sent resent)) ≡ true ⌝ }
+    ensures { λ r. ⌜ Tallied mtu clock (ringBefore status size sent resent) low n (r .sound) (r .flying) (r .marked) (r .«marked_bytes») ⌝ }
 {
     let cap = status.len();
     let i = place(cap, low);
@@ -107,9 +108,9 @@ fn zero_run<'a>(
     from: usize,
     to: usize,
 ) -> bool
-    requires { ⌜ Even (ring (now status) (now size) (now sent) (now resent)) ⌝ }
-    requires { ⌜ (from ≤ to) × (to ≤ capOf (ring (now status) (now size) (now sent) (now resent))) ⌝ }
-    ensures { λ r. ⌜ r ≡ allTo (slotOk 0 0 (ring (now (status .entry)) (now (size .entry)) (now (sent .entry)) (now (resent .entry))) from 0) (to - from) ⌝ }
+    requires { ⌜ Even (ringGiven status size sent resent) ⌝ }
+    requires { ⌜ (from ≤ to) × (to ≤ capOf (ringGiven status size sent resent)) ⌝ }
+    ensures { λ r. ⌜ r ≡ allTo (slotOk 0 0 (ringBefore status size sent resent) from 0) (to - from) ⌝ }
 {
     bytes_within(status, crate::EMPTY, crate::EMPTY, from, to)
         & sizes_within(size, 0, 0, from, to)
@@ -129,11 +130,11 @@ fn rest<'a>(
     n: u32,
     sound: bool,
 ) -> bool
-    requires { ⌜ Even (ring (now status) (now size) (now sent) (now resent)) ⌝ }
-    requires { ⌜ n ≤ capOf (ring (now status) (now size) (now sent) (now resent)) ⌝ }
-    requires { ⌜ isCapacity (capOf (ring (now status) (now size) (now sent) (now resent))) ≡ true ⌝ }
-    requires { ⌜ sound ≡ allTo (slotOk mtu clock (ring (now status) (now size) (now sent) (now resent)) low n) n ⌝ }
-    ensures { λ r. ⌜ r ≡ allTo (slotOk mtu clock (ring (now (status .entry)) (now (size .entry)) (now (sent .entry)) (now (resent .entry))) low n) (capOf (ring (now (status .entry)) (now (size .entry)) (now (sent .entry)) (now (resent .entry)))) ⌝ }
+    requires { ⌜ Even (ringGiven status size sent resent) ⌝ }
+    requires { ⌜ n ≤ capOf (ringGiven status size sent resent) ⌝ }
+    requires { ⌜ isCapacity (capOf (ringGiven status size sent resent)) ≡ true ⌝ }
+    requires { ⌜ sound ≡ allTo (slotOk mtu clock (ringGiven status size sent resent) low n) n ⌝ }
+    ensures { λ r. ⌜ r ≡ allTo (slotOk mtu clock (ringBefore status size sent resent) low n) (capOf (ringBefore status size sent resent)) ⌝ }
 {
     let cap = status.len();
     let i = place(cap, low);
@@ -155,9 +156,9 @@ fn head_ok<'a>(
     low: u32,
     n: u32,
 ) -> bool
-    requires { ⌜ Even (ring (now status) (now size) (now sent) (now resent)) ⌝ }
-    requires { ⌜ isCapacity (capOf (ring (now status) (now size) (now sent) (now resent))) ≡ true ⌝ }
-    ensures { λ r. ⌜ r ≡ headOk (ring (now (status .entry)) (now (size .entry)) (now (sent .entry)) (now (resent .entry))) low n ⌝ }
+    requires { ⌜ Even (ringGiven status size sent resent) ⌝ }
+    requires { ⌜ isCapacity (capOf (ringGiven status size sent resent)) ≡ true ⌝ }
+    ensures { λ r. ⌜ r ≡ headOk (ringBefore status size sent resent) low n ⌝ }
 {
     let x = read(status, size, sent, resent, place(status.len(), low));
     (n == 0) | (x.status != crate::DONE)
@@ -184,7 +185,7 @@ pub fn is_coherent<'a>(
     maxwnd: u64,
     clock: u64,
 ) -> bool
-    ensures { λ r. ⌜ r ≡ coherent mtu maxwnd clock (ledger (books .flow) (books .totals) (ring (now (status .entry)) (now (size .entry)) (now (sent .entry)) (now (resent .entry)))) ⌝ }
+    ensures { λ r. ⌜ r ≡ coherent mtu maxwnd clock (ledger (books .flow) (books .totals) (ringBefore status size sent resent)) ⌝ }
 {
     let flow = books.flow;
     let totals = books.totals;

@@ -7,8 +7,8 @@ use crate::options::Options;
 use libc::STDERR_FILENO;
 use libc::STDIN_FILENO;
 use libc::STDOUT_FILENO;
-use player::Input;
-use player::Task;
+use replay_stream::Input;
+use replay_stream::Task;
 
 // How it ended, as a digit: all is written; a log could not be read, or what is made of it not written, to the end; a wrong usage.
 const DONE: u8 = b'0';
@@ -85,7 +85,7 @@ fn write_help() -> bool {
 
 // Replays the log that a file has.
 fn run(fd: i32, name: &[u8], task: Task) -> u8 {
-    let replayed = player::replay_from(fd, task);
+    let replayed = replay_stream::replay_from(fd, task);
     let input = replayed.input;
     tell_ending(input, name)
 }

@@ -10,7 +10,7 @@ use native.Mathlib.Numerals.{add-one}
 use native.Mathlib.Omega.{arith}
 use lib.ListN.{length, take, drop, getD, length-append, length-take, length-drop, drop-of-length-le}
 use lib.Seq.{drop-cons, take-all, getD-take, getD-drop}
-use Rattle.decide.specs.Branch.{lt-yes, lt-no, lt-both}
+use Rattle.rules.specs.Branch.{lt-yes, lt-no, lt-both}
 use Rattle.paths.specs.Path.{timeMost, Early, avoids, avoided, firstFree, steps}
 
 pub avoids-le : (time until : ℕ) → avoids time until ≤ 1

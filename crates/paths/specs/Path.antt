@@ -3,7 +3,7 @@
 use mathlib.Core.List.{List, [], _∷_, _++_}
 use Prim.Native.Nat.{ℕ, suc, _+_, _*_, _%_, _^_, _<_}
 use lib.ListN.{length, take, drop, getD, set}
-use Rattle.decide.specs.Branch.{ifLt}
+use Rattle.rules.specs.Branch.{ifLt}
 use Rattle.paths.specs.declared.Choice.{Choice}
 
 -- "that EV's time becomes" until

@@ -8,8 +8,8 @@ use mathlib.Core.List.{List}
 use Prim.Native.Nat.{ℕ}
 use native.Mathlib.Omega.{arith}
 use lib.Dec.{eqb}
-use Rattle.decide.specs.Branch.{ifEq, eq-both}
-use Rattle.decide.specs.Rows.{Row, firstOf, first-later}
+use Rattle.rules.specs.Branch.{ifEq, eq-both}
+use Rattle.rules.specs.Rows.{Row, firstOf, first-later}
 use Rattle.window.specs.Held.{Held}
 use Rattle.window.specs.declared.Window.{Window}
 use Rattle.window.proofs.Tests.{sample-held}

@@ -11,9 +11,9 @@ use Prim.Native.Nat.{ℕ}
 use lib.Dec.{eqb}
 use native.Mathlib.Omega.{arith}
 use borrow.Author.Tests.{le-ltb, lt-leb, eq-eqb, eqb-false, not-true}
-use Rattle.decide.specs.Branch.{ifSo, eq-yes, so-yes}
-use Rattle.decide.specs.Test.{inside, both, whole, inside-yes}
-use Rattle.decide.specs.Rows.{Row, row, firstOf, first-later}
+use Rattle.rules.specs.Branch.{ifSo, eq-yes, so-yes}
+use Rattle.rules.specs.Test.{inside, both, whole, inside-yes}
+use Rattle.rules.specs.Rows.{Row, row, firstOf, first-later}
 use Rattle.window.specs.declared.Settings.{Settings}
 use Rattle.ledger.specs.Packets.{isMarked}
 use Rattle.ledger.specs.Bounds.{sizeLeast}

@@ -12,9 +12,9 @@ use native.Mathlib.Decide.{decLt}
 use native.Mathlib.Omega.{arith}
 use lib.Dec.{ltb, leb}
 use borrow.Author.Tests.{ltb-true, ltb-false, lt-ltb, le-ltb, not-true}
-use Rattle.decide.specs.Branch.{ifSo, ifEq, eq-yes, eq-no, eq-both}
-use Rattle.decide.specs.Test.{inside, both, whole, inside-tells}
-use Rattle.decide.specs.Rows.{Row, row, firstOf, first-here, first-later}
+use Rattle.rules.specs.Branch.{ifSo, ifEq, eq-yes, eq-no, eq-both}
+use Rattle.rules.specs.Test.{inside, both, whole, inside-tells}
+use Rattle.rules.specs.Rows.{Row, row, firstOf, first-here, first-later}
 use Rattle.window.specs.declared.Sampling.{Sampling}
 use Rattle.ledger.specs.Ring.{Ring, capOf}
 use Rattle.ledger.specs.Rows.{sendRows, newRows, resendRows}

@@ -12,8 +12,8 @@ use lib.Dec.{ltb, eqb}
 use lib.ListN.{length, getD, set, drop, length-set, drop-of-length-le}
 use lib.Seq.{drop-cons}
 use borrow.Author.Tests.{ltb-true, eqb-true, lt-ltb, le-ltb, eq-eqb, not-true, not-false}
-use Rattle.decide.specs.Branch.{so-both}
-use Rattle.decide.specs.Test.{both, whole}
+use Rattle.rules.specs.Branch.{so-both}
+use Rattle.rules.specs.Test.{both, whole}
 use Rattle.window.specs.Limits.{laterEnd}
 use Rattle.window.specs.Range.{inRange, InRange}
 use Rattle.window.specs.Held.{isHeld, Held}

@@ -11,9 +11,9 @@ use lib.Dec.{eqb}
 use lib.ListN.{length, getD, set, replicate, length-set, length-replicate}
 use lib.Seq.{ext-getD, getD-set-same, getD-set-other}
 use borrow.Author.Tests.{eqb-true, not-false}
-use Rattle.decide.specs.Branch.{eq-yes, eq-no, so-yes, eq-both}
-use Rattle.decide.specs.Rows.{firstOf, first-none, first-here, first-later, none-here}
-use Rattle.decide.specs.Test.{both}
+use Rattle.rules.specs.Branch.{eq-yes, eq-no, so-yes, eq-both}
+use Rattle.rules.specs.Rows.{firstOf, first-none, first-here, first-later, none-here}
+use Rattle.rules.specs.Test.{both}
 use Rattle.serial.specs.Psn.{psns}
 use Rattle.serial.proofs.Wraps.{minus-self}
 use Rattle.window.specs.Range.{inRange}

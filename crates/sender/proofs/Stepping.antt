@@ -12,9 +12,9 @@ use lib.Signed.{leZ}
 use mir.Syntax.{w64}
 use mir.Val.{toZ, ofZ}
 use borrow.Author.Tests.{ltb-false, leb-false, leb-true, le-leb, not-false}
-use Rattle.decide.specs.Branch.{ifSo, ifEq, so-both, eq-both}
-use Rattle.decide.specs.Rows.{Row, row, firstOf, none-here}
-use Rattle.decide.specs.Test.{inside-tells, neither}
+use Rattle.rules.specs.Branch.{ifSo, ifEq, so-both, eq-both}
+use Rattle.rules.specs.Rows.{Row, row, firstOf, none-here}
+use Rattle.rules.specs.Test.{inside-tells, neither}
 use Rattle.serial.specs.Psn.{covered}
 use Rattle.serial.specs.Count.{counts}
 use Rattle.window.specs.Range.{InRange}

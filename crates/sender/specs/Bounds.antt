@@ -1,7 +1,7 @@
 -- What judging and stepping rely on of a sound state: bounds, by which no sum overflows.
 -- Assumes nothing.
 use Prim.Native.Nat.{ℕ, _≤_, _^_}
-use Rattle.decide.specs.Branch.{ifEq, ifSo}
+use Rattle.rules.specs.Branch.{ifEq, ifSo}
 use Rattle.ledger.specs.Bounds.{backlogMost, Flown}
 use Rattle.sender.specs.Named.{hasRoom}
 use Rattle.sender.specs.declared.Controller.{Controller}

@@ -2,8 +2,8 @@
 -- Assumes nothing.
 use mathlib.Core.Option.{Option, none, some}
 use Prim.Native.Nat.{ℕ}
-use Rattle.decide.specs.Branch.{ifEq}
-use Rattle.decide.specs.Rows.{firstOf}
+use Rattle.rules.specs.Branch.{ifEq}
+use Rattle.rules.specs.Rows.{firstOf}
 use Rattle.window.specs.declared.Sampling.{Sampling}
 use Rattle.sender.specs.World.{World, Answered, Routing}
 use Rattle.sender.specs.Rows.{withSound, newDataRows, sendAllRows, ackAllRows, nackAllRows, lossAllRows, pathRows}

@@ -2,6 +2,7 @@
 pub mod Limits
 pub mod Numbers
 pub mod World
+pub mod Lent
 pub mod Named
 pub mod Sound
 pub mod Bounds

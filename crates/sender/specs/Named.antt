@@ -6,7 +6,7 @@ use Prim.Native.Nat.{ℕ}
 use lib.Dec.{eqb}
 use lib.IntN.{ℤ, pos, _+ℤ_}
 use lib.Signed.{leZ}
-use Rattle.decide.specs.Branch.{ifSo, ifEq}
+use Rattle.rules.specs.Branch.{ifSo, ifEq}
 use Rattle.ledger.specs.declared.Flow.{Flow}
 use Rattle.ledger.specs.declared.Totals.{Totals}
 use Rattle.sender.specs.declared.Phase.{Phase}

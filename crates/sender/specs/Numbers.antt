@@ -3,7 +3,7 @@
 use mathlib.Core.Bool.{Bool, _||_}
 use mathlib.Core.Option.{Option, none, some}
 use Prim.Native.Nat.{ℕ}
-use Rattle.decide.specs.Test.{inside}
+use Rattle.rules.specs.Test.{inside}
 use Rattle.window.specs.declared.Sampling.{Sampling}
 use Rattle.sender.specs.declared.Refusal.{Refusal}
 use Rattle.sender.specs.declared.Refusal.the-variants.{Setting, Unsound, Time, Size, Backlog, WindowFull, RingFull, WrongPsn, UnsentOrOld, NotFlying, Sinks, Bytes, Count, Reason, Ev, Trigger}

@@ -6,8 +6,8 @@ use mathlib.Core.List.{List, [], _∷_, _++_}
 use Prim.Native.Nat.{ℕ, _+_}
 use lib.Dec.{leb, ltb, eqb}
 use lib.ListN.{length}
-use Rattle.decide.specs.Rows.{Row, row}
-use Rattle.decide.specs.Test.{inside}
+use Rattle.rules.specs.Rows.{Row, row}
+use Rattle.rules.specs.Test.{inside}
 use Rattle.serial.specs.Psn.{covered}
 use Rattle.serial.specs.Count.{counts}
 use Rattle.window.specs.Range.{inRange}

@@ -6,8 +6,8 @@ use mathlib.Core.List.{List}
 use Prim.Native.Nat.{ℕ}
 use lib.IntN.{pos}
 use lib.ListN.{length, replicate}
-use Rattle.decide.specs.Branch.{ifEq}
-use Rattle.decide.specs.Rows.{firstOf}
+use Rattle.rules.specs.Branch.{ifEq}
+use Rattle.rules.specs.Rows.{firstOf}
 use Rattle.window.specs.Held.{freshOf}
 use Rattle.window.specs.declared.Settings.{Settings}
 use Rattle.ledger.specs.Ring.{Ring, ring}

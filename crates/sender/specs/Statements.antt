@@ -6,7 +6,7 @@ use mathlib.Core.Bool.{Bool, true, false, not, _&&_, _||_}
 use mathlib.Core.List.{List, [], _∷_, _++_}
 use Prim.Native.Nat.{ℕ, _+_, _≤_, _<_}
 use lib.Dec.{leb, ltb, eqb}
-use Rattle.decide.specs.Rows.{Row, row, firstOf}
+use Rattle.rules.specs.Rows.{Row, row, firstOf}
 use Rattle.serial.specs.Psn.{covered}
 use Rattle.serial.specs.Count.{counts}
 use Rattle.ledger.specs.Bounds.{backlogMost}

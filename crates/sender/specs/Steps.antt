@@ -5,7 +5,7 @@ use mathlib.Core.Bool.{Bool, true, _||_}
 use mathlib.Core.List.{List}
 use Prim.Native.Nat.{ℕ, _+_}
 use lib.Dec.{eqb}
-use Rattle.decide.specs.Branch.{ifSo}
+use Rattle.rules.specs.Branch.{ifSo}
 use Rattle.window.specs.Delays.{sampleOf, samplingOf}
 use Rattle.window.specs.Events.{ackOf, nackOf, lossOf}
 use Rattle.window.specs.declared.Settings.{Settings}

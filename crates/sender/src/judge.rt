@@ -10,8 +10,8 @@ use ledger::Books;
 ghost use mathlib.Core.Path.{_≡_};
 ghost use mathlib.Core.Bool.{_||_};
 ghost use lib.Dec.{ltb, leb};
-ghost use Rattle.decide.specs.Rows.{firstOf};
-ghost use Rattle.ledger.specs.Ring.{ring};
+ghost use Rattle.rules.specs.Rows.{firstOf};
+ghost use Rattle.ledger.specs.Lent.{ringGiven, ringBefore};
 ghost use Rattle.ledger.specs.Coherent.{Even};
 ghost use Rattle.sender.specs.Limits.{timeEnd};
 ghost use Rattle.sender.specs.Bounds.{Bounded, roomAfter};
@@ -85,15 +85,15 @@ pub(crate) fn judge_send<'a>(
     a: Send,
 ) -> u32
     requires { ⌜ Bounded c ⌝ }
-    requires { ⌜ Even (ring (now status) (now size) (now sent) (now resent)) ⌝ }
-    ensures { λ r. ⌜ r ≡ firstOf (sendAllRows time a c (ring (now (status .entry)) (now (size .entry)) (now (sent .entry)) (now (resent .entry)))) ⌝ }
+    requires { ⌜ Even (ringGiven status size sent resent) ⌝ }
+    ensures { λ r. ⌜ r ≡ firstOf (sendAllRows time a c (ringBefore status size sent resent)) ⌝ }
 {
     let settings = c.settings;
     let flow = c.flow;
     if bad_time(time, c.clock) {
         return BAD_TIME;
     }
-    if !decide::within(ledger::SIZE_LEAST as u64, a.size as u64, settings.mtu) {
+    if !rules::within(ledger::SIZE_LEAST as u64, a.size as u64, settings.mtu) {
         return BAD_SIZE;
     }
     if a.resend {
@@ -142,8 +142,8 @@ pub(crate) fn judge_nack<'a>(
     a: Nack,
 ) -> u32
     requires { ⌜ Bounded c ⌝ }
-    requires { ⌜ Even (ring (now status) (now size) (now sent) (now resent)) ⌝ }
-    ensures { λ r. ⌜ r ≡ firstOf (nackAllRows time a c (ring (now (status .entry)) (now (size .entry)) (now (sent .entry)) (now (resent .entry)))) ⌝ }
+    requires { ⌜ Even (ringGiven status size sent resent) ⌝ }
+    ensures { λ r. ⌜ r ≡ firstOf (nackAllRows time a c (ringBefore status size sent resent)) ⌝ }
 {
     let settings = c.settings;
     let flow = c.flow;
@@ -171,8 +171,8 @@ pub(crate) fn judge_loss<'a>(
     a: Loss,
 ) -> u32
     requires { ⌜ Bounded c ⌝ }
-    requires { ⌜ Even (ring (now status) (now size) (now sent) (now resent)) ⌝ }
-    ensures { λ r. ⌜ r ≡ firstOf (lossAllRows time a c (ring (now (status .entry)) (now (size .entry)) (now (sent .entry)) (now (resent .entry)))) ⌝ }
+    requires { ⌜ Even (ringGiven status size sent resent) ⌝ }
+    ensures { λ r. ⌜ r ≡ firstOf (lossAllRows time a c (ringBefore status size sent resent)) ⌝ }
 {
     let settings = c.settings;
     let flow = c.flow;

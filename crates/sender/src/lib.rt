@@ -18,8 +18,8 @@ ghost use mathlib.Core.Path.{_≡_};
 ghost use mathlib.Core.Bool.{true};
 ghost use mathlib.Core.Option.{none, some};
 ghost use Rattle.ledger.specs.Ring.{ring};
+ghost use Rattle.sender.specs.Lent.{worldBefore, answeredAfter, routedAfter};
 ghost use Rattle.sender.specs.Numbers.{rowOf, inTable, numberOf, feedbackNumber, saysOf, pathNumber, pathEv};
-ghost use Rattle.sender.specs.World.{world, answered, routed};
 ghost use Rattle.sender.specs.Events.{onNewData, onSend, onAck, ackSays, onNack, nackSays, onLoss, onPath};
 
 // Refusals 1, "a setting is outside its range", and 2, "state or buffers don't hold together": crates above the sender give them too.
@@ -271,7 +271,7 @@ impl Controller {
         time: u64,
         bytes: u64,
     ) -> Answer
-        ensures { λ r. ⌜ answered (numberOf (r .outcome)) (r .state) (ring (now (status .entry)) (now (size .entry)) (now (sent .entry)) (now (resent .entry))) (now (evs .entry)) ≡ onNewData time bytes (world self (ring (now (status .entry)) (now (size .entry)) (now (sent .entry)) (now (resent .entry))) (now (evs .entry))) ⌝ }
+        ensures { λ r. ⌜ answeredAfter (numberOf (r .outcome)) (r .state) status size sent resent evs ≡ onNewData time bytes (worldBefore self status size sent resent evs) ⌝ }
     {
         if !is_sound(self, status, size, sent, resent, evs) {
             return refused(self, UNSOUND);
@@ -290,7 +290,7 @@ impl Controller {
         time: u64,
         a: Send,
     ) -> Answer
-        ensures { λ r. ⌜ answered (numberOf (r .outcome)) (r .state) (ring (now (status .exit)) (now (size .exit)) (now (sent .exit)) (now (resent .exit))) (now (evs .entry)) ≡ onSend time a (world self (ring (now (status .entry)) (now (size .entry)) (now (sent .entry)) (now (resent .entry))) (now (evs .entry))) ⌝ }
+        ensures { λ r. ⌜ answeredAfter (numberOf (r .outcome)) (r .state) status size sent resent evs ≡ onSend time a (worldBefore self status size sent resent evs) ⌝ }
     {
         if !is_sound(self, status, size, sent, resent, evs) {
             return refused(self, UNSOUND);
@@ -309,8 +309,8 @@ impl Controller {
         time: u64,
         a: Ack,
     ) -> Heard
-        ensures { λ r. ⌜ answered (feedbackNumber (r .feedback)) (r .state) (ring (now (status .exit)) (now (size .exit)) (now (sent .exit)) (now (resent .exit))) (now (evs .exit)) ≡ onAck time a (world self (ring (now (status .entry)) (now (size .entry)) (now (sent .entry)) (now (resent .entry))) (now (evs .entry))) ⌝ }
-        ensures { λ r. ⌜ saysOf (r .feedback) ≡ ackSays time a (world self (ring (now (status .entry)) (now (size .entry)) (now (sent .entry)) (now (resent .entry))) (now (evs .entry))) ⌝ }
+        ensures { λ r. ⌜ answeredAfter (feedbackNumber (r .feedback)) (r .state) status size sent resent evs ≡ onAck time a (worldBefore self status size sent resent evs) ⌝ }
+        ensures { λ r. ⌜ saysOf (r .feedback) ≡ ackSays time a (worldBefore self status size sent resent evs) ⌝ }
     {
         if !is_sound(self, status, size, sent, resent, evs) {
             return feedback_refused(self, UNSOUND);
@@ -329,8 +329,8 @@ impl Controller {
         time: u64,
         a: Nack,
     ) -> Heard
-        ensures { λ r. ⌜ answered (feedbackNumber (r .feedback)) (r .state) (ring (now (status .exit)) (now (size .entry)) (now (sent .entry)) (now (resent .entry))) (now (evs .exit)) ≡ onNack time a (world self (ring (now (status .entry)) (now (size .entry)) (now (sent .entry)) (now (resent .entry))) (now (evs .entry))) ⌝ }
-        ensures { λ r. ⌜ saysOf (r .feedback) ≡ nackSays time a (world self (ring (now (status .entry)) (now (size .entry)) (now (sent .entry)) (now (resent .entry))) (now (evs .entry))) ⌝ }
+        ensures { λ r. ⌜ answeredAfter (feedbackNumber (r .feedback)) (r .state) status size sent resent evs ≡ onNack time a (worldBefore self status size sent resent evs) ⌝ }
+        ensures { λ r. ⌜ saysOf (r .feedback) ≡ nackSays time a (worldBefore self status size sent resent evs) ⌝ }
     {
         if !is_sound(self, status, size, sent, resent, evs) {
             return feedback_refused(self, UNSOUND);
@@ -349,7 +349,7 @@ impl Controller {
         time: u64,
         a: Loss,
     ) -> Answer
-        ensures { λ r. ⌜ answered (numberOf (r .outcome)) (r .state) (ring (now (status .exit)) (now (size .entry)) (now (sent .entry)) (now (resent .entry))) (now (evs .exit)) ≡ onLoss time a (world self (ring (now (status .entry)) (now (size .entry)) (now (sent .entry)) (now (resent .entry))) (now (evs .entry))) ⌝ }
+        ensures { λ r. ⌜ answeredAfter (numberOf (r .outcome)) (r .state) status size sent resent evs ≡ onLoss time a (worldBefore self status size sent resent evs) ⌝ }
     {
         if !is_sound(self, status, size, sent, resent, evs) {
             return refused(self, UNSOUND);
@@ -367,7 +367,7 @@ impl Controller {
         evs: &'a [u64],
         time: u64,
     ) -> Routed
-        ensures { λ r. ⌜ routed (pathNumber (r .route)) (pathEv (r .route)) (r .state) (ring (now (status .entry)) (now (size .entry)) (now (sent .entry)) (now (resent .entry))) (now (evs .entry)) ≡ onPath time (world self (ring (now (status .entry)) (now (size .entry)) (now (sent .entry)) (now (resent .entry))) (now (evs .entry))) ⌝ }
+        ensures { λ r. ⌜ routedAfter (pathNumber (r .route)) (pathEv (r .route)) (r .state) status size sent resent evs ≡ onPath time (worldBefore self status size sent resent evs) ⌝ }
     {
         if !is_sound(self, status, size, sent, resent, evs) {
             return Routed {

@@ -19,8 +19,8 @@ use crate::steps;
 ghost use mathlib.Core.Path.{_≡_};
 ghost use mathlib.Core.Bool.{true};
 ghost use Rattle.ledger.specs.Ring.{ring};
+ghost use Rattle.sender.specs.Lent.{worldGiven, worldBefore, answeredAfter, routedAfter};
 ghost use Rattle.sender.specs.Numbers.{numberOf, feedbackNumber, saysOf, pathNumber, pathEv};
-ghost use Rattle.sender.specs.World.{world, answered, routed};
 ghost use Rattle.sender.specs.Sound.{sound};
 ghost use Rattle.sender.specs.Events.{onNewData, onSend, onAck, ackSays, onNack, nackSays, onLoss, onPath};
 
@@ -35,8 +35,8 @@ pub fn new_data<'a>(
     time: u64,
     bytes: u64,
 ) -> Answer
-    requires { ⌜ sound (world c (ring (now status) (now size) (now sent) (now resent)) (now evs)) ≡ true ⌝ }
-    ensures { λ r. ⌜ answered (numberOf (r .outcome)) (r .state) (ring (now (status .entry)) (now (size .entry)) (now (sent .entry)) (now (resent .entry))) (now (evs .entry)) ≡ onNewData time bytes (world c (ring (now (status .entry)) (now (size .entry)) (now (sent .entry)) (now (resent .entry))) (now (evs .entry))) ⌝ }
+    requires { ⌜ sound (worldGiven c status size sent resent evs) ≡ true ⌝ }
+    ensures { λ r. ⌜ answeredAfter (numberOf (r .outcome)) (r .state) status size sent resent evs ≡ onNewData time bytes (worldBefore c status size sent resent evs) ⌝ }
 {
     let number = judge::judge_new_data(c, time, bytes);
     if number != 0 {
@@ -56,8 +56,8 @@ pub fn send<'a, 'b, 'c, 'd, 'e>(
     time: u64,
     a: Send,
 ) -> Answer
-    requires { ⌜ sound (world c (ring (now status) (now size) (now sent) (now resent)) (now evs)) ≡ true ⌝ }
-    ensures { λ r. ⌜ answered (numberOf (r .outcome)) (r .state) (ring (now (status .exit)) (now (size .exit)) (now (sent .exit)) (now (resent .exit))) (now (evs .entry)) ≡ onSend time a (world c (ring (now (status .entry)) (now (size .entry)) (now (sent .entry)) (now (resent .entry))) (now (evs .entry))) ⌝ }
+    requires { ⌜ sound (worldGiven c status size sent resent evs) ≡ true ⌝ }
+    ensures { λ r. ⌜ answeredAfter (numberOf (r .outcome)) (r .state) status size sent resent evs ≡ onSend time a (worldBefore c status size sent resent evs) ⌝ }
 {
     let number = judge::judge_send(c, status, size, sent, resent, time, a);
     if number != 0 {
@@ -77,9 +77,9 @@ pub fn ack<'a, 'b, 'c, 'd, 'e>(
     time: u64,
     a: Ack,
 ) -> Heard
-    requires { ⌜ sound (world c (ring (now status) (now size) (now sent) (now resent)) (now evs)) ≡ true ⌝ }
-    ensures { λ r. ⌜ answered (feedbackNumber (r .feedback)) (r .state) (ring (now (status .exit)) (now (size .exit)) (now (sent .exit)) (now (resent .exit))) (now (evs .exit)) ≡ onAck time a (world c (ring (now (status .entry)) (now (size .entry)) (now (sent .entry)) (now (resent .entry))) (now (evs .entry))) ⌝ }
-    ensures { λ r. ⌜ saysOf (r .feedback) ≡ ackSays time a (world c (ring (now (status .entry)) (now (size .entry)) (now (sent .entry)) (now (resent .entry))) (now (evs .entry))) ⌝ }
+    requires { ⌜ sound (worldGiven c status size sent resent evs) ≡ true ⌝ }
+    ensures { λ r. ⌜ answeredAfter (feedbackNumber (r .feedback)) (r .state) status size sent resent evs ≡ onAck time a (worldBefore c status size sent resent evs) ⌝ }
+    ensures { λ r. ⌜ saysOf (r .feedback) ≡ ackSays time a (worldBefore c status size sent resent evs) ⌝ }
 {
     let number = judge::judge_ack(c, time, a);
     if number != 0 {
@@ -99,9 +99,9 @@ pub fn nack<'a, 'b, 'c>(
     time: u64,
     a: Nack,
 ) -> Heard
-    requires { ⌜ sound (world c (ring (now status) (now size) (now sent) (now resent)) (now evs)) ≡ true ⌝ }
-    ensures { λ r. ⌜ answered (feedbackNumber (r .feedback)) (r .state) (ring (now (status .exit)) (now (size .entry)) (now (sent .entry)) (now (resent .entry))) (now (evs .exit)) ≡ onNack time a (world c (ring (now (status .entry)) (now (size .entry)) (now (sent .entry)) (now (resent .entry))) (now (evs .entry))) ⌝ }
-    ensures { λ r. ⌜ saysOf (r .feedback) ≡ nackSays time a (world c (ring (now (status .entry)) (now (size .entry)) (now (sent .entry)) (now (resent .entry))) (now (evs .entry))) ⌝ }
+    requires { ⌜ sound (worldGiven c status size sent resent evs) ≡ true ⌝ }
+    ensures { λ r. ⌜ answeredAfter (feedbackNumber (r .feedback)) (r .state) status size sent resent evs ≡ onNack time a (worldBefore c status size sent resent evs) ⌝ }
+    ensures { λ r. ⌜ saysOf (r .feedback) ≡ nackSays time a (worldBefore c status size sent resent evs) ⌝ }
 {
     let number = judge::judge_nack(c, status, size, sent, resent, time, a);
     if number != 0 {
@@ -121,8 +121,8 @@ pub fn loss<'a, 'b, 'c>(
     time: u64,
     a: Loss,
 ) -> Answer
-    requires { ⌜ sound (world c (ring (now status) (now size) (now sent) (now resent)) (now evs)) ≡ true ⌝ }
-    ensures { λ r. ⌜ answered (numberOf (r .outcome)) (r .state) (ring (now (status .exit)) (now (size .entry)) (now (sent .entry)) (now (resent .entry))) (now (evs .exit)) ≡ onLoss time a (world c (ring (now (status .entry)) (now (size .entry)) (now (sent .entry)) (now (resent .entry))) (now (evs .entry))) ⌝ }
+    requires { ⌜ sound (worldGiven c status size sent resent evs) ≡ true ⌝ }
+    ensures { λ r. ⌜ answeredAfter (numberOf (r .outcome)) (r .state) status size sent resent evs ≡ onLoss time a (worldBefore c status size sent resent evs) ⌝ }
 {
     let number = judge::judge_loss(c, status, size, sent, resent, time, a);
     if number != 0 {
@@ -141,8 +141,8 @@ pub fn path<'a>(
     evs: &'a [u64],
     time: u64,
 ) -> Routed
-    requires { ⌜ sound (world c (ring (now status) (now size) (now sent) (now resent)) (now evs)) ≡ true ⌝ }
-    ensures { λ r. ⌜ routed (pathNumber (r .route)) (pathEv (r .route)) (r .state) (ring (now (status .entry)) (now (size .entry)) (now (sent .entry)) (now (resent .entry))) (now (evs .entry)) ≡ onPath time (world c (ring (now (status .entry)) (now (size .entry)) (now (sent .entry)) (now (resent .entry))) (now (evs .entry))) ⌝ }
+    requires { ⌜ sound (worldGiven c status size sent resent evs) ≡ true ⌝ }
+    ensures { λ r. ⌜ routedAfter (pathNumber (r .route)) (pathEv (r .route)) (r .state) status size sent resent evs ≡ onPath time (worldBefore c status size sent resent evs) ⌝ }
 {
     if judge::judge_path(c, time) != 0 {
         return Routed {

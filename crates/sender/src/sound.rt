@@ -4,8 +4,7 @@ use crate::naming::phase_number;
 use crate::naming::phase_of;
 use ledger::Books;
 ghost use mathlib.Core.Path.{_≡_};
-ghost use Rattle.ledger.specs.Ring.{ring};
-ghost use Rattle.sender.specs.World.{world};
+ghost use Rattle.sender.specs.Lent.{worldBefore};
 ghost use Rattle.sender.specs.Sound.{timesOk, sound};
 
 // Whether no EV time is 2^49 or more. Every time is looked at: without a way out of the loop the compiler takes several at once.
@@ -30,7 +29,7 @@ pub fn is_sound<'a>(
     resent: &'a [u8],
     evs: &'a [u64],
 ) -> bool
-    ensures { λ r. ⌜ r ≡ sound (world c (ring (now (status .entry)) (now (size .entry)) (now (sent .entry)) (now (resent .entry))) (now (evs .entry))) ⌝ }
+    ensures { λ r. ⌜ r ≡ sound (worldBefore c status size sent resent evs) ⌝ }
 {
     let settings = c.settings;
     let window = c.window;

@@ -8,9 +8,10 @@ use ledger::Flow;
 use ledger::Totals;
 use window::Settings;
 ghost use mathlib.Core.Path.{_≡_};
+ghost use Rattle.ledger.specs.Lent.{ringBefore, ringAfter};
 ghost use Rattle.ledger.specs.Ring.{ring};
+ghost use Rattle.sender.specs.Lent.{answeredAfter};
 ghost use Rattle.sender.specs.Numbers.{rowOf, numberOf};
-ghost use Rattle.sender.specs.World.{answered};
 ghost use Rattle.sender.specs.Start.{noSettings, freshState, zeros, clearRing, onSetUp};
 
 // Zeros over a lent slice, at each width.
@@ -101,7 +102,7 @@ fn clear<'a, 'b, 'c, 'd, 'e>(
     resent: &'d mut [u8],
     evs: &'e mut [u64],
 )
-    ensures { λ _. ⌜ (ring (now (status .exit)) (now (size .exit)) (now (sent .exit)) (now (resent .exit)) ≡ clearRing (ring (now (status .entry)) (now (size .entry)) (now (sent .entry)) (now (resent .entry)))) × (now (evs .exit) ≡ zeros (now (evs .entry))) ⌝ }
+    ensures { λ _. ⌜ (ringAfter status size sent resent ≡ clearRing (ringBefore status size sent resent)) × (now (evs .exit) ≡ zeros (now (evs .entry))) ⌝ }
 {
     clear_8(status);
     clear_32(size);
@@ -129,7 +130,7 @@ pub fn set_up<'a, 'b, 'c, 'd, 'e>(
     resent: &'d mut [u8],
     evs: &'e mut [u64],
 ) -> Answer
-    ensures { λ r. ⌜ answered (numberOf (r .outcome)) (r .state) (ring (now (status .exit)) (now (size .exit)) (now (sent .exit)) (now (resent .exit))) (now (evs .exit)) ≡ onSetUp settings (ring (now (status .entry)) (now (size .entry)) (now (sent .entry)) (now (resent .entry))) (now (evs .entry)) ⌝ }
+    ensures { λ r. ⌜ answeredAfter (numberOf (r .outcome)) (r .state) status size sent resent evs ≡ onSetUp settings (ringBefore status size sent resent) (now (evs .entry)) ⌝ }
 {
     if !window::bounds::in_range(settings) {
         return not_set_up(Refusal::Setting);

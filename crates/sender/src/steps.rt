@@ -14,11 +14,11 @@ ghost use mathlib.Core.Path.{_≡_};
 ghost use mathlib.Core.Bool.{true};
 ghost use Prim.Native.Nat.{_<_, _≤_, _^_};
 ghost use lib.ListN.{length};
-ghost use Rattle.decide.specs.Rows.{firstOf};
+ghost use Rattle.rules.specs.Rows.{firstOf};
 ghost use Rattle.window.specs.Delays.{samplingOf};
+ghost use Rattle.ledger.specs.Lent.{ringGiven};
 ghost use Rattle.ledger.specs.Packets.{isOut};
-ghost use Rattle.ledger.specs.Ring.{ring};
-ghost use Rattle.sender.specs.World.{world};
+ghost use Rattle.sender.specs.Lent.{worldGiven, worldBefore, worldAfter};
 ghost use Rattle.sender.specs.Sound.{timesOk, sound};
 ghost use Rattle.sender.specs.Rows.{newDataRows, sendAllRows, ackAllRows, nackAllRows, lossAllRows};
 ghost use Rattle.paths.specs.Path.{choice};
@@ -80,9 +80,9 @@ pub(crate) fn send<'a, 'b, 'c, 'd, 'e>(
     time: u64,
     a: Send,
 ) -> Controller
-    requires { ⌜ sound (world c (ring (now status) (now size) (now sent) (now resent)) (now evs)) ≡ true ⌝ }
-    requires { ⌜ firstOf (sendAllRows time a c (ring (now status) (now size) (now sent) (now resent))) ≡ 0 ⌝ }
-    ensures { λ r. ⌜ world r (ring (now (status .exit)) (now (size .exit)) (now (sent .exit)) (now (resent .exit))) (now (evs .entry)) ≡ sendStep time a (world c (ring (now (status .entry)) (now (size .entry)) (now (sent .entry)) (now (resent .entry))) (now (evs .entry))) ⌝ }
+    requires { ⌜ sound (worldGiven c status size sent resent evs) ≡ true ⌝ }
+    requires { ⌜ firstOf (sendAllRows time a c (ringGiven status size sent resent)) ≡ 0 ⌝ }
+    ensures { λ r. ⌜ worldAfter r status size sent resent evs ≡ sendStep time a (worldBefore c status size sent resent evs) ⌝ }
 {
     let settings = c.settings;
     let window = c.window;
@@ -108,10 +108,10 @@ pub(crate) fn ack<'a, 'b, 'c, 'd, 'e>(
     time: u64,
     a: Ack,
 ) -> Sensed
-    requires { ⌜ sound (world c (ring (now status) (now size) (now sent) (now resent)) (now evs)) ≡ true ⌝ }
+    requires { ⌜ sound (worldGiven c status size sent resent evs) ≡ true ⌝ }
     requires { ⌜ firstOf (ackAllRows time a c) ≡ 0 ⌝ }
-    ensures { λ r. ⌜ world (r .state) (ring (now (status .exit)) (now (size .exit)) (now (sent .exit)) (now (resent .exit))) (now (evs .exit)) ≡ ackStep time a (world c (ring (now (status .entry)) (now (size .entry)) (now (sent .entry)) (now (resent .entry))) (now (evs .entry))) ⌝ }
-    ensures { λ r. ⌜ r .sampling ≡ ackSampling time a (world c (ring (now (status .entry)) (now (size .entry)) (now (sent .entry)) (now (resent .entry))) (now (evs .entry))) ⌝ }
+    ensures { λ r. ⌜ worldAfter (r .state) status size sent resent evs ≡ ackStep time a (worldBefore c status size sent resent evs) ⌝ }
+    ensures { λ r. ⌜ r .sampling ≡ ackSampling time a (worldBefore c status size sent resent evs) ⌝ }
 {
     let settings = c.settings;
     let flow = c.flow;
@@ -151,10 +151,10 @@ pub(crate) fn nack<'a, 'b, 'c>(
     time: u64,
     a: Nack,
 ) -> Sensed
-    requires { ⌜ sound (world c (ring (now status) (now size) (now sent) (now resent)) (now evs)) ≡ true ⌝ }
-    requires { ⌜ firstOf (nackAllRows time a c (ring (now status) (now size) (now sent) (now resent))) ≡ 0 ⌝ }
-    ensures { λ r. ⌜ world (r .state) (ring (now (status .exit)) (now (size .entry)) (now (sent .entry)) (now (resent .entry))) (now (evs .exit)) ≡ nackStep time a (world c (ring (now (status .entry)) (now (size .entry)) (now (sent .entry)) (now (resent .entry))) (now (evs .entry))) ⌝ }
-    ensures { λ r. ⌜ r .sampling ≡ nackSampling time a (world c (ring (now (status .entry)) (now (size .entry)) (now (sent .entry)) (now (resent .entry))) (now (evs .entry))) ⌝ }
+    requires { ⌜ sound (worldGiven c status size sent resent evs) ≡ true ⌝ }
+    requires { ⌜ firstOf (nackAllRows time a c (ringGiven status size sent resent)) ≡ 0 ⌝ }
+    ensures { λ r. ⌜ worldAfter (r .state) status size sent resent evs ≡ nackStep time a (worldBefore c status size sent resent evs) ⌝ }
+    ensures { λ r. ⌜ r .sampling ≡ nackSampling time a (worldBefore c status size sent resent evs) ⌝ }
 {
     let settings = c.settings;
     let flow = c.flow;
@@ -192,9 +192,9 @@ pub(crate) fn loss<'a, 'b, 'c>(
     time: u64,
     a: Loss,
 ) -> Controller
-    requires { ⌜ sound (world c (ring (now status) (now size) (now sent) (now resent)) (now evs)) ≡ true ⌝ }
-    requires { ⌜ firstOf (lossAllRows time a c (ring (now status) (now size) (now sent) (now resent))) ≡ 0 ⌝ }
-    ensures { λ r. ⌜ world r (ring (now (status .exit)) (now (size .entry)) (now (sent .entry)) (now (resent .entry))) (now (evs .exit)) ≡ lossStep time a (world c (ring (now (status .entry)) (now (size .entry)) (now (sent .entry)) (now (resent .entry))) (now (evs .entry))) ⌝ }
+    requires { ⌜ sound (worldGiven c status size sent resent evs) ≡ true ⌝ }
+    requires { ⌜ firstOf (lossAllRows time a c (ringGiven status size sent resent)) ≡ 0 ⌝ }
+    ensures { λ r. ⌜ worldAfter r status size sent resent evs ≡ lossStep time a (worldBefore c status size sent resent evs) ⌝ }
 {
     let settings = c.settings;
     let flow = c.flow;

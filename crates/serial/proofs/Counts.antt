@@ -13,7 +13,7 @@ use mir.Syntax.{w64}
 use mir.Val.{Fits, SFits, toZ, ofZ}
 use mir.ValLaws.{toZ-ofZ}
 use borrow.Author.Tests.{lt-ltb, le-ltb, le-leb, lt-leb, leb-true, leb-false}
-use Rattle.decide.specs.Branch.{lt-yes, lt-no, lt-both}
+use Rattle.rules.specs.Branch.{lt-yes, lt-no, lt-both}
 use Rattle.serial.specs.Wrap.{minus}
 use Rattle.serial.specs.Count.{counts, half, aheadOf, gapOf, isOld, forwardOf}
 use Rattle.serial.proofs.Wraps.{minus-lt, minus-self, wrap}

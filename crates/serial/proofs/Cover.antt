@@ -11,7 +11,7 @@ use lib.Pow.{pow-mono, pow-pos}
 use lib.Dec.{leb, ltb}
 use lib.Count.{leadingZeros, leading-length, leading-top}
 use borrow.Author.Tests.{lt-ltb, le-ltb, le-leb, lt-leb, ltb-false}
-use Rattle.decide.specs.Test.{neither}
+use Rattle.rules.specs.Test.{neither}
 use Rattle.serial.specs.Wrap.{minus}
 use Rattle.serial.specs.Psn.{psns, reach, plus, bitOf, covered, backOf, spanOf, unsentOrOld}
 use Rattle.serial.proofs.Wraps.{minus-lt, minus-is, laps, minus-turns, minus-back, wrap}

@@ -4,7 +4,7 @@ use Prim.Native.Nat.{ℕ, _-_, _^_}
 use mathlib.Core.Bool.{Bool}
 use lib.Dec.{leb}
 use lib.IntN.{ℤ, pos, negsuc}
-use Rattle.decide.specs.Branch.{ifLt}
+use Rattle.rules.specs.Branch.{ifLt}
 use Rattle.serial.specs.Wrap.{minus}
 
 -- "Received count: units of 256 bytes, 24 bits, wraps"

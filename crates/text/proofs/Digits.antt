@@ -10,7 +10,7 @@ use native.Mathlib.Nat.{pow-suc, one-le-pow}
 use native.Mathlib.Numerals.{unary-clauses}
 use native.Mathlib.Omega.{arith}
 use Rattle.io.specs.Digits.{digits, glyph, Fewest}
-use Rattle.decide.specs.Branch.{lt-yes, lt-no, lt-both}
+use Rattle.rules.specs.Branch.{lt-yes, lt-no, lt-both}
 use Rattle.text.specs.Decimal.{digitsMost, digitsIn, decimal, valueFrom, valueOf, zeroGlyph}
 
 glyph-digit : (d : ℕ) → d < 10 → glyph d ≡ zeroGlyph + d

@@ -6,7 +6,7 @@ use mathlib.Core.List.{List, [], _∷_, _++_}
 use lib.IntN.{ℤ, pos, negsuc}
 use lib.ListN.{length}
 use lib.Seq.{sets}
-use Rattle.decide.specs.Branch.{ifLt}
+use Rattle.rules.specs.Branch.{ifLt}
 
 abbrev pub space : ℕ
 space = 32

@@ -7,8 +7,8 @@ use lib.Dec.{ltb, eqb}
 use lib.IntN.{ℤ}
 use borrow.Author.Tests.{ltb-true}
 use native.Mathlib.Omega.{arith}
-use Rattle.decide.specs.Branch.{so-both, lt-both}
-use Rattle.decide.specs.Test.{both}
+use Rattle.rules.specs.Branch.{so-both, lt-both}
+use Rattle.rules.specs.Test.{both}
 use Rattle.window.specs.Limits.{parts, windowMost, sampleMost, avgMost, timeEnd}
 use Rattle.window.specs.Range.{InRange}
 use Rattle.window.specs.Held.{Held, Kept}

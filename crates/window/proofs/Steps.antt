@@ -4,7 +4,7 @@ use mathlib.Core.Path.{_≡_, refl}
 use mathlib.Core.Bool.{Bool}
 use Prim.Native.Nat.{ℕ, _-_, _*_, _≤_, min}
 use native.Mathlib.Omega.{arith}
-use Rattle.decide.specs.Branch.{so-both, lt-both}
+use Rattle.rules.specs.Branch.{so-both, lt-both}
 use Rattle.window.specs.Limits.{ceilingOf}
 use Rattle.window.specs.Fields.{withCwnd, withBase, withAvg}
 use Rattle.window.specs.Delays.{averageOf, fedBy, feedOf, loweredOf, measuredOf}

@@ -8,8 +8,8 @@ use lib.Dec.{ltb, eqb}
 use borrow.Author.Tests.{ltb-true, lt-ltb, eqb-true, eq-eqb}
 use borrow.Author.Needs.{needs}
 use native.Mathlib.Omega.{arith}
-use Rattle.decide.specs.Branch.{so-both, lt-both, so-yes, so-no, lt-yes, lt-no}
-use Rattle.decide.specs.Test.{inside, both, whole, inside-tells, inside-yes}
+use Rattle.rules.specs.Branch.{so-both, lt-both, so-yes, so-no, lt-yes, lt-no}
+use Rattle.rules.specs.Test.{inside, both, whole, inside-tells, inside-yes}
 use Rattle.serial.specs.Psn.{psns}
 use Rattle.window.specs.Limits.{mtuLeast, mtuMost, windowMost, delayMost, gainMost, alphaMost, parts, periodMost, thresholdMost}
 use Rattle.window.specs.Limits.{sampleMost, avgMost, incStop, tallyStop, laterEnd, ceilingOf}

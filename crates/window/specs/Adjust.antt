@@ -1,7 +1,7 @@
 -- Document 01, "The window, in order": the adjustment.
 -- Assumes nothing.
 use Prim.Native.Nat.{ℕ, _+_, _-_, _/_, min}
-use Rattle.decide.specs.Branch.{ifLt}
+use Rattle.rules.specs.Branch.{ifLt}
 use Rattle.window.specs.Limits.{ceilingOf}
 use Rattle.window.specs.Fields.{withCwnd, withIncBytes, withReceived, withLastAdjust}
 use Rattle.window.specs.declared.Settings.{Settings}

@@ -2,7 +2,7 @@
 -- Assumes nothing.
 use mathlib.Core.Bool.{Bool, true, false}
 use Prim.Native.Nat.{ℕ, _+_, _-_, _*_, _/_, min, max}
-use Rattle.decide.specs.Branch.{ifSo, ifLt}
+use Rattle.rules.specs.Branch.{ifSo, ifLt}
 use Rattle.window.specs.Limits.{parts, tallyStop, incStop, ceilingOf}
 use Rattle.window.specs.Delays.{averageOf}
 use Rattle.window.specs.Fields.{withCwnd, withIncBytes, withReceived, withAchieved, withIgnored, withFiCount, withFast, withLastDec}

@@ -4,7 +4,7 @@ use mathlib.Core.Path.{_≡_}
 use mathlib.Core.Bool.{Bool}
 use Prim.Native.Nat.{ℕ, _+_, _-_, _*_, _/_, _≤_, min}
 use lib.Dec.{eqb}
-use Rattle.decide.specs.Branch.{ifSo, ifLt}
+use Rattle.rules.specs.Branch.{ifSo, ifLt}
 use Rattle.window.specs.Limits.{sampleMost, parts, ceilingOf}
 use Rattle.window.specs.Fields.{withCwnd, withBase, withAvg}
 use Rattle.window.specs.declared.Settings.{Settings}

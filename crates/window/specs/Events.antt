@@ -3,7 +3,7 @@
 use mathlib.Core.Bool.{Bool, true, false}
 use Prim.Native.Nat.{ℕ, _-_, max}
 use lib.IntN.{ℤ}
-use Rattle.decide.specs.Branch.{ifSo, ifLt}
+use Rattle.rules.specs.Branch.{ifSo, ifLt}
 use Rattle.window.specs.Fields.{withCwnd, withAvg, withIgnored, withTrigger}
 use Rattle.window.specs.Delays.{fedBy, loweredOf, measuredOf}
 use Rattle.window.specs.Quick.{adaptedOf}

@@ -3,7 +3,7 @@
 use mathlib.Core.Path.{_≡_}
 use mathlib.Core.Bool.{Bool, false, _&&_}
 use Prim.Native.Nat.{ℕ, _-_, _≤_, _<_}
-use Rattle.decide.specs.Test.{inside}
+use Rattle.rules.specs.Test.{inside}
 use Rattle.window.specs.Limits.{avgMost, incStop, tallyStop, laterEnd, ceilingOf}
 use Rattle.window.specs.declared.Settings.{Settings}
 use Rattle.window.specs.declared.Window.{Window}

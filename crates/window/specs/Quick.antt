@@ -4,7 +4,7 @@ use mathlib.Core.Bool.{Bool, true, false, not, _&&_, _||_}
 use Prim.Native.Nat.{ℕ, _+_, max}
 use lib.Dec.{ltb, eqb}
 use lib.IntN.{ℤ, pos, negsuc}
-use Rattle.decide.specs.Branch.{ifSo, ifLt}
+use Rattle.rules.specs.Branch.{ifSo, ifLt}
 use Rattle.window.specs.Fields.{withCwnd, withBytesToIgnore, withIgnored, withTrigger, withFast, withFiCount, withAchieved, withQaEnd}
 use Rattle.window.specs.declared.Settings.{Settings}
 use Rattle.window.specs.declared.Window.{Window}

@@ -4,7 +4,7 @@ use mathlib.Core.Path.{_≡_}
 use Prim.Native.Nat.{ℕ, _≤_, _<_}
 use mathlib.Core.Bool.{Bool, true, _&&_, _||_}
 use lib.Dec.{ltb, eqb}
-use Rattle.decide.specs.Test.{inside}
+use Rattle.rules.specs.Test.{inside}
 use Rattle.serial.specs.Psn.{psns}
 use Rattle.window.specs.Limits.{mtuLeast, mtuMost, windowMost, delayMost, gainMost, alphaMost, parts, periodMost, thresholdMost}
 use Rattle.window.specs.declared.Settings.{Settings}

@@ -1,8 +1,8 @@
 // The ranges of the settings, the bounds of the window's numbers, and the fresh window.
 use crate::Settings;
 use crate::Window;
-use decide::most;
-use decide::within;
+use rules::most;
+use rules::within;
 ghost use mathlib.Core.Path.{_≡_};
 ghost use Prim.Native.Nat.{_≤_};
 ghost use Rattle.window.specs.Limits.{ceilingOf};

@@ -5,7 +5,7 @@ use crate::Sampling;
 use crate::Settings;
 use crate::Window;
 use crate::bounds::ceiling;
-use decide::least;
+use rules::least;
 ghost use mathlib.Core.Path.{_≡_};
 ghost use Prim.Native.Nat.{_≤_};
 ghost use Rattle.window.specs.Limits.{delayMost, sampleMost, avgMost};

@@ -12,7 +12,7 @@ use crate::delay::fed;
 use crate::delay::lowered;
 use crate::delay::measured;
 use crate::quick::adapted;
-use decide::most;
+use rules::most;
 ghost use mathlib.Core.Path.{_≡_};
 ghost use Prim.Native.Nat.{_≤_, _<_};
 ghost use Rattle.window.specs.Limits.{timeEnd, newlyEnd};

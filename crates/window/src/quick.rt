@@ -2,7 +2,7 @@
 use crate::Adapted;
 use crate::Settings;
 use crate::Window;
-use decide::most;
+use rules::most;
 ghost use mathlib.Core.Path.{_≡_};
 ghost use Prim.Native.Nat.{_≤_, _<_};
 ghost use Rattle.window.specs.Limits.{delayMost, timeEnd};

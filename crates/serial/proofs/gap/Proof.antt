@@ -5,7 +5,7 @@ use borrow.Author.Needs.{needs}
 use lib.IntN.{pos, _-ℤ_}
 use mir.Syntax.{w64}
 use mir.ValLaws.{toZ-pos, toZ-ofZ}
-use Rattle.decide.specs.Branch.{lt-yes, lt-no}
+use Rattle.rules.specs.Branch.{lt-yes, lt-no}
 use Rattle.serial.specs.Count.{counts, half, gapOf}
 use Rattle.serial.proofs.Counts.{ahead-lt, turn-less, turn-fits}
 use Rattle.serial.proofs.gap.Statement.{statement}

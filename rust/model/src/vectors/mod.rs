@@ -89,7 +89,7 @@ pub struct File {
 }
 
 /// The folder of the bundled logs below the root.
-pub const DATA: &str = "crates/vectors/data";
+pub const DATA: &str = "crates/test_vectors/data";
 
 /// Every file that is made from the bundled logs and the examples.
 pub fn files() -> Vec<File> {
@@ -98,8 +98,8 @@ pub fn files() -> Vec<File> {
         bytes,
     };
     let mut files = vec![
-        file("crates/vectors/args", args().into_bytes()),
-        file("crates/vectors/stdout", stdout().into_bytes()),
+        file("crates/test_vectors/args", args().into_bytes()),
+        file("crates/test_vectors/stdout", stdout().into_bytes()),
     ];
     for (folder, vectors) in [(DATA, bundled()), ("examples", examples())] {
         for vector in vectors {

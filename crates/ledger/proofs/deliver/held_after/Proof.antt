@@ -1,7 +1,7 @@
 -- `deliver::held_after` meets its contract: by the two sides of its test.
 use mathlib.Core.Path.{refl, sym, _∙_}
 use borrow.Author.Needs.{needs}
-use Rattle.decide.specs.Branch.{so-yes, so-no}
+use Rattle.rules.specs.Branch.{so-yes, so-no}
 use Rattle.ledger.specs.Steps.{heldOf}
 use Rattle.ledger.proofs.deliver.held_after.Statement.{statement}
 use Rattle.ledger.proofs.deliver.held_after.Tie as tie

@@ -5,7 +5,7 @@ use native.Mathlib.Omega.{arith}
 use borrow.Author.Needs.{needs}
 use Rattle.ledger.specs.Coherent.{allTo}
 use Rattle.ledger.specs.Stretch.{between}
-use Rattle.decide.specs.Test.{inside}
+use Rattle.rules.specs.Test.{inside}
 use Rattle.ledger.proofs.Stretches.{slot-at, test-none, test-more}
 use Rattle.ledger.proofs.stretch.bytes_within.Statement.{statement}
 use Rattle.ledger.proofs.stretch.bytes_within.Tie as tie

@@ -1,7 +1,7 @@
 -- `is_within` is the two sides of `inside`.
 use mathlib.Core.Path.{refl}
 use native.Mathlib.Omega.{arith}
-use Rattle.decide.specs.Test.{inside}
+use Rattle.rules.specs.Test.{inside}
 use Rattle.ledger.proofs.stretch.is_within.Statement.{statement}
 use Rattle.ledger.proofs.stretch.is_within.Tie as tie
 

@@ -1,7 +1,7 @@
 -- `one_of` is 1 exactly where the status is this one.
 use native.Mathlib.Omega.{arith}
 use borrow.Author.Needs.{needs}
-use Rattle.decide.specs.Branch.{branches}
+use Rattle.rules.specs.Branch.{branches}
 use Rattle.ledger.proofs.stretch.one_of.Statement.{statement}
 use Rattle.ledger.proofs.stretch.one_of.Tie as tie
 

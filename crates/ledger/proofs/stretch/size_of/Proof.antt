@@ -1,7 +1,7 @@
 -- `size_of` is the size exactly where the status is marked.
 use native.Mathlib.Omega.{arith}
 use borrow.Author.Needs.{needs}
-use Rattle.decide.specs.Branch.{branches}
+use Rattle.rules.specs.Branch.{branches}
 use Rattle.ledger.proofs.stretch.size_of.Statement.{statement}
 use Rattle.ledger.proofs.stretch.size_of.Tie as tie
 

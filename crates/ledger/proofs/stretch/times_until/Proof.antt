@@ -6,7 +6,7 @@ use borrow.Author.Needs.{needs}
 use Rattle.ledger.specs.Coherent.{allTo}
 use Rattle.ledger.specs.Stretch.{between}
 use mathlib.Core.Bool.{true}
-use Rattle.decide.specs.Test.{inside-yes}
+use Rattle.rules.specs.Test.{inside-yes}
 use Rattle.ledger.proofs.Stretches.{slot-at, test-none, test-more, test-broken, past-most}
 use Rattle.ledger.proofs.stretch.times_until.Statement.{statement}
 use Rattle.ledger.proofs.stretch.times_until.Tie as tie

@@ -3,7 +3,7 @@ use mathlib.Core.Path.{sym, ap, refl, _∙_}
 use mathlib.Core.Bool.{not}
 use borrow.Author.Needs.{needs}
 use borrow.Author.Tests.{le-leb, lt-leb}
-use Rattle.decide.specs.Rows.{first-here, first-later}
+use Rattle.rules.specs.Rows.{first-here, first-later}
 use Rattle.sender.proofs.Rowing.{judged-3, judged-field, judged-on}
 use Rattle.sender.proofs.judge.judge_ack.Statement.{statement}
 use Rattle.sender.proofs.judge.judge_ack.Tie as tie

@@ -2,7 +2,7 @@
 use mathlib.Core.Path.{sym, refl, _∙_}
 use borrow.Author.Needs.{needs}
 use borrow.Author.Tests.{le-leb, lt-leb, le-ltb, lt-ltb}
-use Rattle.decide.specs.Rows.{first-here, first-later}
+use Rattle.rules.specs.Rows.{first-here, first-later}
 use Rattle.sender.proofs.Rowing.{judged-3, judged-field, judged-on}
 use Rattle.sender.proofs.judge.judge_nack.Statement.{statement}
 use Rattle.sender.proofs.judge.judge_nack.Tie as tie

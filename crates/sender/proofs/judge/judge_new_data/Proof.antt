@@ -1,7 +1,7 @@
 -- `judge_new_data` walks the rows of new data: each branch opens one. The code tests the backlog's room, the row a sum: `over-test`.
 use mathlib.Core.Path.{sym, _∙_}
 use borrow.Author.Needs.{needs}
-use Rattle.decide.specs.Rows.{first-none}
+use Rattle.rules.specs.Rows.{first-none}
 use Rattle.ledger.specs.Bounds.{backlogMost}
 use Rattle.sender.proofs.Rowing.{judged-3, judged-field, judged-on, over-test}
 use Rattle.sender.proofs.judge.judge_new_data.Statement.{statement}

@@ -1,7 +1,7 @@
 -- `judge_path` tests the row of a path choice.
 use mathlib.Core.Path.{refl, sym, _∙_}
 use borrow.Author.Needs.{needs}
-use Rattle.decide.specs.Rows.{first-none, first-here, first-later}
+use Rattle.rules.specs.Rows.{first-none, first-here, first-later}
 use Rattle.sender.proofs.judge.judge_path.Statement.{statement}
 use Rattle.sender.proofs.judge.judge_path.Tie as tie
 

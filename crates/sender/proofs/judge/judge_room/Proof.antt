@@ -1,7 +1,7 @@
 -- `judge_room` hands on the number that it is given, and where that is 0 tests the room, on in-flight's word.
 use mathlib.Core.Path.{refl, sym, ap, _∙_}
 use borrow.Author.Needs.{needs}
-use Rattle.decide.specs.Branch.{eq-yes, eq-no, so-yes, so-no}
+use Rattle.rules.specs.Branch.{eq-yes, eq-no, so-yes, so-no}
 use Rattle.ledger.proofs.Signs.{word}
 use Rattle.sender.specs.Named.{hasRoom}
 use Rattle.sender.specs.Bounds.{roomAfter}

@@ -1,7 +1,7 @@
 -- `phase_of` takes the branches of `phaseOf`, in its order; in-flight in its bounds reads back from the signed word as it was, by `word`.
 use mathlib.Core.Path.{_≡_, refl, sym, ap, _∙_}
 use borrow.Author.Needs.{needs}
-use Rattle.decide.specs.Branch.{branches, so-yes, so-no}
+use Rattle.rules.specs.Branch.{branches, so-yes, so-no}
 use Rattle.ledger.proofs.Signs.{word}
 use Rattle.sender.specs.Named.{hasRoom, phaseOf}
 use Rattle.sender.proofs.naming.phase_of.Statement.{statement}

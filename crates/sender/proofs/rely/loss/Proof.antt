@@ -2,8 +2,8 @@
 use mathlib.Core.Path.{refl, sym, _∙_}
 use mathlib.Core.List.{List}
 use borrow.Author.Needs.{needs}
-use Rattle.decide.specs.Test.{inside}
-use Rattle.decide.specs.Rows.{Row}
+use Rattle.rules.specs.Test.{inside}
+use Rattle.rules.specs.Rows.{Row}
 use Rattle.ledger.specs.Ring.{ring}
 use Rattle.sender.specs.World.{World, world}
 use Rattle.sender.specs.Rows.{lossAllRows}

@@ -1,7 +1,7 @@
 -- `avoid` sets the EV's time where feedback says so, and else leaves the times.
 use mathlib.Core.Path.{refl}
 use borrow.Author.Needs.{needs}
-use Rattle.decide.specs.Branch.{so-yes, so-no}
+use Rattle.rules.specs.Branch.{so-yes, so-no}
 use Rattle.sender.specs.Steps.{avoidedIn}
 use Rattle.sender.proofs.steps.avoid.Statement.{statement}
 use Rattle.sender.proofs.steps.avoid.Tie as tie

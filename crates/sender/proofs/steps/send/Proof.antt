@@ -2,7 +2,7 @@
 -- leave (`send-ready`).
 use mathlib.Core.Path.{_≡_, refl}
 use borrow.Author.Needs.{needs}
-use Rattle.decide.specs.Branch.{ifSo, so-yes, so-no}
+use Rattle.rules.specs.Branch.{ifSo, so-yes, so-no}
 use Rattle.ledger.specs.Ring.{Ledger, ring, ledger}
 use Rattle.ledger.specs.Steps.{pushedOf, resentOf}
 use Rattle.sender.specs.World.{World, world, ledgerOf}

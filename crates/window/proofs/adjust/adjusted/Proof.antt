@@ -1,6 +1,6 @@
 -- `adjusted` adjusts where enough was received or the period has passed: branch by branch.
 use borrow.Author.Needs.{needs}
-use Rattle.decide.specs.Branch.{branches}
+use Rattle.rules.specs.Branch.{branches}
 use Rattle.window.specs.Adjust.{adjustedOf}
 use Rattle.window.proofs.adjust.adjusted.Statement.{statement}
 use Rattle.window.proofs.adjust.adjusted.Tie as tie

@@ -2,7 +2,7 @@
 use mathlib.Core.Path.{sym, _∙_}
 use borrow.Author.Needs.{needs}
 use borrow.Author.Tests.{not-true, not-false}
-use Rattle.decide.specs.Test.{inside-tells}
+use Rattle.rules.specs.Test.{inside-tells}
 use Rattle.window.specs.Held.{isHeld}
 use Rattle.window.proofs.bounds.is_held.Statement.{statement}
 use Rattle.window.proofs.bounds.is_held.Tie as tie

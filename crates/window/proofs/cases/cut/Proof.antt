@@ -2,7 +2,7 @@
 use Prim.Native.Nat.{_-_, _^_, _≤_}
 use native.Mathlib.Omega.{arith}
 use borrow.Author.Needs.{needs}
-use Rattle.decide.specs.Branch.{branches}
+use Rattle.rules.specs.Branch.{branches}
 use Rattle.window.specs.Limits.{windowMost, parts}
 use Rattle.window.specs.Delays.{averageOf}
 use Rattle.window.specs.Cases.{cutOf}

@@ -1,6 +1,6 @@
 -- `fast` is fast increase, branch by branch.
 use borrow.Author.Needs.{needs}
-use Rattle.decide.specs.Branch.{branches}
+use Rattle.rules.specs.Branch.{branches}
 use Rattle.window.specs.Cases.{fastOf}
 use Rattle.window.proofs.cases.fast.Statement.{statement}
 use Rattle.window.proofs.cases.fast.Tie as tie

@@ -1,7 +1,7 @@
 -- `respond` is the four cases, branch by branch; each call's bounds are kept by the one before it.
 use native.Mathlib.Omega.{arith}
 use borrow.Author.Needs.{needs}
-use Rattle.decide.specs.Branch.{branches}
+use Rattle.rules.specs.Branch.{branches}
 use Rattle.window.specs.Cases.{caseOf}
 use Rattle.window.proofs.Numbers.{fi-fits}
 use Rattle.window.proofs.Keeps.{held-at, cwnd-most, held-calm, held-fast}

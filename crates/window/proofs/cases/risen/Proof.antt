@@ -1,7 +1,7 @@
 -- `risen` adds the proportional increase, branch by branch; its products fit by the ranges.
 use native.Mathlib.Omega.{arith}
 use borrow.Author.Needs.{needs}
-use Rattle.decide.specs.Branch.{branches}
+use Rattle.rules.specs.Branch.{branches}
 use Rattle.window.specs.Cases.{risenOf}
 use Rattle.window.proofs.Numbers.{alpha-fits}
 use Rattle.window.proofs.cases.risen.Statement.{statement}

@@ -1,6 +1,6 @@
 -- `cut` takes the cases of `cutOf`.
 use borrow.Author.Needs.{needs}
-use Rattle.decide.specs.Branch.{branches}
+use Rattle.rules.specs.Branch.{branches}
 use Rattle.window.specs.Delays.{cutOf}
 use Rattle.window.proofs.delay.cut.Statement.{statement}
 use Rattle.window.proofs.delay.cut.Tie as tie

@@ -1,6 +1,6 @@
 -- `feed` answers what is fed, branch by branch.
 use borrow.Author.Needs.{needs}
-use Rattle.decide.specs.Branch.{branches}
+use Rattle.rules.specs.Branch.{branches}
 use Rattle.window.specs.Delays.{feedOf}
 use Rattle.window.proofs.delay.feed.Statement.{statement}
 use Rattle.window.proofs.delay.feed.Tie as tie

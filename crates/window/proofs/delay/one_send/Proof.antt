@@ -1,6 +1,6 @@
 -- `one_send` tells which copy, by the two values of the flag.
 use borrow.Author.Needs.{needs}
-use Rattle.decide.specs.Branch.{branches}
+use Rattle.rules.specs.Branch.{branches}
 use Rattle.window.specs.Delays.{oneSend}
 use Rattle.window.proofs.delay.one_send.Statement.{statement}
 use Rattle.window.proofs.delay.one_send.Tie as tie

@@ -2,7 +2,7 @@
 use mir.Facts.{toZ-ofZ}
 use native.Mathlib.Omega.{arith}
 use borrow.Author.Needs.{needs}
-use Rattle.decide.specs.Branch.{branches}
+use Rattle.rules.specs.Branch.{branches}
 use Rattle.window.specs.Events.{respondedOf, reactedOf, ackOf}
 use Rattle.window.proofs.Keeps.{held-at, kept, cwnd-most, held-counted, step-case, step-measured, ack-adapted, held-ack}
 use Rattle.window.proofs.events.ack.Statement.{statement}

@@ -2,7 +2,7 @@
 use mir.Facts.{toZ-ofZ}
 use native.Mathlib.Omega.{arith}
 use borrow.Author.Needs.{needs}
-use Rattle.decide.specs.Branch.{branches}
+use Rattle.rules.specs.Branch.{branches}
 use Rattle.window.specs.Events.{rttFed, nackOf}
 use Rattle.window.proofs.Keeps.{held-at, kept, held-lowered, held-rtt-fed, held-nack}
 use Rattle.window.proofs.events.nack.Statement.{statement}

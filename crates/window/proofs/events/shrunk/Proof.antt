@@ -1,6 +1,6 @@
 -- `shrunk` takes the size off, unless quick adapt fired: branch by branch.
 use borrow.Author.Needs.{needs}
-use Rattle.decide.specs.Branch.{branches}
+use Rattle.rules.specs.Branch.{branches}
 use Rattle.window.specs.Events.{shrunkOf}
 use Rattle.window.proofs.events.shrunk.Statement.{statement}
 use Rattle.window.proofs.events.shrunk.Tie as tie

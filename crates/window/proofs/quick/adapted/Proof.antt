@@ -1,7 +1,7 @@
 -- `adapted` is quick adapt, branch by branch.
 use mir.Facts.{toZ-ofZ}
 use borrow.Author.Needs.{needs}
-use Rattle.decide.specs.Branch.{branches}
+use Rattle.rules.specs.Branch.{branches}
 use Rattle.window.specs.Quick.{firedOf, adaptedOf}
 use Rattle.window.proofs.quick.adapted.Statement.{statement}
 use Rattle.window.proofs.quick.adapted.Tie as tie

@@ -1,0 +1,93 @@
+-- "Prove that no two outcomes satisfy one promise": of each call from C. An outcome is the number or the word that is answered, with the final contents of everything that is
+-- lent; the contracts name each part as it is, and the law is named for the call. Assumes nothing.
+use mathlib.Core.Path.{refl}
+use mathlib.Core.Bool.{Bool}
+use mathlib.Core.List.{List}
+use Prim.Native.Nat.{ℕ}
+use Rattle.ledger.specs.Ring.{Ring}
+use Rattle.sender.specs.Events.{onNewData, onSend, onLoss}
+use Rattle.rules.specs.Unique.{OneOutcome, one-outcome}
+use Rattle.c_api.specs.Calls.{sendBy, ackBy, nackBy, lossBy, Called, called, onWords, pathBeside, ackBeside, nackBeside, onBesideWords, onSetUpWords}
+use Rattle.c_api.specs.Batch.{Replayed, replayCalled, onReplayWords}
+use Rattle.c_api.specs.Parts.{Chunked, chunkCalled, onChunkWords}
+
+-- ---- setting up and the events
+
+pub record Outcome : Type 0 where
+  pub number : ℕ
+  pub state : List ℕ
+  pub slots : Ring
+  pub evs : List ℕ
+
+-- what the contracts make of it
+abbrev pub made : Outcome → Called
+made x = called (x .number) (x .state) (x .slots) (x .evs)
+
+abbrev back : Called → Outcome
+back c = record { number = c .number; state = c .words; slots = c .slots; evs = c .times }
+
+call-unique : (wanted : Called) → OneOutcome made wanted
+call-unique = one-outcome made back (λ x. refl)
+
+-- handed the words of a state, a ring and EV times
+module _ (ws : List ℕ) (r : Ring) (t : List ℕ) where
+  pub set-up-unique : (settings : List ℕ) (psn : ℕ) (off : Bool) (evs : ℕ) → OneOutcome made (onSetUpWords settings psn off evs ws r t)
+  set-up-unique settings psn off evs = call-unique _
+
+  pub new-data-unique : (time bytes : ℕ) → OneOutcome made (onWords ws r t (onNewData time bytes))
+  new-data-unique time bytes = call-unique _
+
+  pub send-unique : (time psn bytes : ℕ) (resend : Bool) → OneOutcome made (onWords ws r t (onSend time (sendBy psn bytes resend)))
+  send-unique time psn bytes resend = call-unique _
+
+  pub ack-unique : (time cum map trigger count service ev : ℕ) (marked retx : Bool)
+      → OneOutcome made (onBesideWords ws r t (ackBeside time (ackBy cum map trigger count service ev marked retx)))
+  ack-unique time cum map trigger count service ev marked retx = call-unique _
+
+  pub nack-unique : (time psn ev reason : ℕ) (marked retx : Bool) → OneOutcome made (onBesideWords ws r t (nackBeside time (nackBy psn ev reason marked retx)))
+  nack-unique time psn ev reason marked retx = call-unique _
+
+  pub loss-unique : (time psn ev : ℕ) → OneOutcome made (onWords ws r t (onLoss time (lossBy psn ev)))
+  loss-unique time psn ev = call-unique _
+
+  pub path-unique : (time : ℕ) → OneOutcome made (onBesideWords ws r t (pathBeside time))
+  path-unique time = call-unique _
+
+-- ---- a replay, and a replay in chunks
+
+pub record ReplayOutcome : Type 0 where
+  pub number : ℕ
+  pub place : List ℕ
+  pub state : List ℕ
+  pub slots : Ring
+  pub evs : List ℕ
+  pub answers : List ℕ
+
+abbrev pub madeReplay : ReplayOutcome → Replayed
+madeReplay x = replayCalled (x .number) (x .place) (x .state) (x .slots) (x .evs) (x .answers)
+
+abbrev backReplay : Replayed → ReplayOutcome
+backReplay c = record { number = c .number; place = c .place; state = c .words; slots = c .slots; evs = c .times; answers = c .answers }
+
+pub replay-unique : (log place ws : List ℕ) (r : Ring) (t answers : List ℕ) → OneOutcome madeReplay (onReplayWords log place ws r t answers)
+replay-unique log place ws r t answers = one-outcome madeReplay backReplay (λ x. refl) _
+
+pub record ChunkOutcome : Type 0 where
+  pub number : ℕ
+  pub part : List ℕ
+  pub piece : List ℕ
+  pub state : List ℕ
+  pub slots : Ring
+  pub evs : List ℕ
+  pub answers : List ℕ
+
+abbrev pub madeChunk : ChunkOutcome → Chunked
+madeChunk x = chunkCalled (x .number) (x .part) (x .piece) (x .state) (x .slots) (x .evs) (x .answers)
+
+abbrev backChunk : Chunked → ChunkOutcome
+backChunk c =
+    record { number = c .number; part = c .part; piece = c .piece; state = c .words; slots = c .slots; evs = c .times; answers = c .answers }
+
+pub chunk-unique : (chunk : List ℕ) (ended : Bool) (part piece ws : List ℕ) (r : Ring) (t answers : List ℕ)
+    → OneOutcome madeChunk (onChunkWords chunk ended part piece ws r t answers)
+chunk-unique chunk ended part piece ws r t answers = one-outcome madeChunk backChunk (λ x. refl) _

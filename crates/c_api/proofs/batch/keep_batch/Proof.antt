@@ -1,0 +1,53 @@
+-- `keep_batch` stores nothing where the batch was refused; else the place, and the state where there is one.
+use mathlib.Core.Path.{refl, sym}
+use borrow.Author.Needs.{needs}
+use Rattle.rules.specs.Branch.{so-yes, so-no, eq-yes, eq-no}
+use Rattle.c_api.specs.Batch.{placeThen, wordsThen}
+use Rattle.c_api.proofs.batch.keep_batch.Statement.{statement}
+use Rattle.c_api.proofs.batch.keep_batch.Tie as tie
+
+returns : tie.Need-returns
+unfolding placeThen wordsThen
+returns c = (refl, eq-no _ _ _ _ _ (c .if1 .taken) refl, eq-no _ _ _ _ _ (c .if1 .taken) refl)
+
+keep-place-requires : tie.Need-keep-place-requires
+keep-place-requires c κs = search needs
+
+store-requires : tie.Need-store-requires
+store-requires c κs = search needs
+
+same-length : tie.Need-same-length
+same-length c = search needs
+
+same-length-2 : tie.Need-same-length-2
+same-length-2 c = search needs
+
+returns-2 : tie.Need-returns-2
+unfolding placeThen wordsThen
+returns-2 c =
+    let p = c .before .before .before .before .before .before .before .before in
+    let z = p .before .before .before .if1 .left in
+    (sym z, eq-yes _ _ _ _ _ z (p .keep-place .ensures), eq-yes _ _ _ _ _ z (so-yes _ _ _ _ (c .before .before .before .before .before .if2 .taken) (c .before .before .store .ensures)))
+
+same-length-3 : tie.Need-same-length-3
+same-length-3 c = search needs
+
+returns-3 : tie.Need-returns-3
+unfolding placeThen wordsThen
+returns-3 c =
+    let p = c .before .before .before in
+    let z = p .before .before .before .if1 .left in
+    (sym z, eq-yes _ _ _ _ _ z (p .keep-place .ensures), eq-yes _ _ _ _ _ z (so-no _ _ _ _ (c .if2 .left) refl))
+
+pub keep-batch-spec : {M : Type 1} → statement M
+keep-batch-spec =
+    tie.close
+    (tie.spec
+    returns
+    keep-place-requires
+    store-requires
+    same-length
+    same-length-2
+    returns-2
+    same-length-3
+    returns-3)

@@ -1,0 +1,80 @@
+-- `nscc_set_up` makes the tests of `onSetUpWords` in their order; then the answer is setting up's, kept.
+use borrow.Author.Needs.{needs}
+use Rattle.c_api.proofs.Answers.{few-settings, out-of-range, wrong-words, set-up-on}
+use Rattle.c_api.proofs.nscc_set_up.Statement.{statement}
+use Rattle.c_api.proofs.nscc_set_up.Tie as tie
+
+returns : tie.Need-returns
+returns c = few-settings _ _ _ _ _ _ _ (c .if1 .taken)
+
+settings-of-requires : tie.Need-settings-of-requires
+settings-of-requires c κs = search needs
+
+in-range-requires : tie.Need-in-range-requires
+in-range-requires c κs = search needs
+
+returns-2 : tie.Need-returns-2
+returns-2 c =
+    out-of-range _ _ _ _ _ _ _ (c .before .before .before .if1 .left) _ (c .before .before .settings-of .ensures) _ (c .before .in-range .ensures) (c .if2 .taken)
+
+returns-3 : tie.Need-returns-3
+returns-3 c =
+    wrong-words _ _ _ _ _ _ _ (c .before .before .before .before .if1 .left) _ (c .before .before .before .settings-of .ensures) _ (c .before .before .in-range .ensures) (c .before .if2 .left) (c .if3 .taken)
+
+set-up-requires : tie.Need-set-up-requires
+set-up-requires c κs = search needs
+
+number-of-requires : tie.Need-number-of-requires
+number-of-requires c κs = search needs
+
+cast-keep : tie.Need-cast-keep
+cast-keep c = search needs
+
+keep-requires : tie.Need-keep-requires
+keep-requires c κs = search needs
+
+same-length : tie.Need-same-length
+same-length c = search needs
+
+same-length-2 : tie.Need-same-length-2
+same-length-2 c = search needs
+
+same-length-3 : tie.Need-same-length-3
+same-length-3 c = search needs
+
+same-length-4 : tie.Need-same-length-4
+same-length-4 c = search needs
+
+same-length-5 : tie.Need-same-length-5
+same-length-5 c = search needs
+
+same-length-6 : tie.Need-same-length-6
+same-length-6 c = search needs
+
+returns-4 : tie.Need-returns-4
+returns-4 c =
+    let a = c .before .before .before .before .before .before .before .before .before .before .before .before .before .before .before .before in
+    let e = a .before .before .before .before .before .before in
+    set-up-on _ _ _ _ _ _ _ (e .before .before .before .before .if1 .left) _ (e .before .before .before .settings-of .ensures) _ (e .before .before .in-range .ensures) (e .before .if2 .left) (e .if3 .left)
+    _ _ _ (a .set-up .ensures) _ _ (c .before .before .before .before .number-of .ensures, c .before .before .keep .ensures)
+
+pub nscc-set-up-spec : {M : Type 1} → statement M
+nscc-set-up-spec =
+    tie.close
+    (tie.spec
+    returns
+    settings-of-requires
+    in-range-requires
+    returns-2
+    returns-3
+    set-up-requires
+    number-of-requires
+    cast-keep
+    keep-requires
+    same-length
+    same-length-2
+    same-length-3
+    same-length-4
+    same-length-5
+    same-length-6
+    returns-4)

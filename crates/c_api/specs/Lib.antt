@@ -1,0 +1,5 @@
+-- What the contracts of `c_api` cite, and what the theorem on chunks speaks of.
+pub mod Calls
+pub mod Batch
+pub mod Parts
+pub mod Statements

@@ -1,0 +1,245 @@
+// The library for C: every event over lent words. Slices only: the state's 40 words (`c_state`), the ring's four slices, the EV times, a log's bytes.
+// A call is a replay's batch of one event (`replay::once`), so that the archive has the rules once, in the replay's loop.
+// No function has a `requires`; what no proof can see, that pointers and lengths are true and that nothing overlaps, is said in include/nscc.h.
+
+pub mod batch;
+pub mod parts;
+
+use replay::ABOVE;
+use replay::records::Event;
+use sender::Ack;
+use sender::Controller;
+use sender::Loss;
+use sender::Nack;
+use sender::SETTING;
+use sender::Send;
+use sender::UNSOUND;
+use c_state::WORDS;
+ghost use mathlib.Core.Path.{_≡_};
+ghost use lib.ListN.{length};
+ghost use Rattle.ledger.specs.Lent.{ringBefore, ringAfter};
+ghost use Rattle.ledger.specs.Ring.{ring};
+ghost use Rattle.sender.specs.Events.{onNewData, onSend, onLoss};
+ghost use Rattle.c_state.specs.Layout.{wordCount};
+ghost use Rattle.c_api.specs.Calls.{called, wordsAfter, onEventWords, onWords, ackBeside, nackBeside, pathBeside, onBesideWords, onSetUpWords, sendBy, ackBy, nackBy, lossBy};
+
+// Stores the state's words where the event was accepted.
+fn keep(state: &mut [u64], number: u64, after: Controller)
+    requires { ⌜ length (now state) ≡ wordCount ⌝ }
+    ensures { λ _. ⌜ now (state .exit) ≡ wordsAfter number (now (state .entry)) after ⌝ }
+{
+    if number == 0 {
+        c_state::store(state, after);
+    }
+}
+
+// An event on the state that the words are: the number, and above its 32 bits the EV or the kind of a sample.
+fn take<'a, 'b, 'c, 'd, 'e, 'f>(
+    event: Event,
+    state: &'a mut [u64],
+    status: &'b mut [u8],
+    size: &'c mut [u32],
+    sent: &'d mut [u64],
+    resent: &'e mut [u8],
+    evs: &'f mut [u64],
+) -> u64
+    ensures { λ r. ⌜ called r (now (state .exit)) (ringAfter status size sent resent) (now (evs .exit)) ≡ onEventWords event (now (state .entry)) (ringBefore status size sent resent) (now (evs .entry)) ⌝ }
+{
+    let given = c_state::unpack(state);
+    if !given.good {
+        return UNSOUND as u64;
+    }
+    let before = given.state;
+    let said = replay::once(event, before, status, size, sent, resent, evs);
+    let word = said.word;
+    let after = said.state;
+    keep(state, word % ABOVE, after);
+    word
+}
+
+// Setting up: the twelve settings, the first PSN, the flag that disables quick adapt, the number of EVs.
+#[no_mangle]
+pub extern "C" fn nscc_set_up(
+    settings: &[u64],
+    first_psn: u32,
+    quick_adapt_off: bool,
+    ev_count: u32,
+    state: &mut [u64],
+    status: &mut [u8],
+    size: &mut [u32],
+    sent: &mut [u64],
+    resent: &mut [u8],
+    evs: &mut [u64],
+) -> u32
+    ensures { λ r. ⌜ called r (now (state .exit)) (ringAfter status size sent resent) (now (evs .exit)) ≡ onSetUpWords (now (settings .entry)) «first_psn» «quick_adapt_off» «ev_count» (now (state .entry)) (ringBefore status size sent resent) (now (evs .entry)) ⌝ }
+{
+    if settings.len() != c_state::SETTINGS {
+        return UNSOUND;
+    }
+    let given = c_state::settings_of(settings, first_psn, quick_adapt_off, ev_count as u64);
+    if !window::bounds::in_range(given) {
+        return SETTING;
+    }
+    if state.len() != WORDS {
+        return UNSOUND;
+    }
+    let answer = sender::start::set_up(given, status, size, sent, resent, evs);
+    let outcome = answer.outcome;
+    let after = answer.state;
+    let number = sender::number_of(outcome);
+    keep(state, number as u64, after);
+    number
+}
+
+// New data in the backlog.
+#[no_mangle]
+pub extern "C" fn nscc_new_data(
+    state: &mut [u64],
+    status: &mut [u8],
+    size: &mut [u32],
+    sent: &mut [u64],
+    resent: &mut [u8],
+    evs: &mut [u64],
+    time: u64,
+    bytes: u64,
+) -> u32
+    ensures { λ r. ⌜ called r (now (state .exit)) (ringAfter status size sent resent) (now (evs .exit)) ≡ onWords (now (state .entry)) (ringBefore status size sent resent) (now (evs .entry)) (onNewData time bytes) ⌝ }
+{
+    take(
+        Event::NewData(time, bytes),
+        state,
+        status,
+        size,
+        sent,
+        resent,
+        evs,
+    ) as u32
+}
+
+// A new packet, or a resend.
+#[no_mangle]
+pub extern "C" fn nscc_send(
+    state: &mut [u64],
+    status: &mut [u8],
+    size: &mut [u32],
+    sent: &mut [u64],
+    resent: &mut [u8],
+    evs: &mut [u64],
+    time: u64,
+    psn: u32,
+    bytes: u32,
+    resend: bool,
+) -> u32
+    ensures { λ r. ⌜ called r (now (state .exit)) (ringAfter status size sent resent) (now (evs .exit)) ≡ onWords (now (state .entry)) (ringBefore status size sent resent) (now (evs .entry)) (onSend time (sendBy psn bytes resend)) ⌝ }
+{
+    let a = Send {
+        psn,
+        size: bytes,
+        resend,
+    };
+    take(Event::Send(time, a), state, status, size, sent, resent, evs) as u32
+}
+
+// An ACK: the number, and above its 32 bits the kind of its sample.
+#[no_mangle]
+pub extern "C" fn nscc_ack(
+    state: &mut [u64],
+    status: &mut [u8],
+    size: &mut [u32],
+    sent: &mut [u64],
+    resent: &mut [u8],
+    evs: &mut [u64],
+    time: u64,
+    cum: u32,
+    map: u64,
+    trigger: u32,
+    count: u32,
+    service: u32,
+    ev: u32,
+    marked: bool,
+    retx: bool,
+) -> u64
+    ensures { λ r. ⌜ called r (now (state .exit)) (ringAfter status size sent resent) (now (evs .exit)) ≡ onBesideWords (now (state .entry)) (ringBefore status size sent resent) (now (evs .entry)) (ackBeside time (ackBy cum map trigger count service ev marked retx)) ⌝ }
+{
+    let a = Ack {
+        cum,
+        map,
+        trigger,
+        count,
+        service,
+        ev,
+        marked,
+        retx,
+    };
+    take(Event::Ack(time, a), state, status, size, sent, resent, evs)
+}
+
+// A NACK: the same.
+#[no_mangle]
+pub extern "C" fn nscc_nack(
+    state: &mut [u64],
+    status: &mut [u8],
+    size: &mut [u32],
+    sent: &mut [u64],
+    resent: &mut [u8],
+    evs: &mut [u64],
+    time: u64,
+    psn: u32,
+    ev: u32,
+    reason: u32,
+    marked: bool,
+    retx: bool,
+) -> u64
+    ensures { λ r. ⌜ called r (now (state .exit)) (ringAfter status size sent resent) (now (evs .exit)) ≡ onBesideWords (now (state .entry)) (ringBefore status size sent resent) (now (evs .entry)) (nackBeside time (nackBy psn ev reason marked retx)) ⌝ }
+{
+    let a = Nack {
+        psn,
+        ev,
+        reason,
+        marked,
+        retx,
+    };
+    take(Event::Nack(time, a), state, status, size, sent, resent, evs)
+}
+
+// A loss.
+#[no_mangle]
+pub extern "C" fn nscc_loss(
+    state: &mut [u64],
+    status: &mut [u8],
+    size: &mut [u32],
+    sent: &mut [u64],
+    resent: &mut [u8],
+    evs: &mut [u64],
+    time: u64,
+    psn: u32,
+    ev: u32,
+) -> u32
+    ensures { λ r. ⌜ called r (now (state .exit)) (ringAfter status size sent resent) (now (evs .exit)) ≡ onWords (now (state .entry)) (ringBefore status size sent resent) (now (evs .entry)) (onLoss time (lossBy psn ev)) ⌝ }
+{
+    take(
+        Event::Loss(time, Loss { psn, ev }),
+        state,
+        status,
+        size,
+        sent,
+        resent,
+        evs,
+    ) as u32
+}
+
+// The next path: the number, and above its 32 bits the EV.
+#[no_mangle]
+pub extern "C" fn nscc_path(
+    state: &mut [u64],
+    status: &mut [u8],
+    size: &mut [u32],
+    sent: &mut [u64],
+    resent: &mut [u8],
+    evs: &mut [u64],
+    time: u64,
+) -> u64
+    ensures { λ r. ⌜ called r (now (state .exit)) (ringAfter status size sent resent) (now (evs .exit)) ≡ onBesideWords (now (state .entry)) (ringBefore status size sent resent) (now (evs .entry)) (pathBeside time) ⌝ }
+{
+    take(Event::Path(time), state, status, size, sent, resent, evs)
+}

@@ -1,0 +1,75 @@
+-- The test of words holds exactly where its facts do, and is made in the order of the code.
+-- Assumes nothing.
+use mathlib.Core.Path.{_≡_, sym, _∙_}
+use mathlib.Core.Bool.{Bool, true, false, not, _&&_}
+use mathlib.Core.List.{List}
+use Prim.Native.Nat.{ℕ, _+_, _<_}
+use native.Mathlib.Omega.{arith}
+use lib.Dec.{ltb, eqb}
+use lib.ListN.{length}
+use borrow.Author.Tests.{ltb-true, eqb-true, lt-ltb, eq-eqb, ne-eqb, not-true, not-false}
+use Rattle.rules.specs.Branch.{so-yes, so-no}
+use Rattle.rules.specs.Test.{both, whole}
+use Rattle.window.specs.declared.Settings.{Settings}
+use Rattle.sender.specs.Start.{noSettings, freshState}
+use Rattle.sender.specs.declared.Controller.{Controller}
+use Rattle.c_state.specs.Layout.{wordCount, fieldEnd, inFlightAdded, inFlightMost, word, stateFrom, wordsOk, unpacked}
+use Rattle.c_state.specs.Statements.{WordsFacts}
+
+-- the last bound of a row of them, and the bounds before it
+below : (rest : Bool) (n end : ℕ) → (rest && ltb n end) ≡ true → (rest ≡ true) × (n < end)
+below rest n end e =
+    let p = both rest (ltb n end) e in
+    (p .0, ltb-true n end (p .1))
+
+module _ (ws : List ℕ) where
+  pub words-facts : wordsOk ws ≡ true → WordsFacts ws
+  unfolding wordsOk
+  words-facts e =
+      let phase = below _ (word ws 38) 4 e in
+      let cursor = below _ (word ws 37) fieldEnd (phase .0) in
+      let trigger = below _ (word ws 32) 2 (cursor .0) in
+      let fast = below _ (word ws 31) 2 (trigger .0) in
+      let in-flight = below _ (word ws 21) (inFlightMost + inFlightAdded + 1) (fast .0) in
+      let marked = below _ (word ws 19) fieldEnd (in-flight .0) in
+      let flying = below _ (word ws 18) fieldEnd (marked .0) in
+      let held = below _ (word ws 16) fieldEnd (flying .0) in
+      let next = below _ (word ws 15) fieldEnd (held .0) in
+      let low = below _ (word ws 14) fieldEnd (next .0) in
+      let off = below _ (word ws 13) 2 (low .0) in
+      let psn = below (eqb (length ws) wordCount) (word ws 12) fieldEnd (off .0) in
+      let long = eqb-true (length ws) wordCount (psn .0) in
+      omega arith
+
+  pub facts-words : WordsFacts ws → wordsOk ws ≡ true
+  unfolding wordsOk
+  facts-words W =
+      let in-flight : word ws 21 < inFlightMost + inFlightAdded + 1 = omega arith in
+      search (whole, eq-eqb, lt-ltb) depth 20
+
+  pub not-long : (length ws ≡ wordCount → ⊥) → false ≡ wordsOk ws
+  unfolding wordsOk
+  not-long h = rw (ne-eqb (length ws) wordCount h)
+
+  -- of the right length, the rest of the test is left
+  pub rest-left : length ws ≡ wordCount →
+      (ltb (word ws 12) fieldEnd && ltb (word ws 13) 2 && ltb (word ws 14) fieldEnd && ltb (word ws 15) fieldEnd && ltb (word ws 16) fieldEnd
+      && ltb (word ws 18) fieldEnd && ltb (word ws 19) fieldEnd && ltb (word ws 21) (inFlightMost + inFlightAdded + 1)
+      && ltb (word ws 31) 2 && ltb (word ws 32) 2 && ltb (word ws 37) fieldEnd && ltb (word ws 38) 4) ≡ wordsOk ws
+  unfolding wordsOk
+  rest-left h = rw (eq-eqb (length ws) wordCount h)
+
+  module _ (ok : Bool) (ok-is : ok ≡ wordsOk ws) where
+    pub passed-facts : not ok ≡ false → WordsFacts ws
+    passed-facts e = words-facts (sym ok-is ∙ not-false ok e)
+
+    -- the answer, by the test as the code makes it
+    pub not-passed :
+        (empty : Settings) (c : Controller) → empty ≡ noSettings → c ≡ freshState empty → not ok ≡ true →
+        record { good = false; state = c } ≡ unpacked ws
+    unfolding unpacked
+    not-passed empty c empty-is c-is e = so-no (wordsOk ws) _ _ _ (sym ok-is ∙ not-true ok e) (rw (c-is, empty-is))
+
+    pub passed : (c : Controller) → c ≡ stateFrom ws → not ok ≡ false → record { good = true; state = c } ≡ unpacked ws
+    unfolding unpacked
+    passed c c-is e = so-yes (wordsOk ws) _ _ _ (sym ok-is ∙ not-false ok e) (rw c-is)

@@ -1,0 +1,74 @@
+-- `state_from` is `stateFrom`, part by part.
+use borrow.Author.Needs.{needs}
+use Rattle.c_state.specs.Layout.{stateFrom}
+use Rattle.c_state.proofs.state_from.Statement.{statement}
+use Rattle.c_state.proofs.state_from.Tie as tie
+
+shared-slice-read-settings-of : tie.Need-shared-slice-read-settings-of
+shared-slice-read-settings-of c = search needs
+
+cast-settings-of : tie.Need-cast-settings-of
+cast-settings-of c = search needs
+
+shared-slice-read-settings-of-2 : tie.Need-shared-slice-read-settings-of-2
+shared-slice-read-settings-of-2 c = search needs
+
+shared-slice-read-settings-of-3 : tie.Need-shared-slice-read-settings-of-3
+shared-slice-read-settings-of-3 c = search needs
+
+settings-of-requires : tie.Need-settings-of-requires
+settings-of-requires c κs = search needs
+
+flow-from-requires : tie.Need-flow-from-requires
+flow-from-requires c κs = search needs
+
+totals-from-requires : tie.Need-totals-from-requires
+totals-from-requires c κs = search needs
+
+window-from-requires : tie.Need-window-from-requires
+window-from-requires c κs = search needs
+
+shared-slice-read-t15 : tie.Need-shared-slice-read-t15
+shared-slice-read-t15 c = search needs
+
+shared-slice-read-t17 : tie.Need-shared-slice-read-t17
+shared-slice-read-t17 c = search needs
+
+cast-t18 : tie.Need-cast-t18
+cast-t18 c = search needs
+
+shared-slice-read-phase-from : tie.Need-shared-slice-read-phase-from
+shared-slice-read-phase-from c = search needs
+
+phase-from-requires : tie.Need-phase-from-requires
+phase-from-requires c κs = search needs
+
+returns : tie.Need-returns
+unfolding stateFrom
+returns c =
+    rw (
+      c .before .before .before .before .before .before .before .settings-of .ensures,
+      c .before .before .before .before .before .before .flow-from .ensures,
+      c .before .before .before .before .before .totals-from .ensures,
+      c .before .before .before .before .window-from .ensures,
+      c .phase-from .ensures,
+    )
+
+pub state-from-spec : {M : Type 1} → statement M
+state-from-spec =
+    tie.close
+    (tie.spec
+    shared-slice-read-settings-of
+    cast-settings-of
+    shared-slice-read-settings-of-2
+    shared-slice-read-settings-of-3
+    settings-of-requires
+    flow-from-requires
+    totals-from-requires
+    window-from-requires
+    shared-slice-read-t15
+    shared-slice-read-t17
+    cast-t18
+    shared-slice-read-phase-from
+    phase-from-requires
+    returns)

@@ -1,3 +1,0 @@
--- What the contracts of `chunks` cite.
-pub mod Chunks
-pub mod Statements

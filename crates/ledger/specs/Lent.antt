@@ -1,0 +1,24 @@
+-- The lent ring as contracts name it: the four slices as they are given, before the call and after it.
+-- Assumes nothing.
+use mathlib.Core.List.{List}
+use Prim.Native.Nat.{ℕ}
+use denote.Ref.{RefT}
+use denote.Triple.Both.{Both}
+use Rattle.ledger.specs.Ring.{Ring, ring}
+
+-- a slice, as a `requires` sees it
+abbrev pub Slice : Type 0
+Slice = RefT (List ℕ)
+
+-- a slice before and after the call, as an `ensures` sees it; of a slice that is lent to be read only, both are one
+abbrev pub Lent : Type 0
+Lent = Both Slice Slice
+
+abbrev pub ringGiven : Slice → Slice → Slice → Slice → Ring
+ringGiven status size sent resent = ring (status .now) (size .now) (sent .now) (resent .now)
+
+abbrev pub ringBefore : Lent → Lent → Lent → Lent → Ring
+ringBefore status size sent resent = ringGiven (status .entry) (size .entry) (sent .entry) (resent .entry)
+
+abbrev pub ringAfter : Lent → Lent → Lent → Lent → Ring
+ringAfter status size sent resent = ringGiven (status .exit) (size .exit) (sent .exit) (resent .exit)

@@ -1,4 +1,0 @@
--- What the contracts of `lines` cite.
-pub mod Columns
-pub mod Texts
-pub mod Statements

@@ -1,2 +1,0 @@
--- What the contracts of `little` cite.
-pub mod Little

@@ -1,8 +1,0 @@
--- The laws that the proofs of `player` share.
-pub mod Moving
-pub mod Behind
-pub mod Opened
-pub mod Playing
-pub mod Standing
-pub mod Ends
-pub mod Lending

@@ -1,0 +1,35 @@
+-- "Prove that no two outcomes satisfy one promise": of `tally`. Its outcome is the answer with the final contents of the ring, the EV times and the figures.
+-- Assumes nothing.
+use mathlib.Core.Path.{refl}
+use mathlib.Core.List.{List}
+use Prim.Native.Nat.{ℕ}
+use Rattle.ledger.specs.Ring.{Ring}
+use Rattle.sender.specs.World.{World}
+use Rattle.replay.specs.Places.{feed}
+use Rattle.replay.specs.declared.Place.{Place}
+use Rattle.replay.specs.declared.Source.{Source}
+use Rattle.rules.specs.Unique.{OneOutcome, one-outcome}
+use Rattle.replay_report.specs.Tallies.{Tallying, tallying, tallyOf}
+use Rattle.replay_report.specs.declared.Tallied.{Tallied}
+
+pub record Outcome : Type 0 where
+  pub answer : Tallied
+  pub slots : Ring
+  pub times : List ℕ
+  pub figures : List ℕ
+
+-- what the contract makes of it
+abbrev pub made : Outcome → Tallying
+made x = tallying (x .answer .number) (x .answer .place) (x .answer .state) (x .slots) (x .times) (x .figures)
+
+abbrev back : Tallying → Outcome
+back t =
+    record {
+      answer = record { number = t .number; place = t .place; state = t .after .state };
+      slots = t .after .slots;
+      times = t .after .times;
+      figures = t .figures;
+    }
+
+pub tally-unique : (source : Source) (p : Place) (w : World) (log figures : List ℕ) → OneOutcome made (tallyOf (feed source log) p w figures)
+tally-unique source p w log figures = one-outcome made back (λ x. refl) (tallyOf (feed source log) p w figures)

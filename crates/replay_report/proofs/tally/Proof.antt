@@ -1,0 +1,95 @@
+-- `tally` tests number 2, then relies on it.
+use borrow.Author.Needs.{needs}
+use Rattle.ledger.specs.Ring.{ring}
+use Rattle.sender.specs.World.{World, world}
+use Rattle.replay.specs.Places.{feed}
+use Rattle.replay_report.proofs.Tallies.{tally-tested, tally-refused, tally-made}
+use Rattle.replay_report.proofs.tally.Statement.{statement}
+use Rattle.replay_report.proofs.tally.Tie as tie
+
+-- the world that was handed in
+abbrev given : tie.Start → World
+given s =
+    let a = s .args in
+    world (a .state) (ring (a .status .now) (a .size .now) (a .sent .now) (a .resent .now)) (a .evs .now)
+
+-- from the test of number 2 back to the entry
+abbrev start : tie.After-is-whole → tie.Start
+start h = h .before .before .before .before .before .before .before .before .before .before .before .before .before
+
+is-whole-requires : tie.Need-is-whole-requires
+is-whole-requires c κs = search needs
+
+same-length : tie.Need-same-length
+same-length c = search needs
+
+same-length-2 : tie.Need-same-length-2
+same-length-2 c = search needs
+
+same-length-3 : tie.Need-same-length-3
+same-length-3 c = search needs
+
+same-length-4 : tie.Need-same-length-4
+same-length-4 c = search needs
+
+same-length-5 : tie.Need-same-length-5
+same-length-5 c = search needs
+
+returns : tie.Need-returns
+returns c =
+    let h = c .before in
+    let s = start h in
+    tally-refused (feed (s .args .source) (s .args .log .now)) (s .args .place) (given s) (s .args .figures .now) _ (h .is-whole .ensures) (c .if1 .taken)
+
+relied-requires : tie.Need-relied-requires
+relied-requires c κs =
+    let e = c .before .before .before .before .before .before in
+    let h = e .before in
+    let s = start h in
+    tally-tested (feed (s .args .source) (s .args .log .now)) (s .args .place) (given s) (s .args .figures .now) _ (h .is-whole .ensures) (e .if1 .left)
+
+same-length-6 : tie.Need-same-length-6
+same-length-6 c = search needs
+
+same-length-7 : tie.Need-same-length-7
+same-length-7 c = search needs
+
+same-length-8 : tie.Need-same-length-8
+same-length-8 c = search needs
+
+same-length-9 : tie.Need-same-length-9
+same-length-9 c = search needs
+
+same-length-10 : tie.Need-same-length-10
+same-length-10 c = search needs
+
+same-length-11 : tie.Need-same-length-11
+same-length-11 c = search needs
+
+returns-2 : tie.Need-returns-2
+returns-2 c =
+    let k = c .before .before .before .before .before .before .before .before .before .before .before .before in
+    let e = k .before .before .before .before .before .before .before in
+    let h = e .before in
+    let s = start h in
+    tally-made (feed (s .args .source) (s .args .log .now)) (s .args .place) (given s) (s .args .figures .now) _ (h .is-whole .ensures) (e .if1 .left) _ (k .relied .ensures)
+
+pub tally-spec : {M : Type 1} → statement M
+tally-spec =
+    tie.close
+    (tie.spec
+    is-whole-requires
+    same-length
+    same-length-2
+    same-length-3
+    same-length-4
+    same-length-5
+    returns
+    relied-requires
+    same-length-6
+    same-length-7
+    same-length-8
+    same-length-9
+    same-length-10
+    same-length-11
+    returns-2)

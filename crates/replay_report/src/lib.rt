@@ -1,0 +1,101 @@
+// Request M-105, "A run report for the data sheet": what a log's records were answered, in figures. It stands above the controller and reads only what a turn of
+// a replay promises, and what stands in the log.
+pub mod figures;
+
+use crate::figures::count;
+use replay::Place;
+use replay::Source;
+use replay::turns::is_whole;
+use replay::turns::stands_at;
+use replay::turns::turn;
+use sender::Controller;
+use report_text::places::FIGURES;
+ghost use mathlib.Core.Path.{_≡_};
+ghost use mathlib.Core.Bool.{true};
+ghost use lib.ListN.{length};
+ghost use Rattle.replay.specs.Places.{feed, holds};
+ghost use Rattle.report_text.specs.Places.{figureCount};
+ghost use Rattle.ledger.specs.Lent.{ringAfter};
+ghost use Rattle.sender.specs.Lent.{worldGiven, worldBefore};
+ghost use Rattle.replay_report.specs.Tallies.{tallying, tallied, tallyOf};
+
+// What a call answers: 2, or 0. The figures are lent.
+pub struct Tallied {
+    pub number: u32,
+    pub place: Place,
+    pub state: Controller,
+}
+
+// The turns where number 2 is known not to apply: an inner step. Each turn's record is looked up once more, for its bytes.
+fn relied<'a, 'b, 'c, 'd, 'e, 'f, 'g>(
+    source: Source,
+    place: Place,
+    state: Controller,
+    status: &'a mut [u8],
+    size: &'b mut [u32],
+    sent: &'c mut [u64],
+    resent: &'d mut [u8],
+    evs: &'e mut [u64],
+    log: &'f [u8],
+    figures: &'g mut [u64],
+) -> Tallied
+    requires { ⌜ holds place (worldGiven state status size sent resent evs) ≡ true ⌝ }
+    requires { ⌜ length (now figures) ≡ figureCount ⌝ }
+    ensures { λ r. ⌜ tallying (r .number) (r .place) (r .state) (ringAfter status size sent resent) (now (evs .exit)) (now (figures .exit)) ≡ tallied (feed source (now (log .entry))) place (worldBefore state status size sent resent evs) (now (figures .entry)) ⌝ }
+{
+    let mut place = place;
+    let mut state = state;
+    loop {
+        let at = place.at;
+        let t = turn(source, place, state, status, size, sent, resent, evs, log);
+        place = t.place;
+        state = t.state;
+        if t.ended {
+            return Tallied {
+                number: 0,
+                place,
+                state,
+            };
+        }
+        let shown = t.shown;
+        count(figures, stands_at(source, log, at), t.number, shown);
+    }
+}
+
+// Makes all turns of a log from a place on, and adds each to the figures. A report over one log is the call from a replay's start with zeros; of a log in parts
+// it is a call for each part, with the same figures. Number 2 is tested once, also where the figures are not 70.
+pub fn tally<'a, 'b, 'c, 'd, 'e, 'f, 'g>(
+    source: Source,
+    place: Place,
+    state: Controller,
+    status: &'a mut [u8],
+    size: &'b mut [u32],
+    sent: &'c mut [u64],
+    resent: &'d mut [u8],
+    evs: &'e mut [u64],
+    log: &'f [u8],
+    figures: &'g mut [u64],
+) -> Tallied
+    ensures { λ r. ⌜ tallying (r .number) (r .place) (r .state) (ringAfter status size sent resent) (now (evs .exit)) (now (figures .exit)) ≡ tallyOf (feed source (now (log .entry))) place (worldBefore state status size sent resent evs) (now (figures .entry)) ⌝ }
+{
+    let whole = is_whole(place, state, status, size, sent, resent, evs);
+    if (figures.len() != FIGURES) | !whole {
+        return Tallied {
+            number: sender::UNSOUND,
+            place,
+            state,
+        };
+    }
+    relied(
+        source,
+        place,
+        state,
+        status,
+        size,
+        sent,
+        resent,
+        evs,
+        log,
+        figures,
+    )
+}

@@ -1,0 +1,3 @@
+-- What the contracts of `report_text` cite.
+pub mod Places
+pub mod Sheet

@@ -1,3 +1,0 @@
--- What the contracts of `sheet` cite.
-pub mod Places
-pub mod Sheet

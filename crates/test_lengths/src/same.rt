@@ -1,0 +1,66 @@
+// Whether states are the same, and whether lent memory holds one number.
+use sender::Controller;
+
+// Two states are the same where their words are: that words hold every field is proved in crates/c_state, for in-flight in its range.
+pub(crate) fn same_state(a: Controller, b: Controller) -> bool {
+    same_words(c_state::pack(a), c_state::pack(b))
+}
+
+fn same_words(a: [u64; 40], b: [u64; 40]) -> bool {
+    for k in 0..40 {
+        if a[k] != b[k] {
+            return false;
+        }
+    }
+    true
+}
+
+// A slice whose every element is one number, at each width.
+fn all_8(xs: &[u8], fill: u8) -> bool {
+    let mut k = 0;
+    while k < xs.len() {
+        if xs[k] != fill {
+            return false;
+        }
+        k += 1;
+    }
+    true
+}
+
+fn all_32(xs: &[u32], fill: u32) -> bool {
+    let mut k = 0;
+    while k < xs.len() {
+        if xs[k] != fill {
+            return false;
+        }
+        k += 1;
+    }
+    true
+}
+
+fn all_64(xs: &[u64], fill: u64) -> bool {
+    let mut k = 0;
+    while k < xs.len() {
+        if xs[k] != fill {
+            return false;
+        }
+        k += 1;
+    }
+    true
+}
+
+// All that was lent.
+pub(crate) fn all<'a>(
+    status: &'a [u8],
+    size: &'a [u32],
+    sent: &'a [u64],
+    resent: &'a [u8],
+    evs: &'a [u64],
+    fill: u8,
+) -> bool {
+    all_8(status, fill)
+        & all_32(size, fill as u32)
+        & all_64(sent, fill as u64)
+        & all_8(resent, fill)
+        & all_64(evs, fill as u64)
+}
