@@ -16,7 +16,7 @@ enum { SLOTS = 64, EVS = NSCC_EVS_MIN };
 
 /* All the memory of one context. It is the card's: the library keeps nothing between calls. */
 struct card {
-    uint64_t state[NSCC_WORDS];
+    uint64_t state[NSCC_STATE_WORDS];
     uint8_t status[SLOTS];
     uint32_t size[SLOTS];
     uint64_t sent[SLOTS];
@@ -26,10 +26,10 @@ struct card {
 
 /* What every call is lent: each array with its length. */
 #define LENT(card)                                                                                                                                           \
-    (card)->state, NSCC_WORDS, (card)->status, SLOTS, (card)->size, SLOTS, (card)->sent, SLOTS, (card)->resent, SLOTS, (card)->evs, EVS
+    (card)->state, NSCC_STATE_WORDS, (card)->status, SLOTS, (card)->size, SLOTS, (card)->sent, SLOTS, (card)->resent, SLOTS, (card)->evs, EVS
 
 /* Settings E of the requirements, in the order of enum nscc_setting. */
-static const uint64_t settings[NSCC_SETTINGS] = {4096, 614400, 96, 72, 4096, 1024, 224, 819, 512, 96, 32768, 288};
+static const uint64_t settings[NSCC_SETTING_WORDS] = {4096, 614400, 96, 72, 4096, 1024, 224, 819, 512, 96, 32768, 288};
 
 static const char *const phases[] = {"IDLE", "PENDING", "READY", "ACTIVE"};
 
@@ -42,15 +42,15 @@ static unsigned sampled[sizeof samples / sizeof samples[0]];
 /* In-flight is held with an offset, since it may be below zero. */
 static long long in_flight(const struct card *card)
 {
-    return (long long)card->state[NSCC_IN_FLIGHT] - NSCC_IN_FLIGHT_ADDED;
+    return (long long)card->state[NSCC_STATE_IN_FLIGHT] - NSCC_IN_FLIGHT_ADDED;
 }
 
 static void show(const char *call, uint32_t answer, const struct card *card)
 {
     const uint64_t *state = card->state;
-    printf("%s %u %lld %llu %llu %llu %llu %s\n", call, (unsigned)answer, in_flight(card), (unsigned long long)state[NSCC_CWND],
-           (unsigned long long)state[NSCC_FLYING], (unsigned long long)state[NSCC_MARKED], (unsigned long long)state[NSCC_BACKLOG_BYTES],
-           phases[state[NSCC_PHASE]]);
+    printf("%s %u %lld %llu %llu %llu %llu %s\n", call, (unsigned)answer, in_flight(card), (unsigned long long)state[NSCC_STATE_CWND],
+           (unsigned long long)state[NSCC_STATE_FLYING], (unsigned long long)state[NSCC_STATE_MARKED], (unsigned long long)state[NSCC_STATE_BACKLOG],
+           phases[state[NSCC_STATE_PHASE]]);
 }
 
 /* The answer of an ACK or a NACK says above its number whether there was a sample, or why not. */
@@ -91,7 +91,7 @@ int main(void)
 {
     static struct card card;
     puts("call ans inflight cwnd flying waiting backlog state");
-    show("set-up", nscc_set_up(settings, NSCC_SETTINGS, 0, false, EVS, LENT(&card)), &card);
+    show("set-up", nscc_set_up(settings, NSCC_SETTING_WORDS, 0, false, EVS, LENT(&card)), &card);
 
     /* The worked example. */
     show("new-data", nscc_new_data(LENT(&card), 0, 8192), &card);
@@ -110,13 +110,13 @@ int main(void)
     show("resend-1", nscc_send(LENT(&card), 240, 1, 4096, true), &card);
     show_sample("ack-1", nscc_ack(LENT(&card), 340, 1, 0, 1, 32, 4, ev, false, true), &card);
     show_sample("copy", nscc_ack(LENT(&card), 341, 1, 0, 1, 32, 4, ev, false, true), &card);
-    printf("base %llu, average %llu/1024 ticks\n", (unsigned long long)card.state[NSCC_BASE], (unsigned long long)card.state[NSCC_AVG]);
+    printf("base %llu, average %llu/1024 ticks\n", (unsigned long long)card.state[NSCC_STATE_BASE], (unsigned long long)card.state[NSCC_STATE_AVG]);
 
     printf("samples %u, cut %u, gone %u, ambiguous %u, not positive %u\n", sampled[NSCC_SAMPLE_TAKEN], sampled[NSCC_SAMPLE_CUT], sampled[NSCC_SAMPLE_GONE],
            sampled[NSCC_SAMPLE_AMBIGUOUS], sampled[NSCC_SAMPLE_NOT_POSITIVE]);
 
     /* Firmware that hands in insane numbers is told so. */
-    card.state[NSCC_CWND] = 0;
+    card.state[NSCC_STATE_CWND] = 0;
     printf("a window of 0: %u\n", (unsigned)nscc_new_data(LENT(&card), 341, 1));
     return EXIT_SUCCESS;
 }

@@ -1,18 +1,32 @@
 /*
  * nscc.h: a proved sender-side NSCC congestion controller, for network card firmware.
  *
- * One context is a state of NSCC_WORDS words, a ring of four arrays and a time for each EV, all of them the caller's memory. Nothing is allocated, nothing is kept
- * between calls, no function blocks; each may be called from any thread as long as no two calls share memory.
+ * One context is a state of NSCC_STATE_WORDS words, a ring of four arrays and a time for each EV,
+ * all of them the caller's memory. Nothing is allocated, nothing is kept between calls, no function
+ * blocks; each may be called from any thread as long as no two calls share memory.
  *
- * Every function answers for every number that is handed in. The answer is 0, or the number of a refusal (nscc_refusal); an answer of 64 bits has it in the
- * low 32, and what else there is to say above them. A refusal leaves every lent word and byte as it was; what a const points to holds the same at the end as
- * at the start, whatever is answered. That is proved. What no proof can see is asked of the caller:
- *   - each pointer is followed by the length, in elements, of the memory that it points to, and that memory may be read (const) or read and written;
+ * Every function answers for every number that is handed in. The answer is 0, or the number of a
+ * refusal (nscc_refusal); an answer of 64 bits has it in the low 32, and what else there is to say
+ * above them. A refusal leaves every lent word and byte as it was; what a const points to holds the
+ * same at the end as at the start, whatever is answered. That is proved. What no proof can see is
+ * asked of the caller:
+ *   - each pointer is followed by the length, in elements, of the memory that it points to, and
+ *     that memory may be read (const) or read and written;
  *   - no two arrays of one call overlap;
  *   - a pointer is not null, also where its length is 0, and is aligned for its type.
  *
- * The ring has as many slots as its four arrays have elements: a power of two from 64 to 4096, the same for all four. The EVs are as many as setting up was
- * told, a power of two from NSCC_EVS_MIN to NSCC_EVS_MAX, and so many times are lent with every call. Time is in ticks of 128 ns.
+ * To use it: lend the memory of a context (examples/card.c has it in one struct), set it up once
+ * with nscc_set_up, then tell it what happens, in the order in which it happens, with the time:
+ *   - nscc_new_data   bytes that wait to be sent;
+ *   - nscc_path       which EV the next packet takes;
+ *   - nscc_send       a new packet, or a marked one once more; 6 says that the window is full;
+ *   - nscc_ack, nscc_nack, nscc_loss   what comes back, or does not.
+ * After each call state[NSCC_STATE_CWND] is the window and state[NSCC_STATE_PHASE] what to do next.
+ * nscc_replay and nscc_chunk do the same for events that were recorded in a log.
+ *
+ * The ring has as many slots as its four arrays have elements: a power of two from 64 to 4096, the
+ * same for all four. The EVs are as many as setting up was told, a power of two from NSCC_EVS_MIN
+ * to NSCC_EVS_MAX, and so many times are lent with every call. Time is in ticks of 128 ns.
  */
 #ifndef NSCC_H
 #define NSCC_H
@@ -21,6 +35,9 @@
 #include <stddef.h>
 #include <stdint.h>
 
+/* The version of this header and of the library, which is also that of the command. */
+#define NSCC_VERSION "1.0.0"
+
 #ifdef __cplusplus
 extern "C" {
 #endif
@@ -28,29 +45,31 @@ extern "C" {
 /* Why a call was refused. */
 enum nscc_refusal {
     NSCC_ACCEPTED = 0,
-    NSCC_SETTING = 1,      /* a setting is outside its range */
-    NSCC_UNSOUND = 2,      /* state or buffers don't hold together, or a length is wrong */
-    NSCC_TIME = 3,         /* time before the held clock, or 2^48 or more */
-    NSCC_BAD_SIZE = 4,     /* a packet's size is outside 41..MTU */
-    NSCC_BACKLOG = 5,      /* a new packet larger than the backlog */
-    NSCC_WINDOW_FULL = 6,  /* in-flight + MTU is over the window */
-    NSCC_RING_FULL = 7,    /* no slot for a new packet */
-    NSCC_WRONG_PSN = 8,    /* a new packet's PSN is not next; a resend's is not marked, or its size differs */
-    NSCC_UNSENT_OR_OLD = 9, /* an ACK that names an unsent packet, or is too old */
-    NSCC_NOT_FLYING = 10,  /* a NACK or a loss of a packet that does not fly */
-    NSCC_SINKS = 11,       /* in-flight would fall below -2^24 */
-    NSCC_MALFORMED = 12,   /* nscc_replay, nscc_chunk: a log record is malformed */
-    NSCC_BAD_BYTES = 20,   /* new data of 0 bytes, or a backlog over 2^40 */
-    NSCC_BAD_COUNT = 21,   /* a received count of 2^24 or more */
-    NSCC_BAD_REASON = 22,  /* a NACK's reason over 2 */
-    NSCC_BAD_EV = 23,      /* an EV that is not below the EV count */
-    NSCC_BAD_TRIGGER = 24, /* an ACK that does not cover its trigger */
-    NSCC_TOO_LONG = 28     /* nscc_chunk: with the chunk the log would have 2^48 bytes or more */
+    NSCC_REFUSED_SETTING = 1,       /* a setting is outside its range */
+    NSCC_REFUSED_UNSOUND = 2,       /* state or buffers don't hold together, or a length is wrong */
+    NSCC_REFUSED_TIME = 3,          /* time before the held clock, or 2^48 or more */
+    NSCC_REFUSED_SIZE = 4,          /* a packet's size is outside 41..MTU */
+    NSCC_REFUSED_BACKLOG = 5,       /* a new packet larger than the backlog */
+    NSCC_REFUSED_WINDOW_FULL = 6,   /* in-flight + MTU is over the window */
+    NSCC_REFUSED_RING_FULL = 7,     /* no slot for a new packet */
+    NSCC_REFUSED_WRONG_PSN = 8,     /* a new packet's PSN is not next; a resend's is not marked, or its size differs */
+    NSCC_REFUSED_UNSENT_OR_OLD = 9, /* an ACK that names an unsent packet, or is too old */
+    NSCC_REFUSED_NOT_FLYING = 10,   /* a NACK or a loss of a packet that does not fly */
+    NSCC_REFUSED_SINKS = 11,        /* in-flight would fall below -2^24 */
+    NSCC_REFUSED_MALFORMED = 12,    /* nscc_replay, nscc_chunk: a log record is malformed */
+    NSCC_REFUSED_BYTES = 20,        /* new data of 0 bytes, or a backlog over 2^40 */
+    NSCC_REFUSED_COUNT = 21,        /* a received count of 2^24 or more */
+    NSCC_REFUSED_REASON = 22,       /* a NACK's reason over 2 */
+    NSCC_REFUSED_EV = 23,           /* an EV that is not below the EV count */
+    NSCC_REFUSED_TRIGGER = 24,      /* an ACK that does not cover its trigger */
+    NSCC_REFUSED_TOO_LONG = 28      /* nscc_chunk: with the chunk the log would have 2^48 bytes or more */
 };
 
 /*
- * What an accepted ACK or NACK says of its packet's round trip: a sample, or the first of these that applies of why there is none. A gone packet is one that
- * is neither flying nor marked before the call; a resend is ambiguous unless the packet was sent once and retx is clear, or twice and retx is set.
+ * What an accepted ACK or NACK says of its packet's round trip: a sample, or the first of these
+ * that applies of why there is none. A gone packet is one that is neither flying nor marked before
+ * the call; a resend is ambiguous unless the packet was sent once and retx is clear, or twice and
+ * retx is set.
  */
 enum nscc_sample {
     NSCC_SAMPLE_UNTOLD = 0,      /* no accepted ACK or NACK */
@@ -63,53 +82,53 @@ enum nscc_sample {
 
 /* The twelve settings, in this order, as nscc_set_up takes them. */
 enum nscc_setting {
-    NSCC_MTU,             /* 1024..16384 bytes */
-    NSCC_MAXWND,          /* MTU..2^26 bytes; the window's own bound is at NSCC_CWND */
-    NSCC_CONFIG_BASE_RTT, /* 1..2^14 ticks */
-    NSCC_TARGET_QDELAY,   /* 1..2^14 ticks */
-    NSCC_FI,              /* 0..2^20 */
-    NSCC_ETA,             /* 0..2^20 */
-    NSCC_ALPHA,           /* 0..2^14 */
-    NSCC_GAMMA,           /* 0..1024, parts of 1024 */
-    NSCC_MAX_MD_JUMP,     /* 0..1024, parts of 1024 */
-    NSCC_ADJUST_PERIOD,   /* 1..2^20 ticks */
-    NSCC_ADJUST_BYTES,    /* 1..2^26 bytes */
-    NSCC_QA_THRESHOLD,    /* 0..2^20 ticks */
-    NSCC_SETTINGS         /* how many there are */
+    NSCC_SETTING_MTU,             /* 1024..16384 bytes */
+    NSCC_SETTING_MAXWND,          /* MTU..2^26 bytes; the window's own bound is at NSCC_STATE_CWND */
+    NSCC_SETTING_CONFIG_BASE_RTT, /* 1..2^14 ticks */
+    NSCC_SETTING_TARGET_QDELAY,   /* 1..2^14 ticks */
+    NSCC_SETTING_FI,              /* 0..2^20 */
+    NSCC_SETTING_ETA,             /* 0..2^20 */
+    NSCC_SETTING_ALPHA,           /* 0..2^14 */
+    NSCC_SETTING_GAMMA,           /* 0..1024, parts of 1024 */
+    NSCC_SETTING_MAX_MD_JUMP,     /* 0..1024, parts of 1024 */
+    NSCC_SETTING_ADJUST_PERIOD,   /* 1..2^20 ticks */
+    NSCC_SETTING_ADJUST_BYTES,    /* 1..2^26 bytes */
+    NSCC_SETTING_QA_THRESHOLD,    /* 0..2^20 ticks */
+    NSCC_SETTING_WORDS            /* how many there are */
 };
 
 /* The state's words, in this order. A word that no state has is refused with 2. */
-enum nscc_word {
+enum nscc_state {
     /* 0..11: the twelve settings, as above */
-    NSCC_FIRST_PSN = NSCC_SETTINGS,
-    NSCC_QUICK_ADAPT_OFF, /* 0 or 1 */
-    NSCC_LOW,             /* the oldest PSN that is not done */
-    NSCC_NEXT,            /* the PSN of the next new packet */
-    NSCC_HELD,            /* the received count, in units of 256 bytes */
-    NSCC_BACKLOG_BYTES,
-    NSCC_FLYING,          /* packets */
-    NSCC_MARKED,          /* packets that wait to be sent again */
-    NSCC_MARKED_BYTES,
-    NSCC_IN_FLIGHT,       /* in-flight bytes + 2^24: in-flight itself may be below zero, and is at most MaxWnd */
-    NSCC_CWND,            /* MTU..max(MTU, MaxWnd * base / config_base_rtt) bytes, rounded down */
-    NSCC_BASE,            /* 1..config_base_rtt ticks; it only falls, and the window's bound with it */
-    NSCC_AVG,             /* the delay average, in 1/1024 tick */
-    NSCC_INC_BYTES,
-    NSCC_RECEIVED,
-    NSCC_ACHIEVED,
-    NSCC_IGNORED,
-    NSCC_BYTES_TO_IGNORE,
-    NSCC_FI_COUNT,
-    NSCC_FAST,            /* fast mode, 0 or 1 */
-    NSCC_TRIGGER,         /* quick adapt's trigger, 0 or 1 */
-    NSCC_QA_END,
-    NSCC_LAST_ADJUST,
-    NSCC_LAST_DEC,
-    NSCC_CLOCK,
-    NSCC_CURSOR,          /* the EV from which the next path is looked for: below the EV count */
-    NSCC_PHASE,           /* 0 IDLE, 1 PENDING, 2 READY, 3 ACTIVE */
-    NSCC_EV_COUNT,        /* how many EVs there are, and EV times: 256, 512, 1024, 2048 or 4096 */
-    NSCC_WORDS            /* how many there are: 40 */
+    NSCC_STATE_FIRST_PSN = NSCC_SETTING_WORDS,
+    NSCC_STATE_QUICK_ADAPT_OFF, /* 0 or 1 */
+    NSCC_STATE_LOW,             /* the oldest PSN that is not done */
+    NSCC_STATE_NEXT,            /* the PSN of the next new packet */
+    NSCC_STATE_HELD,            /* the received count, in units of 256 bytes */
+    NSCC_STATE_BACKLOG,
+    NSCC_STATE_FLYING,          /* packets */
+    NSCC_STATE_MARKED,          /* packets that wait to be sent again */
+    NSCC_STATE_MARKED_BYTES,
+    NSCC_STATE_IN_FLIGHT,       /* in-flight bytes + 2^24: in-flight itself may be below zero, and is at most MaxWnd */
+    NSCC_STATE_CWND,            /* MTU..max(MTU, MaxWnd * base / config_base_rtt) bytes, rounded down */
+    NSCC_STATE_BASE,            /* 1..config_base_rtt ticks; it only falls, and the window's bound with it */
+    NSCC_STATE_AVG,             /* the delay average, in 1/1024 tick */
+    NSCC_STATE_INC_BYTES,
+    NSCC_STATE_RECEIVED,
+    NSCC_STATE_ACHIEVED,
+    NSCC_STATE_IGNORED,
+    NSCC_STATE_BYTES_TO_IGNORE,
+    NSCC_STATE_FI_COUNT,
+    NSCC_STATE_FAST,            /* fast mode, 0 or 1 */
+    NSCC_STATE_TRIGGER,         /* quick adapt's trigger, 0 or 1 */
+    NSCC_STATE_QA_END,
+    NSCC_STATE_LAST_ADJUST,
+    NSCC_STATE_LAST_DEC,
+    NSCC_STATE_CLOCK,
+    NSCC_STATE_CURSOR,          /* the EV from which the next path is looked for: below the EV count */
+    NSCC_STATE_PHASE,           /* 0 IDLE, 1 PENDING, 2 READY, 3 ACTIVE */
+    NSCC_STATE_EV_COUNT,        /* how many EVs there are, and EV times: 256, 512, 1024, 2048 or 4096 */
+    NSCC_STATE_WORDS            /* how many there are: 40 */
 };
 
 /* What is added to in-flight in its word. */
@@ -120,9 +139,10 @@ enum nscc_word {
 #define NSCC_EVS_MAX 4096
 
 /*
- * Sets a context up: 1, then 2 on lengths; settings that are not NSCC_SETTINGS numbers can't be read, and are 2 before all else. An EV count that is not
- * allowed is 1 like a setting outside its range. Clears the ring and the EV times and writes the state's words; a refusal changes nothing. settings_len is
- * NSCC_SETTINGS, state_len NSCC_WORDS, evs_len the EV count.
+ * Sets a context up: 1, then 2 on lengths; settings that are not NSCC_SETTING_WORDS numbers can't be
+ * read, and are 2 before all else. An EV count that is not allowed is 1 like a setting outside its
+ * range. Clears the ring and the EV times and writes the state's words; a refusal changes nothing.
+ * settings_len is NSCC_SETTING_WORDS, state_len NSCC_STATE_WORDS, evs_len the EV count.
  */
 uint32_t nscc_set_up(const uint64_t *settings, size_t settings_len, uint32_t first_psn, bool quick_adapt_off, uint32_t ev_count,
                      uint64_t *state, size_t state_len, uint8_t *status, size_t status_len, uint32_t *size, size_t size_len,
@@ -139,8 +159,9 @@ uint32_t nscc_send(uint64_t *state, size_t state_len, uint8_t *status, size_t st
                    uint64_t time, uint32_t psn, uint32_t bytes, bool resend);
 
 /*
- * An ACK: the number (2, 3, 21, 23, 24, 9, 11) in the low 32 bits of the answer; above them what the trigger's sample is (nscc_sample), 0 where it is refused.
- * cum covers every PSN up to itself, bit i of map covers cum + 1 + i; marked is the M flag.
+ * An ACK: the number (2, 3, 21, 23, 24, 9, 11) in the low 32 bits of the answer; above them what
+ * the trigger's sample is (nscc_sample), 0 where it is refused. cum covers every PSN up to itself,
+ * bit i of map covers cum + 1 + i; marked is the M flag.
  */
 uint64_t nscc_ack(uint64_t *state, size_t state_len, uint8_t *status, size_t status_len, uint32_t *size, size_t size_len,
                   uint64_t *sent, size_t sent_len, uint8_t *resent, size_t resent_len, uint64_t *evs, size_t evs_len,
@@ -148,9 +169,10 @@ uint64_t nscc_ack(uint64_t *state, size_t state_len, uint8_t *status, size_t sta
                   bool marked, bool retx);
 
 /*
- * A NACK: the number (2, 3, 22, 23, 10, 11) in the low 32 bits of the answer; above them what its packet's sample is (nscc_sample), 0 where it is refused;
- * NSCC_SAMPLE_GONE is not among them, since the packet flies. reason is 0 trimmed, 1 trimmed at the last hop, 2 other. Sizes, send times and resend counts
- * are only read.
+ * A NACK: the number (2, 3, 22, 23, 10, 11) in the low 32 bits of the answer; above them what its
+ * packet's sample is (nscc_sample), 0 where it is refused; NSCC_SAMPLE_GONE is not among them,
+ * since the packet flies. reason is 0 trimmed, 1 trimmed at the last hop, 2 other. Sizes, send
+ * times and resend counts are only read.
  */
 uint64_t nscc_nack(uint64_t *state, size_t state_len, uint8_t *status, size_t status_len, const uint32_t *size, size_t size_len,
                    const uint64_t *sent, size_t sent_len, const uint8_t *resent, size_t resent_len, uint64_t *evs, size_t evs_len,
@@ -168,21 +190,25 @@ uint64_t nscc_path(uint64_t *state, size_t state_len, const uint8_t *status, siz
 
 /* The words of a place in a log, all 0 at its start. */
 enum nscc_place {
-    NSCC_AT,       /* the offset of the first record that is not done */
-    NSCC_DONE,     /* how many records are done */
-    NSCC_STOPPED,  /* 0 or 1: record 1 was refused, or a record with 12 */
-    NSCC_ANSWERED, /* how many answers the last call gave */
-    NSCC_PLACE     /* how many words there are */
+    NSCC_PLACE_AT,       /* the offset of the first record that is not done */
+    NSCC_PLACE_DONE,     /* how many records are done */
+    NSCC_PLACE_STOPPED,  /* 0 or 1: record 1 was refused, or a record with 12 */
+    NSCC_PLACE_ANSWERED, /* how many answers the last call gave */
+    NSCC_PLACE_WORDS     /* how many words there are */
 };
 
 /*
- * Replays a log's bytes from a place on, until the answers' room is full, the log ends or replay stops; call again, with room for at least one answer, until
- * NSCC_ANSWERED is 0. Answers 0, or 2 with nothing changed: a wrong length of place or state, NSCC_STOPPED over 1, more records done than NSCC_AT, or a state
- * and buffers that don't hold together. An answer is the record's number of refusal in its low 32 bits, and above them the EV of an accepted path choice, or
- * what the sample of an accepted ACK or NACK is (nscc_sample), and 0 for every other record; the room behind the answers given is left as it was.
- * The first record sets the context up: the state's words are looked at only between an accepted settings record and a stop. Settings whose EV count is not
- * the number of times lent are refused with 2, which is that record's answer and stops the replay. A first record that is refused with 1 or 2 leaves the
- * words of a state of zeros.
+ * Replays a log's bytes from a place on, until the answers' room is full, the log ends or replay
+ * stops; call again, with room for at least one answer, until NSCC_PLACE_ANSWERED is 0. Answers 0,
+ * or 2 with nothing changed: a wrong length of place or state, NSCC_PLACE_STOPPED over 1, more
+ * records done than NSCC_PLACE_AT, or a state and buffers that don't hold together. An answer is
+ * the record's number of refusal in its low 32 bits, and above them the EV of an accepted path
+ * choice, or what the sample of an accepted ACK or NACK is (nscc_sample), and 0 for every other
+ * record; the room behind the answers given is left as it was. The first record sets the context
+ * up: the state's words are looked at only between an accepted settings record and a stop. Settings
+ * whose EV count is not the number of times lent are refused with 2, which is that record's answer
+ * and stops the replay. A first record that is refused with 1 or 2 leaves the words of a state of
+ * zeros.
  */
 uint32_t nscc_replay(uint64_t *place, size_t place_len, uint64_t *state, size_t state_len, uint8_t *status, size_t status_len,
                      uint32_t *size, size_t size_len, uint64_t *sent, size_t sent_len, uint8_t *resent, size_t resent_len,
@@ -193,27 +219,34 @@ enum nscc_part {
     NSCC_PART_AT,       /* the offset of the first record that is not done, in the joined log: below 2^48 */
     NSCC_PART_DONE,     /* how many records are done: at most NSCC_PART_AT */
     NSCC_PART_STOPPED,  /* 0 or 1: record 1 was refused, or a record with 12 */
-    NSCC_PART_PIECE,    /* how many bytes the piece holds: at most NSCC_PIECE */
+    NSCC_PART_PIECE,    /* how many bytes the piece holds: at most NSCC_PIECE_BYTES */
     NSCC_PART_ANSWERED, /* how many answers the last call gave */
     NSCC_PART_TAKEN,    /* how many bytes of its chunk the last call took */
-    NSCC_PART           /* how many words there are: 6 */
+    NSCC_PART_WORDS     /* how many words there are: 6 */
 };
 
 /* The room of the piece, which holds the record that is not whole yet: exactly so many bytes. */
-#define NSCC_PIECE 61
+#define NSCC_PIECE_BYTES 61
 
 /*
- * Replays a log that comes in chunks of any length, possibly of none, with records cut anywhere: the piece's bytes, then the chunk's. ended says that the log
- * has ended with this chunk; a chunk of no bytes may say so by itself. The answers of all calls are those of nscc_replay on the joined log.
- * Answers 0, 2 or 28, the latter two with nothing changed:
- *   - 2: a wrong length of part, piece or state, a word of part that is not as above, or a state and buffers that don't hold together;
- *   - else 0 where replay has stopped: the whole chunk is taken, and nothing changes but NSCC_PART_ANSWERED and NSCC_PART_TAKEN;
- *   - else 28: NSCC_PART_AT, the piece and the chunk have 2^48 bytes or more. No byte is taken, and the chunk is no part of the log.
- * Else records are answered as nscc_replay answers them until nothing whole is left, replay stops or the answers' room is full. A length and a kind that are no
- * record's are refused with 12 as soon as both are there, a record that is not whole only where the log has ended.
- * Where the room is full, no byte is taken that no answer needed: hand in the rest of the chunk again, with room for at least one answer. Else the whole chunk
- * is taken, and what is left of it stays in the piece; nothing where replay has stopped. The piece's room behind what it holds is then zeros. The room behind
- * the answers given is left as it was. The state's words are looked at and written as by nscc_replay.
+ * Replays a log that comes in chunks of any length, possibly of none, with records cut anywhere:
+ * the piece's bytes, then the chunk's. ended says that the log has ended with this chunk; a chunk
+ * of no bytes may say so by itself. The answers of all calls are those of nscc_replay on the joined
+ * log. Answers 0, 2 or 28, the latter two with nothing changed:
+ *   - 2: a wrong length of part, piece or state, a word of part that is not as above, or a state
+ *     and buffers that don't hold together;
+ *   - else 0 where replay has stopped: the whole chunk is taken, and nothing changes but
+ *     NSCC_PART_ANSWERED and NSCC_PART_TAKEN;
+ *   - else 28: NSCC_PART_AT, the piece and the chunk have 2^48 bytes or more. No byte is taken, and
+ *     the chunk is no part of the log.
+ * Else records are answered as nscc_replay answers them until nothing whole is left, replay stops
+ * or the answers' room is full. A length and a kind that are no record's are refused with 12 as
+ * soon as both are there, a record that is not whole only where the log has ended. Where the room
+ * is full, no byte is taken that no answer needed: hand in the rest of the chunk again, with room
+ * for at least one answer. Else the whole chunk is taken, and what is left of it stays in the
+ * piece; nothing where replay has stopped. The piece's room behind what it holds is then zeros. The
+ * room behind the answers given is left as it was. The state's words are looked at and written as
+ * by nscc_replay.
  */
 uint32_t nscc_chunk(uint64_t *part, size_t part_len, uint8_t *piece, size_t piece_len, uint64_t *state, size_t state_len,
                     uint8_t *status, size_t status_len, uint32_t *size, size_t size_len, uint64_t *sent, size_t sent_len,

@@ -54,7 +54,7 @@ fn limits(word: Word, state: &State) -> (u64, u64) {
     match word {
         Word::QuickAdaptOff | Word::Fast | Word::Trigger => (0, 1),
         Word::Held => (0, u64::from(COUNT_END) - 1),
-        Word::BacklogBytes => (0, BACKLOG_MAX),
+        Word::Backlog => (0, BACKLOG_MAX),
         Word::InFlight => (0, settings.max_wnd.wrapping_add(IN_FLIGHT_ADDED as u64)),
         Word::Cwnd => (settings.mtu, most_cwnd(state)),
         Word::Base => (least_base(state), settings.config_base_rtt),

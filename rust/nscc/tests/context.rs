@@ -53,7 +53,7 @@ fn the_worked_example() {
     assert_eq!(context.ack(&worked_ack()), Ok(Sample::Taken));
     assert_eq!(context.in_flight(), 0);
     assert_eq!(context.word(Word::Cwnd), 614_400);
-    assert_eq!(context.word(Word::BacklogBytes), 4096);
+    assert_eq!(context.word(Word::Backlog), 4096);
     assert_eq!(context.phase(), Some(Phase::Ready));
 }
 

@@ -8,12 +8,16 @@ use std::fmt::Debug;
 
 const HEADER: &str = include_str!("../../../include/nscc.h");
 
-/// The names of an enum in their order, without `NSCC_`, and their numbers where the header has any.
-fn names(of: &str) -> Vec<(String, Option<u32>)> {
+/// The names of an enum in their order, without its own prefix, and their numbers where the header
+/// has any.
+fn names(of: &str, prefix: &str) -> Vec<(String, Option<u32>)> {
     let start = HEADER.find(&format!("enum {of} {{")).expect("the enum");
     let body = &HEADER[start..][..HEADER[start..].find("};").expect("its end")];
     let words = body.lines().map(str::trim);
-    let names = words.filter_map(|line| line.strip_prefix("NSCC_"));
+    let names = words.filter(|line| line.starts_with("NSCC_")).map(|line| {
+        line.strip_prefix(prefix)
+            .unwrap_or_else(|| panic!("{line} is no name of {of}"))
+    });
     let named = names.map(|line| {
         let end = line.find([',', ' ', '/']).unwrap_or(line.len());
         let number = line[end..].strip_prefix(" = ").map(|rest| {
@@ -39,10 +43,10 @@ fn same_order(header: &[(String, Option<u32>)], ours: &[impl Debug]) {
 
 #[test]
 fn words() {
-    let mut header = names("nscc_setting");
-    assert_eq!(header.pop().expect("the last").0, "SETTINGS");
+    let mut header = names("nscc_setting", "NSCC_SETTING_");
+    assert_eq!(header.pop().expect("the last").0, "WORDS");
     assert_eq!(header.len(), SETTINGS);
-    header.extend(names("nscc_word"));
+    header.extend(names("nscc_state", "NSCC_STATE_"));
     assert_eq!(header.pop().expect("the last").0, "WORDS");
     assert_eq!(header.len(), WORDS);
     same_order(&header, &Word::ALL);
@@ -50,8 +54,8 @@ fn words() {
 
 #[test]
 fn place() {
-    let mut header = names("nscc_place");
-    assert_eq!(header.pop().expect("the last").0, "PLACE");
+    let mut header = names("nscc_place", "NSCC_PLACE_");
+    assert_eq!(header.pop().expect("the last").0, "WORDS");
     assert_eq!(header.len(), PLACE);
     let ours = [
         PlaceWord::At,
@@ -64,12 +68,9 @@ fn place() {
 
 #[test]
 fn part() {
-    let mut header = names("nscc_part");
-    assert_eq!(header.pop().expect("the last").0, "PART");
+    let mut header = names("nscc_part", "NSCC_PART_");
+    assert_eq!(header.pop().expect("the last").0, "WORDS");
     assert_eq!(header.len(), PART);
-    for (name, _) in &mut header {
-        *name = name.replacen("PART_", "", 1);
-    }
     let ours = [
         PartWord::At,
         PartWord::Done,
@@ -83,34 +84,41 @@ fn part() {
 
 #[test]
 fn refusals() {
-    let header = names("nscc_refusal");
+    let header = names("nscc_refusal", "NSCC_");
     assert_eq!(header.len(), 19);
     assert_eq!(header[0], ("ACCEPTED".to_string(), Some(0)));
     for (name, number) in &header[1..] {
         let refusal = number.and_then(Refusal::of).expect("a refusal");
-        // The names of C's enums share one space, where TRIGGER is a word of the state.
-        let name = name.strip_prefix("BAD_").unwrap_or(name);
+        let name = name.strip_prefix("REFUSED_").expect("its enum's name");
         assert_eq!(letters(refusal), letters(name));
     }
 }
 
 #[test]
 fn samples() {
-    let header = names("nscc_sample");
-    assert_eq!(header[0], ("SAMPLE_UNTOLD".to_string(), Some(0)));
+    let header = names("nscc_sample", "NSCC_SAMPLE_");
+    assert_eq!(header[0], ("UNTOLD".to_string(), Some(0)));
     assert_eq!(header.len(), 1 + Sample::ALL.len());
     for ((name, number), sample) in header[1..].iter().zip(Sample::ALL) {
         assert_eq!(*number, Some(sample.number().into()));
-        let name = name.strip_prefix("SAMPLE_").expect("its enum's name");
         assert_eq!(letters(sample), letters(name));
     }
+}
+
+/// The command tells the header's version.
+#[test]
+fn version() {
+    let start = HEADER.find("#define NSCC_VERSION \"").expect("the version");
+    let version = HEADER[start..].split('"').nth(1).expect("its text");
+    let program = include_str!("../../../crates/nscc/src/main.rt");
+    assert!(program.contains(&format!("b\"nscc {version}\\n\"")));
 }
 
 #[test]
 fn numbers() {
     assert!(HEADER.contains(&format!("#define NSCC_EVS_MIN {EVS_MIN}\n")));
     assert!(HEADER.contains(&format!("#define NSCC_EVS_MAX {EVS_MAX}\n")));
-    assert!(HEADER.contains(&format!("#define NSCC_PIECE {PIECE}\n")));
+    assert!(HEADER.contains(&format!("#define NSCC_PIECE_BYTES {PIECE}\n")));
     let added = format!("#define NSCC_IN_FLIGHT_ADDED {IN_FLIGHT_ADDED}\n");
     assert!(HEADER.contains(&added));
 }
