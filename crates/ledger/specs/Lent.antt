@@ -11,14 +11,14 @@ abbrev pub Slice : Type 0
 Slice = RefT (List ℕ)
 
 -- a slice before and after the call, as an `ensures` sees it; of a slice that is lent to be read only, both are one
-abbrev pub Lent : Type 0
-Lent = Both Slice Slice
+abbrev pub LentSlice : Type 0
+LentSlice = Both Slice Slice
 
 abbrev pub ringGiven : Slice → Slice → Slice → Slice → Ring
 ringGiven status size sent resent = ring (status .now) (size .now) (sent .now) (resent .now)
 
-abbrev pub ringBefore : Lent → Lent → Lent → Lent → Ring
+abbrev pub ringBefore : LentSlice → LentSlice → LentSlice → LentSlice → Ring
 ringBefore status size sent resent = ringGiven (status .entry) (size .entry) (sent .entry) (resent .entry)
 
-abbrev pub ringAfter : Lent → Lent → Lent → Lent → Ring
+abbrev pub ringAfter : LentSlice → LentSlice → LentSlice → LentSlice → Ring
 ringAfter status size sent resent = ringGiven (status .exit) (size .exit) (sent .exit) (resent .exit)
