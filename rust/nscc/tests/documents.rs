@@ -1,6 +1,6 @@
 //! What the documents say of the repository is so: the README's map is that of `crates.txt`, its
-//! example is the program's, every file that is named is there, every theorem stands in the file that
-//! is named for it, and every public function has its wrong answers.
+//! example is the program's, every file that is named is there, every theorem stands in the file
+//! that is named for it, and every public function has its wrong answers.
 
 use std::collections::{BTreeMap, BTreeSet};
 use std::fs;
@@ -9,7 +9,7 @@ use std::path::{Path, PathBuf};
 /// The toolchain's own crates, which the map leaves out.
 const KIT: [&str; 5] = ["check", "io", "libc", "os", "std"];
 
-/// A word in backticks with one of these endings names a file of the repository, by its path from the root.
+/// A word in backticks with one of these endings names a file, by its path from the root.
 const ENDINGS: [&str; 9] = [
     ".antt", ".c", ".edit", ".h", ".log", ".md", ".out", ".rs", ".rt",
 ];
@@ -28,14 +28,20 @@ fn text(path: &str) -> String {
     fs::read_to_string(root().join(path)).unwrap_or_else(|error| panic!("{path}: {error}"))
 }
 
-/// The README, and every document of `docs/` but the notes of `docs/changes/`, which are of their day.
-fn documents() -> Vec<String> {
-    let listed = fs::read_dir(root().join("docs")).expect("docs");
+/// The documents of a folder.
+fn markdown(folder: &str) -> Vec<String> {
+    let listed = fs::read_dir(root().join(folder)).expect("a folder");
     let names = listed.map(|entry| entry.expect("an entry").file_name());
-    let names = names.map(|name| format!("docs/{}", name.to_str().expect("a name")));
+    let names = names.map(|name| format!("{folder}/{}", name.to_str().expect("a name")));
     let mut all: Vec<String> = names.filter(|name| name.ends_with(".md")).collect();
-    all.push("README.md".to_string());
     all.sort();
+    all
+}
+
+/// All but the notes of `docs/changes`, which are of their day.
+fn documents() -> Vec<String> {
+    let mut all = markdown("docs");
+    all.push("README.md".to_string());
     all
 }
 
@@ -109,12 +115,6 @@ fn tops() -> BTreeSet<String> {
     names.filter(|name| name != "target").collect()
 }
 
-/// `crates/NAME/src` stands for many.
-fn is_pattern(word: &str) -> bool {
-    let letters = |part: &str| part.bytes().all(|b| b.is_ascii_uppercase()) && !part.is_empty();
-    word.split(['/', '.']).any(letters) && !Path::new(word).extension().is_some_and(|e| e == "md")
-}
-
 #[test]
 fn every_crate_is_drawn() {
     let drawn: Vec<String> = drawn().into_keys().collect();
@@ -182,10 +182,8 @@ fn every_file_is_there() {
         let folder = root().join(&document);
         let folder = folder.parent().expect("a folder");
         for target in links(&text) {
-            if !folder
-                .join(target.split('#').next().expect("a first"))
-                .exists()
-            {
+            let file = target.split('#').next().expect("a first");
+            if !folder.join(file).exists() {
                 missing.push(format!("{document}: {target}"));
             }
         }
@@ -193,7 +191,8 @@ fn every_file_is_there() {
             let top = word.split('/').next().expect("a first");
             let names = tops.contains(top) && word.contains('/');
             let ends = ENDINGS.iter().any(|ending| word.ends_with(ending));
-            let made = top == "target" || is_pattern(&word);
+            // What is built, and `crates/NAME/..`, which stands for many.
+            let made = top == "target" || word.contains("/NAME/");
             if (names || ends) && !made && !root().join(&word).exists() {
                 missing.push(format!("{document}: {word}"));
             }
@@ -202,7 +201,7 @@ fn every_file_is_there() {
     assert!(missing.is_empty(), "{missing:#?}");
 }
 
-/// In `docs/THEOREMS.md` a row of a table of theorems has their names in its first cell and files in its last.
+/// A row of a table of theorems has their names in its first cell and files in its last.
 #[test]
 fn every_theorem_stands_where_it_is_said_to() {
     let text = text("docs/THEOREMS.md");
@@ -216,15 +215,9 @@ fn every_theorem_stands_where_it_is_said_to() {
         let files: Vec<String> = files.iter().map(|path| self::text(path)).collect();
         for name in quoted(cells[0]) {
             let start = format!("{name} :");
-            let mut lines = files
-                .iter()
-                .flat_map(|file| file.lines().map(str::trim_start));
-            let declares = |line: &str| {
-                line.strip_prefix("pub ")
-                    .unwrap_or(line)
-                    .starts_with(&start)
-            };
-            if lines.any(declares) {
+            let lines = files.iter().flat_map(|file| file.lines());
+            let mut lines = lines.map(|line| line.trim_start().trim_start_matches("pub "));
+            if lines.any(|line| line.starts_with(&start)) {
                 found += 1;
             } else {
                 missing.push(name);
@@ -282,7 +275,10 @@ fn every_public_function_has_its_wrong_answers() {
 #[test]
 fn prose_has_one_width() {
     let mut wide = Vec::new();
-    for document in documents() {
+    let mut all = documents();
+    all.extend(markdown("docs/changes"));
+    all.extend(markdown("rust/model"));
+    for document in all {
         let text = text(&document);
         let prose = text.split("```").step_by(2).flat_map(str::lines);
         let prose = prose.filter(|line| !line.starts_with("    ") && !line.starts_with('|'));
