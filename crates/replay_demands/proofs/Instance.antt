@@ -30,10 +30,10 @@ use Rattle.sender.specs.Events.{decided, onNewData, onSend, onAck}
 use Rattle.sender.specs.World.{World, world, Answered}
 use Rattle.sender.specs.Start.{noSettings, freshState, onSetUp}
 use Rattle.log_records.specs.Layout.{lookUp}
-use Rattle.log_records.specs.Parse.{properOf, checked, wholeOf, frontOf, parseAt}
+use Rattle.log_records.specs.Parse.{properOf, checkOf, wholeOf, frontOf, parseAt}
 use Rattle.log_records.specs.Logs.{readIn, readFrom, recordsOf}
-use Rattle.log_records.specs.declared.Record.{Record}
-use Rattle.log_records.specs.declared.Record.the-variants as log
+use Rattle.log_records.specs.declared.record.Record.{Record}
+use Rattle.log_records.specs.declared.record.Record.the-variants as log
 use Rattle.replay.specs.Places.{Turning}
 use Rattle.demands.specs.Cases.{settingsE}
 use Rattle.demands.specs.Events.{Event, newData, send, ack}
@@ -81,11 +81,11 @@ unfoldable pub lent : World
 lent = world (freshState noSettings) (ring (replicate 64 0) (replicate 64 0) (replicate 64 0) (replicate 64 0)) (replicate 256 0)
 
 worked-read : recordsOf worked ≡ first ∷ behind
-unfolding worked readFrom readIn parseAt frontOf lookUp wholeOf checked properOf ifSo ifLt ifEq numberAt littleEndian
+unfolding worked readFrom readIn parseAt frontOf lookUp wholeOf checkOf properOf ifSo ifLt ifEq numberAt littleEndian
 worked-read = refl
 
 worked-last : lastOf worked ≡ 0
-unfolding worked readFrom readIn parseAt frontOf lookUp wholeOf checked properOf ifSo ifLt ifEq numberAt littleEndian
+unfolding worked readFrom readIn parseAt frontOf lookUp wholeOf checkOf properOf ifSo ifLt ifEq numberAt littleEndian
 worked-last = refl
 
 pub worked-opened : Opened worked lent settingsE behind

@@ -12,9 +12,9 @@ use Rattle.window.specs.declared.Settings.{Settings}
 use Rattle.sender.specs.World.{World, Answered}
 use Rattle.log_records.specs.Logs.{stopOf}
 use Rattle.log_records.specs.Parse.{parseAt, parsedNumber}
-use Rattle.log_records.specs.declared.Parsed.{Parsed}
-use Rattle.log_records.specs.declared.Parsed.the-variants.{Whole, End, Cut, Malformed}
-use Rattle.log_records.specs.declared.Record.{Record}
+use Rattle.log_records.specs.declared.parse.Parsed.{Parsed}
+use Rattle.log_records.specs.declared.parse.Parsed.the-variants.{Whole, End, Cut, Malformed}
+use Rattle.log_records.specs.declared.record.Record.{Record}
 use Rattle.replay.specs.Places.{Feed, logged, Turning, placeAfter, turnOf, turnsOf}
 use Rattle.replay.specs.Records.{eventOf}
 use Rattle.replay.specs.declared.Place.{Place}

@@ -20,9 +20,9 @@ use Rattle.sender.specs.Statements.{First}
 use Rattle.log_records.specs.Parse.{parseAt, parsedNumber}
 use Rattle.log_records.specs.Logs.{Reading, readFrom, recordsOf, stopOf}
 use Rattle.log_records.specs.Statements.{Run, ended, refused, onward}
-use Rattle.log_records.specs.declared.Record.{Record}
-use Rattle.log_records.specs.declared.Parsed.{Parsed}
-use Rattle.log_records.specs.declared.Parsed.the-variants.{Whole, End, Cut, Malformed}
+use Rattle.log_records.specs.declared.record.Record.{Record}
+use Rattle.log_records.specs.declared.parse.Parsed.{Parsed}
+use Rattle.log_records.specs.declared.parse.Parsed.the-variants.{Whole, End, Cut, Malformed}
 use Rattle.log_records.proofs.Logs.{read-on, read-end, read-twelve}
 use Rattle.log_records.proofs.Runs.{every-log}
 use Rattle.replay.specs.Answers.{malformed, shownSays, shownPath, shownFirst, onFirst, onLater, onEvent}

@@ -14,8 +14,8 @@ use Rattle.sender.specs.Start.{onSetUp}
 use Rattle.log_records.specs.Parse.{parseAt}
 use Rattle.log_records.specs.Logs.{Reading, readFrom}
 use Rattle.log_records.specs.Statements.{Run, ended, refused, onward}
-use Rattle.log_records.specs.declared.Record.{Record}
-use Rattle.log_records.specs.declared.Parsed.the-variants.{Whole}
+use Rattle.log_records.specs.declared.record.Record.{Record}
+use Rattle.log_records.specs.declared.parse.Parsed.the-variants.{Whole}
 use Rattle.log_records.proofs.Logs.{read-on}
 use Rattle.log_records.proofs.Runs.{every-log}
 use Rattle.replay.specs.Answers.{malformed, shownFirst, onFirst}

@@ -6,7 +6,7 @@ use lib.ListN.{length, take}
 use lib.Seq.{take-at, take-append-seam, take-append-add}
 use Rattle.window.specs.declared.Settings.{Settings}
 use Rattle.sender.specs.World.{World, ledgerOf}
-use Rattle.log_records.specs.declared.Record.{Record}
+use Rattle.log_records.specs.declared.record.Record.{Record}
 use Rattle.demands.specs.Events.{Event, answer, run, SetUp}
 use Rattle.demands.specs.Burst.{Arrival, deliver}
 use Rattle.demands.proofs.Theorems as demands

@@ -17,7 +17,7 @@ use Rattle.sender.specs.World.{World, ledgerOf}
 use Rattle.sender.specs.Sound.{sound}
 use Rattle.sender.specs.Events.{onAck}
 use Rattle.sender.specs.declared.Ack.{Ack}
-use Rattle.log_records.specs.declared.Record.{Record}
+use Rattle.log_records.specs.declared.record.Record.{Record}
 use Rattle.replay.specs.Places.{Turning}
 use Rattle.demands.specs.Events.{Event, answer, run}
 use Rattle.demands.specs.Sums.{noPast, sentBy, reportedBy, lostBy, sum}

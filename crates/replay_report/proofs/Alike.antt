@@ -10,11 +10,11 @@ use native.Mathlib.Omega.{arith}
 use Rattle.rules.specs.Branch.{ifLt, ifEq, so-yes, so-both, lt-yes, lt-no, lt-both}
 use Rattle.log_bytes.specs.Little.{littleEndian, numberAt}
 use Rattle.log_records.specs.Layout.{Row, Maker, newData, send, ack, nack, loss, path, settings, settingsEvs, table, key, keyOf, lookUp, readFields, read}
-use Rattle.log_records.specs.Parse.{lenAt, kindAt, properOf, checked, wholeOf, frontOf, parseAt}
-use Rattle.log_records.specs.declared.Record.{Record}
-use Rattle.log_records.specs.declared.Record.the-variants.{Ack}
-use Rattle.log_records.specs.declared.Parsed.{Parsed}
-use Rattle.log_records.specs.declared.Parsed.the-variants.{Whole, End, Cut, Malformed}
+use Rattle.log_records.specs.Parse.{lenAt, kindAt, properOf, checkOf, wholeOf, frontOf, parseAt}
+use Rattle.log_records.specs.declared.record.Record.{Record}
+use Rattle.log_records.specs.declared.record.Record.the-variants.{Ack}
+use Rattle.log_records.specs.declared.parse.Parsed.{Parsed}
+use Rattle.log_records.specs.declared.parse.Parsed.the-variants.{Whole, End, Cut, Malformed}
 use Rattle.log_records.proofs.Fields.{total}
 use Rattle.log_records.proofs.Rows.{Each, each-map, look-each, look-two}
 use Rattle.replay_report.specs.Ambiguous.{serviceFirst, serviceLast}
@@ -72,7 +72,7 @@ no-cut e = let z : _≡_ {A = ℕ} 0 1 = cc in absurd (let clash : ⊥ = omega a
 
 module _ (at : ℕ) (bs : List ℕ) (x : Row) (r : Record) (next : ℕ) where
   told : wholeOf at bs x ≡ Whole r next → Told at bs x r next
-  unfolding wholeOf checked
+  unfolding wholeOf checkOf
   told =
       let P : Parsed → Type 0 = λ p. p ≡ Whole r next → Told at bs x r next in
       lt-both P (length bs) (x .len + 2) Cut _ (λ _ e. no-cut e)
@@ -85,7 +85,7 @@ module _ (at : ℕ) (bs : List ℕ) (x : Row) (r : Record) (next : ℕ) where
       (λ _ e. no-record e))
 
   whole-of : Told at bs x r next → wholeOf at bs x ≡ Whole r next
-  unfolding wholeOf checked
+  unfolding wholeOf checkOf
   whole-of t =
       sym (lt-no (length bs) (x .len + 2) (Whole r next) Cut _ (t .there)
       (so-yes (properOf (read x bs)) _ _ Malformed (ap properOf (t .is) ∙ t .proper) (sym (ap (Whole (read x bs)) (sym (t .past)) ∙ ap (λ (y : Record). Whole y next) (t .is)))))

@@ -14,10 +14,10 @@ use Rattle.window.specs.declared.Sampling.the-variants.{Taken, Cut, Gone, Ambig
 use Rattle.sender.specs.World.{World}
 use Rattle.sender.specs.declared.Ack.{Ack}
 use Rattle.log_records.specs.Parse.{parseAt}
-use Rattle.log_records.specs.declared.Record.{Record}
-use Rattle.log_records.specs.declared.Record.the-variants as rec
-use Rattle.log_records.specs.declared.Parsed.{Parsed}
-use Rattle.log_records.specs.declared.Parsed.the-variants as parsed
+use Rattle.log_records.specs.declared.record.Record.{Record}
+use Rattle.log_records.specs.declared.record.Record.the-variants as rec
+use Rattle.log_records.specs.declared.parse.Parsed.{Parsed}
+use Rattle.log_records.specs.declared.parse.Parsed.the-variants as parsed
 use Rattle.replay.specs.Answers.{onEvent}
 use Rattle.replay.specs.Batches.{kindOf, filled, batchOf}
 use Rattle.replay.specs.Places.{logged, foundIn, foundFrom, foundAt, endFrom, Turning, over, placeAfter, turned, onFound, turnOf, turnsIn, turnsOf, lastPlace, lastWorld}

@@ -37,11 +37,11 @@ use Rattle.sender.specs.Start.{noSettings, freshState, onSetUp}
 use Rattle.sender.specs.Steps.{stateOf, settled, avoidedIn, newDataState, newDataStep, sendStep, ackSampling, lossStep}
 use Rattle.sender.specs.Events.{decided, says, onNewData, onSend, onAck, onLoss}
 use Rattle.log_records.specs.Layout.{lookUp}
-use Rattle.log_records.specs.Parse.{properOf, checked, wholeOf, frontOf, parseAt}
+use Rattle.log_records.specs.Parse.{properOf, checkOf, wholeOf, frontOf, parseAt}
 use Rattle.log_records.specs.Write.{recordBytes}
-use Rattle.log_records.specs.declared.Settings.{Settings}
-use Rattle.log_records.specs.declared.Record.{Record}
-use Rattle.log_records.specs.declared.Record.the-variants.{NewData, Send, Ack, Loss, SetUp}
+use Rattle.log_records.specs.declared.record.Settings.{Settings}
+use Rattle.log_records.specs.declared.record.Record.{Record}
+use Rattle.log_records.specs.declared.record.Record.the-variants.{NewData, Send, Ack, Loss, SetUp}
 use Rattle.replay.specs.Answers.{shownSays, shownFirst, onFirst, onLater, onEvent}
 use Rattle.replay.specs.Batches.{kindOf}
 use Rattle.replay.specs.Places.{logged, Turning, foundIn, foundFrom, endFrom, placeAfter, onFound, turnOf, turnsIn, turnsOf}
@@ -188,7 +188,7 @@ pub record Replayed : Type 0 where
   pub far : lastShown (turnsFrom (onceLog 104)) ≡ Sample (Taken 26)
 
 pub replayed : Replayed
-unfolding resentLog onceLog lent recordBytes bytesOf littleEndian numberAt lookUp properOf checked wholeOf frontOf parseAt kindOf turnsOf turnsIn turnOf
+unfolding resentLog onceLog lent recordBytes bytesOf littleEndian numberAt lookUp properOf checkOf wholeOf frontOf parseAt kindOf turnsOf turnsIn turnOf
     onFound placeAfter foundIn foundFrom endFrom shownSays shownFirst onFirst onLater onEvent ifSo ifLt ifEq inside firstOf onSetUp freshState noSettings
     freshOf inRange isEvCount isRing isCapacity allTo leadingZeros minus plus bitOf covered backOf spanOf unsentOrOld aheadOf forwardOf ceilingOf isHeld
     oneSend cutOf samplingOf shrunkOf lossOf firesOf restartedOf adaptedOf isFlying isMarked isDone isOut flyingOne markedOne markedSize sumOf inBounds
