@@ -13,7 +13,9 @@ use Rattle.rules.specs.Test.{both, whole}
 use Rattle.window.specs.declared.Settings.{Settings}
 use Rattle.sender.specs.Start.{noSettings, freshState}
 use Rattle.sender.specs.declared.Controller.{Controller}
-use Rattle.c_state.specs.Layout.{wordCount, fieldEnd, inFlightAdded, inFlightMost, word, stateFrom, wordsOk, unpacked}
+use Rattle.c_state.specs.Places as place
+use Rattle.c_state.specs.Layout.{wordCount, fieldEnd, flagEnd, phaseEnd, inFlightAdded, inFlightMost, word}
+use Rattle.c_state.specs.Layout.{stateFrom, wordsOk, unpacked}
 use Rattle.c_state.specs.Statements.{WordsFacts}
 
 -- the last bound of a row of them, and the bounds before it
@@ -26,25 +28,25 @@ module _ (ws : List ℕ) where
   pub words-facts : wordsOk ws ≡ true → WordsFacts ws
   unfolding wordsOk
   words-facts e =
-      let phase = below _ (word ws 38) 4 e in
-      let cursor = below _ (word ws 37) fieldEnd (phase .0) in
-      let trigger = below _ (word ws 32) 2 (cursor .0) in
-      let fast = below _ (word ws 31) 2 (trigger .0) in
-      let in-flight = below _ (word ws 21) (inFlightMost + inFlightAdded + 1) (fast .0) in
-      let marked = below _ (word ws 19) fieldEnd (in-flight .0) in
-      let flying = below _ (word ws 18) fieldEnd (marked .0) in
-      let held = below _ (word ws 16) fieldEnd (flying .0) in
-      let next = below _ (word ws 15) fieldEnd (held .0) in
-      let low = below _ (word ws 14) fieldEnd (next .0) in
-      let off = below _ (word ws 13) 2 (low .0) in
-      let psn = below (eqb (length ws) wordCount) (word ws 12) fieldEnd (off .0) in
+      let phase = below _ (word ws place.phase) phaseEnd e in
+      let cursor = below _ (word ws place.cursor) fieldEnd (phase .0) in
+      let trigger = below _ (word ws place.trigger) flagEnd (cursor .0) in
+      let fast = below _ (word ws place.fast) flagEnd (trigger .0) in
+      let in-flight = below _ (word ws place.inFlight) (inFlightMost + inFlightAdded + 1) (fast .0) in
+      let marked = below _ (word ws place.marked) fieldEnd (in-flight .0) in
+      let flying = below _ (word ws place.flying) fieldEnd (marked .0) in
+      let held = below _ (word ws place.held) fieldEnd (flying .0) in
+      let next = below _ (word ws place.next) fieldEnd (held .0) in
+      let low = below _ (word ws place.low) fieldEnd (next .0) in
+      let off = below _ (word ws place.quickAdaptOff) flagEnd (low .0) in
+      let psn = below (eqb (length ws) wordCount) (word ws place.firstPsn) fieldEnd (off .0) in
       let long = eqb-true (length ws) wordCount (psn .0) in
       omega arith
 
   pub facts-words : WordsFacts ws → wordsOk ws ≡ true
   unfolding wordsOk
   facts-words W =
-      let in-flight : word ws 21 < inFlightMost + inFlightAdded + 1 = omega arith in
+      let in-flight : word ws place.inFlight < inFlightMost + inFlightAdded + 1 = omega arith in
       search (whole, eq-eqb, lt-ltb) depth 20
 
   pub not-long : (length ws ≡ wordCount → ⊥) → false ≡ wordsOk ws
@@ -53,9 +55,12 @@ module _ (ws : List ℕ) where
 
   -- of the right length, the rest of the test is left
   pub rest-left : length ws ≡ wordCount →
-      (ltb (word ws 12) fieldEnd && ltb (word ws 13) 2 && ltb (word ws 14) fieldEnd && ltb (word ws 15) fieldEnd && ltb (word ws 16) fieldEnd
-      && ltb (word ws 18) fieldEnd && ltb (word ws 19) fieldEnd && ltb (word ws 21) (inFlightMost + inFlightAdded + 1)
-      && ltb (word ws 31) 2 && ltb (word ws 32) 2 && ltb (word ws 37) fieldEnd && ltb (word ws 38) 4) ≡ wordsOk ws
+      (ltb (word ws place.firstPsn) fieldEnd && ltb (word ws place.quickAdaptOff) flagEnd
+      && ltb (word ws place.low) fieldEnd && ltb (word ws place.next) fieldEnd && ltb (word ws place.held) fieldEnd
+      && ltb (word ws place.flying) fieldEnd && ltb (word ws place.marked) fieldEnd
+      && ltb (word ws place.inFlight) (inFlightMost + inFlightAdded + 1)
+      && ltb (word ws place.fast) flagEnd && ltb (word ws place.trigger) flagEnd
+      && ltb (word ws place.cursor) fieldEnd && ltb (word ws place.phase) phaseEnd) ≡ wordsOk ws
   unfolding wordsOk
   rest-left h = rw (eq-eqb (length ws) wordCount h)
 

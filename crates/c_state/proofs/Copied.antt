@@ -24,7 +24,8 @@ module _ (from to : List ℕ) where
       record {
         within = omega arith;
         long = length-set to k (getD from k 0) ∙ C .long;
-        same = rw (add-one k, take-suc-set to k (getD from k 0), take-suc from k 0) (ap (λ (l : List ℕ). l ++ (getD from k 0 ∷ [])) (C .same));
+        same = rw (add-one k, take-suc-set to k (getD from k 0), take-suc from k 0)
+            (ap (λ (l : List ℕ). l ++ (getD from k 0 ∷ [])) (C .same));
       }
 
   pub copied-all : (k : ℕ) → Copied from to k → length from ≤ k → to ≡ from

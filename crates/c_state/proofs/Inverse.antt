@@ -1,5 +1,5 @@
--- READING WORDS AND WRITING A STATE ARE INVERSE: words that are a state's are written back as they were (`pack-unpack`), and a state that the machine can hold
--- is read back as it was (`unpack-pack`); a state that passes number 2 is such a state (`sound-machine`).
+-- READING WORDS AND WRITING A STATE ARE INVERSE: words that are a state's are written back as they were (`pack-unpack`), and a state that
+-- the machine can hold is read back as it was (`unpack-pack`); a state that passes number 2 is such a state (`sound-machine`).
 -- Assumes nothing.
 use mathlib.Core.Path.{_≡_, refl, sym, _∙_}
 use mathlib.Core.Bool.{Bool, true, false}
@@ -21,7 +21,9 @@ use Rattle.sender.specs.declared.Controller.{Controller}
 use Rattle.sender.specs.declared.Phase.{Phase}
 use Rattle.sender.specs.declared.Phase.the-variants.{Idle, Pending, Ready, Active}
 use Rattle.sender.proofs.Sounds.{sound-facts, sound-coheres, sound-bounded}
-use Rattle.c_state.specs.Layout.{wordCount, bit, stateWords, word, settingsFrom, flowFrom, totalsFrom, windowFrom, phaseFrom, stateFrom, wordsOk}
+use Rattle.c_state.specs.Places as place
+use Rattle.c_state.specs.Layout.{wordCount, flagEnd, phaseEnd, bit, stateWords, word}
+use Rattle.c_state.specs.Layout.{settingsFrom, flowFrom, totalsFrom, windowFrom, phaseFrom, stateFrom, wordsOk}
 use Rattle.c_state.specs.Statements.{WordsFacts, Machine}
 use Rattle.c_state.proofs.Checked.{words-facts, facts-words}
 use Rattle.c_state.proofs.InFlight.{word-most, word-back, back-word}
@@ -33,13 +35,13 @@ unfolding bit
 flag-bit true = refl
 flag-bit false = refl
 
-bit-flag : (n : ℕ) → n < 2 → bit (eqb n 1) ≡ n
+bit-flag : (n : ℕ) → n < flagEnd → bit (eqb n 1) ≡ n
 unfolding bit
 bit-flag zero h = refl
 bit-flag (suc zero) h = refl
 bit-flag (suc (suc n)) h = absurd (let k : ⊥ = omega arith in k)
 
-bit-below : (b : Bool) → bit b < 2
+bit-below : (b : Bool) → bit b < flagEnd
 unfolding bit
 bit-below true = omega arith
 bit-below false = omega arith
@@ -51,7 +53,7 @@ name-back Pending = refl
 name-back Ready = refl
 name-back Active = refl
 
-number-back : (n : ℕ) → n < 4 → phaseNumber (phaseFrom n) ≡ n
+number-back : (n : ℕ) → n < phaseEnd → phaseNumber (phaseFrom n) ≡ n
 unfolding phaseFrom ifEq phaseNumber
 number-back zero h = refl
 number-back (suc zero) h = refl
@@ -59,7 +61,7 @@ number-back (suc (suc zero)) h = refl
 number-back (suc (suc (suc zero))) h = refl
 number-back (suc (suc (suc (suc n)))) h = absurd (let k : ⊥ = omega arith in k)
 
-number-below : (p : Phase) → phaseNumber p < 4
+number-below : (p : Phase) → phaseNumber p < phaseEnd
 unfolding phaseNumber
 number-below Idle = omega arith
 number-below Pending = omega arith
@@ -79,11 +81,11 @@ unfolding stateWords stateFrom settingsFrom flowFrom totalsFrom windowFrom tabul
 pack-unpack ws ok =
     let W = words-facts ws ok in
     rw (
-      bit-flag (word ws 13) (W .quick-adapt-off),
-      back-word (word ws 21) (W .in-flight),
-      bit-flag (word ws 31) (W .fast),
-      bit-flag (word ws 32) (W .trigger),
-      number-back (word ws 38) (W .phase),
+      bit-flag (word ws place.quickAdaptOff) (W .quick-adapt-off),
+      back-word (word ws place.inFlight) (W .in-flight),
+      bit-flag (word ws place.fast) (W .fast),
+      bit-flag (word ws place.trigger) (W .trigger),
+      number-back (word ws place.phase) (W .phase),
     )
     (spelled ws wordCount (W .long))
 

@@ -1,5 +1,6 @@
--- The controller's state as words, in this order: the settings in document 01's order, the first PSN and the flag that disables quick adapt; low, next, held
--- and backlog; flying, marked, marked bytes and in-flight; the window; the clock, the path cursor and the state's name; the number of EVs (request M-110).
+-- The controller's state as words, in the order of `Places`: the settings in document 01's order, the first PSN and the flag that disables
+-- quick adapt; low, next, held and backlog; flying, marked, marked bytes and in-flight; the window; the clock, the path cursor and the
+-- state's name; the number of EVs (request M-110).
 -- Assumes nothing.
 use mathlib.Core.Bool.{Bool, true, false, _&&_}
 use mathlib.Core.List.{List, [], _∷_}
@@ -18,6 +19,7 @@ use Rattle.sender.specs.Start.{noSettings, freshState}
 use Rattle.sender.specs.declared.Controller.{Controller}
 use Rattle.sender.specs.declared.Phase.{Phase}
 use Rattle.sender.specs.declared.Phase.the-variants.{Idle, Pending, Ready, Active}
+use Rattle.c_state.specs.Places as place
 use Rattle.c_state.specs.declared.Unpacked.{Unpacked}
 
 -- how many words a state has
@@ -31,6 +33,14 @@ settingsCount = 12
 -- one past the largest number of a 32-bit field
 abbrev pub fieldEnd : ℕ
 fieldEnd = 2 ^ 32
+
+-- one past the largest flag, 0 or 1
+abbrev pub flagEnd : ℕ
+flagEnd = 2
+
+-- one past the number of the last of the four state names
+abbrev pub phaseEnd : ℕ
+phaseEnd = 4
 
 -- what is added to in-flight: "from -2^24 up to MaxWnd"
 abbrev pub inFlightAdded : ℕ
@@ -110,47 +120,52 @@ flag ws i = eqb (word ws i) 1
 unfoldable pub settingsFrom : List ℕ → ℕ → Bool → ℕ → Settings
 settingsFrom ws psn off evs =
     record {
-      mtu = word ws 0;
-      maxwnd = word ws 1;
-      «config_base_rtt» = word ws 2;
-      «target_qdelay» = word ws 3;
-      fi = word ws 4;
-      eta = word ws 5;
-      alpha = word ws 6;
-      gamma = word ws 7;
-      «max_md_jump» = word ws 8;
-      «adjust_period» = word ws 9;
-      «adjust_bytes» = word ws 10;
-      «qa_threshold» = word ws 11;
+      mtu = word ws place.mtu;
+      maxwnd = word ws place.maxwnd;
+      «config_base_rtt» = word ws place.configBaseRtt;
+      «target_qdelay» = word ws place.targetQdelay;
+      fi = word ws place.fi;
+      eta = word ws place.eta;
+      alpha = word ws place.alpha;
+      gamma = word ws place.gamma;
+      «max_md_jump» = word ws place.maxMdJump;
+      «adjust_period» = word ws place.adjustPeriod;
+      «adjust_bytes» = word ws place.adjustBytes;
+      «qa_threshold» = word ws place.qaThreshold;
       «first_psn» = psn;
       «quick_adapt_off» = off;
       «ev_count» = evs;
     }
 
 unfoldable pub flowFrom : List ℕ → Flow
-flowFrom ws = record { low = word ws 14; next = word ws 15; held = word ws 16; backlog = word ws 17 }
+flowFrom ws = record { low = word ws place.low; next = word ws place.next; held = word ws place.held; backlog = word ws place.backlog }
 
 unfoldable pub totalsFrom : List ℕ → Totals
 totalsFrom ws =
-    record { flying = word ws 18; marked = word ws 19; «marked_bytes» = word ws 20; «in_flight» = pos (word ws 21) -ℤ pos inFlightAdded }
+    record {
+      flying = word ws place.flying;
+      marked = word ws place.marked;
+      «marked_bytes» = word ws place.markedBytes;
+      «in_flight» = pos (word ws place.inFlight) -ℤ pos inFlightAdded;
+    }
 
 unfoldable pub windowFrom : List ℕ → Window
 windowFrom ws =
     record {
-      cwnd = word ws 22;
-      base = word ws 23;
-      avg = word ws 24;
-      «inc_bytes» = word ws 25;
-      received = word ws 26;
-      achieved = word ws 27;
-      ignored = word ws 28;
-      «bytes_to_ignore» = word ws 29;
-      «fi_count» = word ws 30;
-      fast = flag ws 31;
-      trigger = flag ws 32;
-      «qa_end» = word ws 33;
-      «last_adjust» = word ws 34;
-      «last_dec» = word ws 35;
+      cwnd = word ws place.cwnd;
+      base = word ws place.base;
+      avg = word ws place.avg;
+      «inc_bytes» = word ws place.incBytes;
+      received = word ws place.received;
+      achieved = word ws place.achieved;
+      ignored = word ws place.ignored;
+      «bytes_to_ignore» = word ws place.bytesToIgnore;
+      «fi_count» = word ws place.fiCount;
+      fast = flag ws place.fast;
+      trigger = flag ws place.trigger;
+      «qa_end» = word ws place.qaEnd;
+      «last_adjust» = word ws place.lastAdjust;
+      «last_dec» = word ws place.lastDec;
     }
 
 unfoldable pub phaseFrom : ℕ → Phase
@@ -159,13 +174,13 @@ phaseFrom n = ifEq n 0 Idle (ifEq n 1 Pending (ifEq n 2 Ready Active))
 unfoldable pub stateFrom : List ℕ → Controller
 stateFrom ws =
     record {
-      settings = settingsFrom ws (word ws 12) (flag ws 13) (word ws 39);
+      settings = settingsFrom ws (word ws place.firstPsn) (flag ws place.quickAdaptOff) (word ws place.evCount);
       flow = flowFrom ws;
       totals = totalsFrom ws;
       window = windowFrom ws;
-      clock = word ws 36;
-      cursor = word ws 37;
-      phase = phaseFrom (word ws 38);
+      clock = word ws place.clock;
+      cursor = word ws place.cursor;
+      phase = phaseFrom (word ws place.phase);
     }
 
 -- ---- words that are those of a state
@@ -174,18 +189,18 @@ stateFrom ws =
 unfoldable pub wordsOk : List ℕ → Bool
 wordsOk ws =
     eqb (length ws) wordCount
-    && ltb (word ws 12) fieldEnd
-    && ltb (word ws 13) 2
-    && ltb (word ws 14) fieldEnd
-    && ltb (word ws 15) fieldEnd
-    && ltb (word ws 16) fieldEnd
-    && ltb (word ws 18) fieldEnd
-    && ltb (word ws 19) fieldEnd
-    && ltb (word ws 21) (inFlightMost + inFlightAdded + 1)
-    && ltb (word ws 31) 2
-    && ltb (word ws 32) 2
-    && ltb (word ws 37) fieldEnd
-    && ltb (word ws 38) 4
+    && ltb (word ws place.firstPsn) fieldEnd
+    && ltb (word ws place.quickAdaptOff) flagEnd
+    && ltb (word ws place.low) fieldEnd
+    && ltb (word ws place.next) fieldEnd
+    && ltb (word ws place.held) fieldEnd
+    && ltb (word ws place.flying) fieldEnd
+    && ltb (word ws place.marked) fieldEnd
+    && ltb (word ws place.inFlight) (inFlightMost + inFlightAdded + 1)
+    && ltb (word ws place.fast) flagEnd
+    && ltb (word ws place.trigger) flagEnd
+    && ltb (word ws place.cursor) fieldEnd
+    && ltb (word ws place.phase) phaseEnd
 
 -- the state, or a state of zeros
 unfoldable pub unpacked : List ℕ → Unpacked

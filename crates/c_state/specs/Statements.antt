@@ -6,23 +6,24 @@ use Prim.Native.Nat.{ℕ, _+_, _≤_, _<_}
 use lib.ListN.{length}
 use Rattle.ledger.specs.Bounds.{Flown}
 use Rattle.sender.specs.declared.Controller.{Controller}
-use Rattle.c_state.specs.Layout.{wordCount, fieldEnd, inFlightAdded, inFlightMost, word}
+use Rattle.c_state.specs.Places as place
+use Rattle.c_state.specs.Layout.{wordCount, fieldEnd, flagEnd, phaseEnd, inFlightAdded, inFlightMost, word}
 
 -- the test of words, fact by fact
 pub record WordsFacts (ws : List ℕ) : Type 0 where
   pub long : length ws ≡ wordCount
-  pub first-psn : word ws 12 < fieldEnd
-  pub quick-adapt-off : word ws 13 < 2
-  pub low : word ws 14 < fieldEnd
-  pub next : word ws 15 < fieldEnd
-  pub held : word ws 16 < fieldEnd
-  pub flying : word ws 18 < fieldEnd
-  pub marked : word ws 19 < fieldEnd
-  pub in-flight : word ws 21 ≤ inFlightMost + inFlightAdded
-  pub fast : word ws 31 < 2
-  pub trigger : word ws 32 < 2
-  pub cursor : word ws 37 < fieldEnd
-  pub phase : word ws 38 < 4
+  pub first-psn : word ws place.firstPsn < fieldEnd
+  pub quick-adapt-off : word ws place.quickAdaptOff < flagEnd
+  pub low : word ws place.low < fieldEnd
+  pub next : word ws place.next < fieldEnd
+  pub held : word ws place.held < fieldEnd
+  pub flying : word ws place.flying < fieldEnd
+  pub marked : word ws place.marked < fieldEnd
+  pub in-flight : word ws place.inFlight ≤ inFlightMost + inFlightAdded
+  pub fast : word ws place.fast < flagEnd
+  pub trigger : word ws place.trigger < flagEnd
+  pub cursor : word ws place.cursor < fieldEnd
+  pub phase : word ws place.phase < phaseEnd
 
 -- a state that the machine can hold: 32-bit fields of 32 bits; and in-flight in its bounds for some MaxWnd
 pub record Machine (c : Controller) : Type 0 where

@@ -1,4 +1,6 @@
-// The controller's state as words, for callers that hold it as plain memory: 40 numbers of 64 bits in the order of `Layout.stateWords`.
+// The controller's state as words, for callers that hold it as plain memory: 40 numbers of 64 bits each at its place in `places`.
+pub mod places;
+
 use ledger::Flow;
 use ledger::Totals;
 use sender::Controller;
@@ -8,7 +10,8 @@ use window::Window;
 ghost use mathlib.Core.Path.{_≡_};
 ghost use Prim.Native.Nat.{_≤_};
 ghost use lib.ListN.{length};
-ghost use Rattle.c_state.specs.Layout.{wordCount, settingsCount, bit, inFlightWord, stateWords, settingsFrom, flowFrom, totalsFrom, windowFrom, phaseFrom, stateFrom, wordsOk, unpacked};
+ghost use Rattle.c_state.specs.Layout.{wordCount, settingsCount, bit, inFlightWord, stateWords};
+ghost use Rattle.c_state.specs.Layout.{settingsFrom, flowFrom, totalsFrom, windowFrom, phaseFrom, stateFrom, wordsOk, unpacked};
 ghost use Rattle.c_state.specs.Statements.{WordsFacts};
 
 // How many words a state has.
@@ -28,6 +31,12 @@ pub const IN_FLIGHT_END: u64 = (1 << 26) + (1 << 24) + 1;
 
 // One past the largest number of a 32-bit field.
 pub const FIELD_END: u64 = 1 << 32;
+
+// One past the largest flag, 0 or 1.
+pub const FLAG_END: u64 = 2;
+
+// One past the number of the last of the four state names.
+pub const PHASE_END: u64 = 4;
 
 // A state, where the words are those of one; else a state of zeros.
 pub struct Unpacked {
@@ -55,7 +64,7 @@ fn in_flight_word(z: i64) -> u64
 }
 
 // A state's words.
-pub fn pack(state: Controller) -> [u64; 40]
+pub fn pack(state: Controller) -> [u64; WORDS]
     ensures { λ r. ⌜ r ≡ stateWords state ⌝ }
 {
     let s = state.settings;
@@ -114,39 +123,39 @@ fn words_ok(ws: &[u64]) -> bool
     if ws.len() != WORDS {
         return false;
     }
-    (ws[12] < FIELD_END)
-        & (ws[13] < 2)
-        & (ws[14] < FIELD_END)
-        & (ws[15] < FIELD_END)
-        & (ws[16] < FIELD_END)
-        & (ws[18] < FIELD_END)
-        & (ws[19] < FIELD_END)
-        & (ws[21] < IN_FLIGHT_END)
-        & (ws[31] < 2)
-        & (ws[32] < 2)
-        & (ws[37] < FIELD_END)
-        & (ws[38] < 4)
+    (ws[places::FIRST_PSN] < FIELD_END)
+        & (ws[places::QUICK_ADAPT_OFF] < FLAG_END)
+        & (ws[places::LOW] < FIELD_END)
+        & (ws[places::NEXT] < FIELD_END)
+        & (ws[places::HELD] < FIELD_END)
+        & (ws[places::FLYING] < FIELD_END)
+        & (ws[places::MARKED] < FIELD_END)
+        & (ws[places::IN_FLIGHT] < IN_FLIGHT_END)
+        & (ws[places::FAST] < FLAG_END)
+        & (ws[places::TRIGGER] < FLAG_END)
+        & (ws[places::CURSOR] < FIELD_END)
+        & (ws[places::PHASE] < PHASE_END)
 }
 
-// The settings: twelve numbers in document 01's order, the first PSN, the flag that disables quick adapt and the number of EVs. An inner step: the caller proves
-// that there are twelve.
+// The settings: twelve numbers in document 01's order, the first PSN, the flag that disables quick adapt and the number of EVs. An inner
+// step: the caller proves that there are twelve.
 pub fn settings_of(ws: &[u64], first_psn: u32, quick_adapt_off: bool, ev_count: u64) -> Settings
     requires { ⌜ settingsCount ≤ length (now ws) ⌝ }
     ensures { λ r. ⌜ r ≡ settingsFrom (now (ws .entry)) «first_psn» «quick_adapt_off» «ev_count» ⌝ }
 {
     Settings {
-        mtu: ws[0],
-        maxwnd: ws[1],
-        config_base_rtt: ws[2],
-        target_qdelay: ws[3],
-        fi: ws[4],
-        eta: ws[5],
-        alpha: ws[6],
-        gamma: ws[7],
-        max_md_jump: ws[8],
-        adjust_period: ws[9],
-        adjust_bytes: ws[10],
-        qa_threshold: ws[11],
+        mtu: ws[places::MTU],
+        maxwnd: ws[places::MAXWND],
+        config_base_rtt: ws[places::CONFIG_BASE_RTT],
+        target_qdelay: ws[places::TARGET_QDELAY],
+        fi: ws[places::FI],
+        eta: ws[places::ETA],
+        alpha: ws[places::ALPHA],
+        gamma: ws[places::GAMMA],
+        max_md_jump: ws[places::MAX_MD_JUMP],
+        adjust_period: ws[places::ADJUST_PERIOD],
+        adjust_bytes: ws[places::ADJUST_BYTES],
+        qa_threshold: ws[places::QA_THRESHOLD],
         first_psn,
         quick_adapt_off,
         ev_count,
@@ -159,10 +168,10 @@ fn flow_from(ws: &[u64]) -> Flow
     ensures { λ r. ⌜ r ≡ flowFrom (now (ws .entry)) ⌝ }
 {
     Flow {
-        low: ws[14] as u32,
-        next: ws[15] as u32,
-        held: ws[16] as u32,
-        backlog: ws[17],
+        low: ws[places::LOW] as u32,
+        next: ws[places::NEXT] as u32,
+        held: ws[places::HELD] as u32,
+        backlog: ws[places::BACKLOG],
     }
 }
 
@@ -171,10 +180,10 @@ fn totals_from(ws: &[u64]) -> Totals
     ensures { λ r. ⌜ r ≡ totalsFrom (now (ws .entry)) ⌝ }
 {
     Totals {
-        flying: ws[18] as u32,
-        marked: ws[19] as u32,
-        marked_bytes: ws[20],
-        in_flight: ws[21] as i64 - IN_FLIGHT_ADDED,
+        flying: ws[places::FLYING] as u32,
+        marked: ws[places::MARKED] as u32,
+        marked_bytes: ws[places::MARKED_BYTES],
+        in_flight: ws[places::IN_FLIGHT] as i64 - IN_FLIGHT_ADDED,
     }
 }
 
@@ -183,20 +192,20 @@ fn window_from(ws: &[u64]) -> Window
     ensures { λ r. ⌜ r ≡ windowFrom (now (ws .entry)) ⌝ }
 {
     Window {
-        cwnd: ws[22],
-        base: ws[23],
-        avg: ws[24],
-        inc_bytes: ws[25],
-        received: ws[26],
-        achieved: ws[27],
-        ignored: ws[28],
-        bytes_to_ignore: ws[29],
-        fi_count: ws[30],
-        fast: ws[31] == 1,
-        trigger: ws[32] == 1,
-        qa_end: ws[33],
-        last_adjust: ws[34],
-        last_dec: ws[35],
+        cwnd: ws[places::CWND],
+        base: ws[places::BASE],
+        avg: ws[places::AVG],
+        inc_bytes: ws[places::INC_BYTES],
+        received: ws[places::RECEIVED],
+        achieved: ws[places::ACHIEVED],
+        ignored: ws[places::IGNORED],
+        bytes_to_ignore: ws[places::BYTES_TO_IGNORE],
+        fi_count: ws[places::FI_COUNT],
+        fast: ws[places::FAST] == 1,
+        trigger: ws[places::TRIGGER] == 1,
+        qa_end: ws[places::QA_END],
+        last_adjust: ws[places::LAST_ADJUST],
+        last_dec: ws[places::LAST_DEC],
     }
 }
 
@@ -216,13 +225,18 @@ fn state_from(ws: &[u64]) -> Controller
     ensures { λ r. ⌜ r ≡ stateFrom (now (ws .entry)) ⌝ }
 {
     Controller {
-        settings: settings_of(ws, ws[12] as u32, ws[13] == 1, ws[39]),
+        settings: settings_of(
+            ws,
+            ws[places::FIRST_PSN] as u32,
+            ws[places::QUICK_ADAPT_OFF] == 1,
+            ws[places::EV_COUNT],
+        ),
         flow: flow_from(ws),
         totals: totals_from(ws),
         window: window_from(ws),
-        clock: ws[36],
-        cursor: ws[37] as u32,
-        phase: phase_from(ws[38]),
+        clock: ws[places::CLOCK],
+        cursor: ws[places::CURSOR] as u32,
+        phase: phase_from(ws[places::PHASE]),
     }
 }
 

@@ -1,4 +1,5 @@
--- `in_flight_word` tests in-flight's two ends and adds 2^24 between them; the sum fits because in-flight is then in its bounds (`tests-flown`).
+-- `in_flight_word` tests in-flight's two ends and adds 2^24 between them; the sum fits because in-flight is then in its
+-- bounds (`tests-flown`).
 use native.Mathlib.Omega.{arith}
 use borrow.Author.Needs.{needs}
 use mir.Syntax.{w64}

@@ -49,7 +49,8 @@ cast-t19 c = search needs
 returns : tie.Need-returns
 unfolding stateWords
 returns c =
-    let z = c .before .before .before .before .before .before .before .before .before .before .before .before .before .before .before .before .before .args .state .totals .«in_flight» in
+    let casts = c .before .before .before .before .before .before .before .before in
+    let z = casts .before .before .before .before .before .before .before .before .before .args .state .totals .«in_flight» in
     let fits : SFits w64 z = search (needs, c .before .before .before .before .before .struct-told .given) in
     rw (
       c .before .before .before .before .before .before .before .before .before .before .before .bit-of .ensures,

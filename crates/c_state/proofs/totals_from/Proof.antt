@@ -5,6 +5,7 @@ use mir.Syntax.{w64}
 use mir.ValLaws.{toZ-ofZ, toZ-pos}
 use lib.IntN.{pos, _-ℤ_}
 use lib.ListN.{getD}
+use Rattle.c_state.specs.Places as place
 use Rattle.c_state.specs.Layout.{inFlightAdded, totalsFrom}
 use Rattle.c_state.proofs.InFlight.{lowered-fits}
 use Rattle.c_state.proofs.totals_from.Statement.{statement}
@@ -33,14 +34,14 @@ cast-t12 c = search needs
 
 sub-t13 : tie.Need-sub-t13
 sub-t13 c =
-    let w = getD (c .before .before .before .before .args .ws .now) 21 0 in
+    let w = getD (c .before .before .before .before .args .ws .now) place.inFlight 0 in
     let P = c .before .before .before .before .pre in
     rw (toZ-pos w64 w (omega (arith, P .in-flight))) (lowered-fits w (P .in-flight))
 
 returns : tie.Need-returns
 unfolding totalsFrom
 returns c =
-    let w = getD (c .before .before .before .before .args .ws .now) 21 0 in
+    let w = getD (c .before .before .before .before .args .ws .now) place.inFlight 0 in
     let P = c .before .before .before .before .pre in
     rw (toZ-pos w64 w (omega (arith, P .in-flight)), toZ-ofZ w64 (pos w -ℤ pos inFlightAdded) (lowered-fits w (P .in-flight)))
 

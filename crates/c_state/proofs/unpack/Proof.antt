@@ -15,7 +15,8 @@ fresh-requires c κs = search needs
 
 returns : tie.Need-returns
 returns c =
-    not-passed _ _ (c .before .before .before .words-ok .ensures) _ _ (c .before .no-settings .ensures) (c .fresh .ensures) (c .before .before .if1 .taken)
+    not-passed _ _ (c .before .before .before .words-ok .ensures) _ _
+    (c .before .no-settings .ensures) (c .fresh .ensures) (c .before .before .if1 .taken)
 
 state-from-requires : tie.Need-state-from-requires
 state-from-requires c κs = passed-facts _ _ (c .before .words-ok .ensures) (c .if1 .left)
