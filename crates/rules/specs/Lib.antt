@@ -1,5 +1,6 @@
--- What definitions are written with: choices by a test, tests, and rows of refusals; and what a promise is judged by.
+-- What definitions are written with: choices by a test, tests, and rows of refusals, verdicts; and what a promise is judged by.
 pub mod Branch
 pub mod Test
 pub mod Rows
 pub mod Unique
+pub mod Verdict

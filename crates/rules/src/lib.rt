@@ -1,4 +1,6 @@
-// Choices by a test: the lesser and the greater of two numbers, and whether a number lies in a range.
+// Choices by a test: the lesser and the greater of two numbers, and whether a number lies in a range; and what a judge answers.
+pub mod verdict;
+
 ghost use mathlib.Core.Path.{_≡_};
 ghost use Prim.Native.Nat.{min, max};
 ghost use Rattle.rules.specs.Test.{inside};
