@@ -1,31 +1,20 @@
-// The ledger's refusals, each event's in document 01's order: the number of the first that applies, 0 where none does. Nothing is changed.
+// The ledger's refusals, each event's in document 01's order: the first that applies, or accepted. Nothing is changed.
 // Inner steps: the caller proves that the ledger holds together.
 use crate::Books;
 use crate::Flow;
 use crate::slots::find;
 use crate::slots::long;
+use rules::verdict::Verdict;
 ghost use mathlib.Core.Path.{_≡_};
 ghost use Prim.Native.Nat.{_<_, _*_, _^_};
 ghost use lib.IntN.{pos, _-ℤ_};
 ghost use Rattle.rules.specs.Rows.{firstOf};
+ghost use Rattle.rules.specs.Verdict.{numberOf};
 ghost use Rattle.ledger.specs.Lent.{ringGiven, ringBefore};
 ghost use Rattle.ledger.specs.Bounds.{sinks, Flown};
 ghost use Rattle.ledger.specs.Coherent.{Even};
 ghost use Rattle.ledger.specs.Steps.{newlyOf};
 ghost use Rattle.ledger.specs.Rows.{newRows, resendRows, ackRows, markRows};
-
-// The refusal numbers of document 01's table that the ledger gives.
-pub const OVER_BACKLOG: u32 = 5;
-
-pub const RING_FULL: u32 = 7;
-
-pub const WRONG_PSN: u32 = 8;
-
-pub const UNSENT_OR_OLD: u32 = 9;
-
-pub const NOT_FLYING: u32 = 10;
-
-pub const SINKS: u32 = 11;
 
 // Bytes that an ACK newly reports.
 pub fn newly(count: u32, held: u32) -> u64
@@ -53,21 +42,21 @@ fn would_sink(in_flight: i64, bytes: u64) -> bool
 }
 
 // A new packet: 8, 5, 7.
-pub fn judge_new(flow: Flow, cap: usize, psn: u32, size: u32) -> u32
-    ensures { λ r. ⌜ r ≡ firstOf (newRows flow cap psn size) ⌝ }
+pub fn judge_new(flow: Flow, cap: usize, psn: u32, size: u32) -> Verdict
+    ensures { λ r. ⌜ numberOf r ≡ firstOf (newRows flow cap psn size) ⌝ }
 {
     let next = flow.next;
     let backlog = flow.backlog;
     if psn != next {
-        return WRONG_PSN;
+        return Verdict::WrongPsn;
     }
     if backlog < size as u64 {
-        return OVER_BACKLOG;
+        return Verdict::Backlog;
     }
     if long(flow) as usize == cap {
-        return RING_FULL;
+        return Verdict::RingFull;
     }
-    0
+    Verdict::Accepted
 }
 
 // A resend: 8.
@@ -79,31 +68,31 @@ pub fn judge_resend<'a>(
     resent: &'a [u8],
     psn: u32,
     bytes: u32,
-) -> u32
+) -> Verdict
     requires { ⌜ Even (ringGiven status size sent resent) ⌝ }
-    ensures { λ r. ⌜ r ≡ firstOf (resendRows flow (ringBefore status size sent resent) psn bytes) ⌝ }
+    ensures { λ r. ⌜ numberOf r ≡ firstOf (resendRows flow (ringBefore status size sent resent) psn bytes) ⌝ }
 {
     let x = find(flow, status, size, sent, resent, psn);
     if (x.status != crate::MARKED) | (bytes != x.size) {
-        return WRONG_PSN;
+        return Verdict::WrongPsn;
     }
-    0
+    Verdict::Accepted
 }
 
 // An ACK: 9, 11.
-pub fn judge_ack(books: Books, cum: u32, map: u64, count: u32) -> u32
+pub fn judge_ack(books: Books, cum: u32, map: u64, count: u32) -> Verdict
     requires { ⌜ Flown (2 ^ 26) (books .totals .«in_flight») ⌝ }
-    ensures { λ r. ⌜ r ≡ firstOf (ackRows (books .flow) (books .totals .«in_flight») cum map count) ⌝ }
+    ensures { λ r. ⌜ numberOf r ≡ firstOf (ackRows (books .flow) (books .totals .«in_flight») cum map count) ⌝ }
 {
     let flow = books.flow;
     let totals = books.totals;
     if serial::unsent_or_old(flow.next, cum, map) {
-        return UNSENT_OR_OLD;
+        return Verdict::UnsentOrOld;
     }
     if would_sink(totals.in_flight, newly(count, flow.held)) {
-        return SINKS;
+        return Verdict::Sinks;
     }
-    0
+    Verdict::Accepted
 }
 
 // A NACK or a loss: 10, 11.
@@ -114,19 +103,19 @@ pub fn judge_mark<'a>(
     sent: &'a [u64],
     resent: &'a [u8],
     psn: u32,
-) -> u32
+) -> Verdict
     requires { ⌜ Even (ringGiven status size sent resent) ⌝ }
     requires { ⌜ Flown (2 ^ 26) (books .totals .«in_flight») ⌝ }
-    ensures { λ r. ⌜ r ≡ firstOf (markRows (books .flow) (books .totals .«in_flight») (ringBefore status size sent resent) psn) ⌝ }
+    ensures { λ r. ⌜ numberOf r ≡ firstOf (markRows (books .flow) (books .totals .«in_flight») (ringBefore status size sent resent) psn) ⌝ }
 {
     let flow = books.flow;
     let totals = books.totals;
     let x = find(flow, status, size, sent, resent, psn);
     if x.status != crate::FLYING {
-        return NOT_FLYING;
+        return Verdict::NotFlying;
     }
     if would_sink(totals.in_flight, x.size as u64) {
-        return SINKS;
+        return Verdict::Sinks;
     }
-    0
+    Verdict::Accepted
 }

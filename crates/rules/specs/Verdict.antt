@@ -8,7 +8,9 @@ use lib.Dec.{eqb}
 use borrow.Author.Tests.{eqb-true, eqb-false}
 use Rattle.rules.specs.Unique.{Tells}
 use Rattle.rules.specs.declared.verdict.Verdict.{Verdict}
-use Rattle.rules.specs.declared.verdict.Verdict.the-variants.{Accepted, Setting, Unsound, Time, Size, Backlog, WindowFull, RingFull, WrongPsn, UnsentOrOld, NotFlying, Sinks, Malformed, NoRoom, Bytes, Count, Reason, Ev, Trigger, LogTooLong}
+use Rattle.rules.specs.declared.verdict.Verdict.the-variants.{Accepted, Setting, Unsound, Time, Size, Backlog, WindowFull, RingFull}
+use Rattle.rules.specs.declared.verdict.Verdict.the-variants.{WrongPsn, UnsentOrOld, NotFlying, Sinks, Malformed, NoRoom}
+use Rattle.rules.specs.declared.verdict.Verdict.the-variants.{Bytes, Count, Reason, Ev, Trigger, LogTooLong}
 
 unfoldable pub numberOf : Verdict → ℕ
 numberOf Accepted = 0

@@ -1,6 +1,7 @@
 -- `judge_ack` walks the rows of an ACK: each branch opens one.
 use mathlib.Core.Path.{_∙_, sym}
 use borrow.Author.Needs.{needs}
+use Rattle.rules.specs.Verdict.{numberOf}
 use Rattle.ledger.proofs.Signs.{sinks-word}
 use Rattle.ledger.proofs.Judging.{ack-9, ack-11, ack-0}
 use Rattle.ledger.proofs.judge.judge_ack.Statement.{statement}
@@ -10,6 +11,7 @@ unsent-or-old-requires : tie.Need-unsent-or-old-requires
 unsent-or-old-requires c κs = search needs
 
 returns : tie.Need-returns
+unfolding numberOf
 returns c =
     let a = c .before .before .before .before .args in
     ack-9 (a .books .flow) (a .books .totals .«in_flight») (a .cum) (a .map) (a .count) (sym (c .before .unsent-or-old .ensures) ∙ c .if1 .taken)
@@ -21,6 +23,7 @@ would-sink-requires : tie.Need-would-sink-requires
 would-sink-requires c κs = search needs
 
 returns-2 : tie.Need-returns-2
+unfolding numberOf
 returns-2 c =
     let n = c .before .before .before in
     let u = n .before .before in
@@ -31,6 +34,7 @@ returns-2 c =
     (c .before .would-sink .ensures) ∙ c .if2 .taken)
 
 returns-3 : tie.Need-returns-3
+unfolding numberOf
 returns-3 c =
     let n = c .before .before .before in
     let u = n .before .before in

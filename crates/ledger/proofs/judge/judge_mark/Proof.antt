@@ -1,6 +1,7 @@
 -- `judge_mark` walks the rows of a NACK or a loss, on the packet that it finds.
 use mathlib.Core.Path.{refl, _∙_}
 use borrow.Author.Needs.{needs}
+use Rattle.rules.specs.Verdict.{numberOf}
 use Rattle.ledger.specs.Ring.{Ring, ring}
 use Rattle.ledger.proofs.Signs.{sinks-word}
 use Rattle.ledger.proofs.Judging.{mark-10, mark-11, mark-0}
@@ -14,6 +15,7 @@ find-requires : tie.Need-find-requires
 find-requires c κs = search needs
 
 returns : tie.Need-returns
+unfolding numberOf
 returns c =
     let f = c .before .before in
     let s = f .before .before .before .before .before .before .before in
@@ -26,6 +28,7 @@ would-sink-requires : tie.Need-would-sink-requires
 would-sink-requires c κs = search needs
 
 returns-2 : tie.Need-returns-2
+unfolding numberOf
 returns-2 c =
     let w = c .before in
     let i = w .before .before .before in
@@ -36,6 +39,7 @@ returns-2 c =
     (sinks-word z (s .pre .1) (f .find .result .size) _ refl (w .would-sink .result) (w .would-sink .ensures) ∙ c .if2 .taken)
 
 returns-3 : tie.Need-returns-3
+unfolding numberOf
 returns-3 c =
     let w = c .before in
     let i = w .before .before .before in

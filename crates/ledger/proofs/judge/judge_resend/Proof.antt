@@ -1,5 +1,6 @@
 -- `judge_resend` tests the row of a resend on the packet that it finds.
 use borrow.Author.Needs.{needs}
+use Rattle.rules.specs.Verdict.{numberOf}
 use Rattle.ledger.specs.Ring.{Ring, ring}
 use Rattle.ledger.proofs.Judging.{resend-8, resend-0}
 use Rattle.ledger.proofs.judge.judge_resend.Statement.{statement}
@@ -12,12 +13,14 @@ find-requires : tie.Need-find-requires
 find-requires c κs = search needs
 
 returns : tie.Need-returns
+unfolding numberOf
 returns c =
     let f = c .before .before .before in
     let s = f .before .before .before .before .before in
     resend-8 (s .args .flow) (slots s) (s .args .psn) (s .args .bytes) (f .find .result) (f .find .ensures) (c .if1 .taken)
 
 returns-2 : tie.Need-returns-2
+unfolding numberOf
 returns-2 c =
     let f = c .before .before .before in
     let s = f .before .before .before .before .before in
