@@ -34,8 +34,8 @@ numberOf Ev = 23
 numberOf Trigger = 24
 numberOf LogTooLong = 28
 
--- the verdict of a number
-verdictOf : ℕ → Verdict
+-- the verdict of a number: for the laws that read an outcome back, no code does
+unfoldable pub verdictOf : ℕ → Verdict
 verdictOf n =
     cond (eqb n 0) Accepted
     (cond (eqb n 1) Setting
@@ -57,32 +57,32 @@ verdictOf n =
     (cond (eqb n 23) Ev
     (cond (eqb n 24) Trigger LogTooLong))))))))))))))))))
 
-read-back : (v : Verdict) → verdictOf (numberOf v) ≡ v
+pub number-back : (v : Verdict) → verdictOf (numberOf v) ≡ v
 unfolding numberOf verdictOf
-read-back Accepted = refl
-read-back Setting = refl
-read-back Unsound = refl
-read-back Time = refl
-read-back Size = refl
-read-back Backlog = refl
-read-back WindowFull = refl
-read-back RingFull = refl
-read-back WrongPsn = refl
-read-back UnsentOrOld = refl
-read-back NotFlying = refl
-read-back Sinks = refl
-read-back Malformed = refl
-read-back NoRoom = refl
-read-back Bytes = refl
-read-back Count = refl
-read-back Reason = refl
-read-back Ev = refl
-read-back Trigger = refl
-read-back LogTooLong = refl
+number-back Accepted = refl
+number-back Setting = refl
+number-back Unsound = refl
+number-back Time = refl
+number-back Size = refl
+number-back Backlog = refl
+number-back WindowFull = refl
+number-back RingFull = refl
+number-back WrongPsn = refl
+number-back UnsentOrOld = refl
+number-back NotFlying = refl
+number-back Sinks = refl
+number-back Malformed = refl
+number-back NoRoom = refl
+number-back Bytes = refl
+number-back Count = refl
+number-back Reason = refl
+number-back Ev = refl
+number-back Trigger = refl
+number-back LogTooLong = refl
 
 -- no two verdicts have one number
 pub number-tells : Tells numberOf
-number-tells v w e = sym (read-back v) ∙ ap verdictOf e ∙ read-back w
+number-tells v w e = sym (number-back v) ∙ ap verdictOf e ∙ number-back w
 
 -- no number is past the table's last
 pub number-most : (v : Verdict) → numberOf v ≤ 28
