@@ -4,7 +4,7 @@
 -- (`one-outcome`).
 -- Assumes nothing.
 use mathlib.Core.Path.{_≡_, refl, sym, ap, ap₂, _∙_}
-use mathlib.Core.Bool.{Bool, true, false, not, cond, _&&_, _||_, and-true, true≢false}
+use mathlib.Core.Bool.{Bool, true, false, not, _&&_, _||_, and-true, true≢false}
 use mathlib.Core.Logic.{_⊎_, inl, inr, ⊎-elim}
 use mathlib.Core.List.{List, [], _∷_, _++_, append-nil}
 use Prim.Native.Nat.{ℕ}
@@ -14,6 +14,8 @@ use borrow.Author.Tests.{le-ltb, lt-leb, eq-eqb, eqb-false, not-true}
 use Rattle.rules.specs.Branch.{ifSo, eq-yes, so-yes}
 use Rattle.rules.specs.Test.{inside, both, whole, inside-yes}
 use Rattle.rules.specs.Rows.{Row, row, firstOf, first-later}
+use Rattle.rules.specs.Verdict.{numberOf, number-tells}
+use Rattle.rules.specs.declared.verdict.Verdict.{Verdict}
 use Rattle.window.specs.declared.Settings.{Settings}
 use Rattle.ledger.specs.Packets.{isMarked}
 use Rattle.ledger.specs.Bounds.{sizeLeast}
@@ -25,7 +27,6 @@ use Rattle.sender.specs.Statements.{silent, First, Exact, Apart, plainNe
 use Rattle.sender.specs.Limits.{timeEnd}
 use Rattle.sender.specs.World.{World, world, Answered, answered, Routing, routed}
 use Rattle.sender.specs.Bounds.{roomAfter}
-use Rattle.sender.specs.Numbers.{rowOf, inTable, numberOf, pathNumber, pathEv}
 use Rattle.sender.specs.Rows.{withSound, timeRow, newDataRows, sendAllRows, ackAllRows, nackAllRows, lossAllRows, pathRows, setUpRows}
 use Rattle.sender.specs.Rows.{newDataFields, sendFields, ackFields, nackFields, lossFields}
 use Rattle.sender.specs.Steps.{sendStep}
@@ -36,12 +37,6 @@ use Rattle.sender.specs.declared.Send.{Send}
 use Rattle.sender.specs.declared.Ack.{Ack}
 use Rattle.sender.specs.declared.Nack.{Nack}
 use Rattle.sender.specs.declared.Loss.{Loss}
-use Rattle.sender.specs.declared.Refusal.{Refusal}
-use Rattle.sender.specs.declared.Refusal.the-variants.{Setting, Unsound, Time, Size, Backlog, WindowFull, RingFull, WrongPsn, UnsentOrOld, NotFlying, Sinks, Bytes, Count, Reason, Ev, Trigger}
-use Rattle.sender.specs.declared.Outcome.{Outcome}
-use Rattle.sender.specs.declared.Outcome.the-variants as outcome
-use Rattle.sender.specs.declared.Route.{Route}
-use Rattle.sender.specs.declared.Route.the-variants as route
 use Rattle.sender.proofs.Rowing.{numbered, none-silent, first-past, send-numbered, send-all-numbered, rows-new, rows-resend, room-row, answer, taken, untaken, answer-number, answer-other, decided-yes}
 
 -- ---- "the state as given .., and lent memory untouched"
@@ -140,34 +135,34 @@ decided-exact rows w after e = rw (← decided-number (firstOf rows) w after) (r
 -- of each event: the rows that its contract cites
 module _ (time : ℕ) (w : World) where
   pub new-data-exact : (bytes : ℕ) → Exact (withSound w (newDataRows time bytes (w .state))) (onNewData time bytes w .number)
-  unfolding onNewData numbered inTable inside
+  unfolding onNewData numbered inside
   new-data-exact bytes = decided-exact _ w _ refl
 
   pub send-exact : (a : Send) → Exact (withSound w (sendAllRows time a (w .state) (w .slots))) (onSend time a w .number)
-  unfolding onSend numbered inTable inside
+  unfolding onSend numbered inside
   send-exact a = decided-exact _ w _ (send-all-numbered time a (w .state) (w .slots))
 
   pub ack-exact : (a : Ack) → Exact (withSound w (ackAllRows time a (w .state))) (onAck time a w .number)
-  unfolding onAck numbered inTable inside
+  unfolding onAck numbered inside
   ack-exact a = decided-exact _ w _ refl
 
   pub nack-exact : (a : Nack) → Exact (withSound w (nackAllRows time a (w .state) (w .slots))) (onNack time a w .number)
-  unfolding onNack numbered inTable inside
+  unfolding onNack numbered inside
   nack-exact a = decided-exact _ w _ refl
 
   pub loss-exact : (a : Loss) → Exact (withSound w (lossAllRows time a (w .state) (w .slots))) (onLoss time a w .number)
-  unfolding onLoss numbered inTable inside
+  unfolding onLoss numbered inside
   loss-exact a = decided-exact _ w _ refl
 
   pub path-exact : Exact (withSound w (pathRows time (w .state))) (onPath time w .number)
-  unfolding onPath numbered inTable inside
+  unfolding onPath numbered inside
   path-exact =
       let n = firstOf (withSound w (pathRows time (w .state))) in
       rw (← answer-number (λ (x : Routing). x .number) n (taken time w) (untaken n w) refl refl) (rows-exact (withSound w (pathRows time (w .state))) refl)
 
 -- and of setting up
 pub set-up-exact : (g : Settings) (r : Ring) (times : List ℕ) → Exact (setUpRows g r times) (onSetUp g r times .number)
-unfolding onSetUp numbered inTable inside
+unfolding onSetUp numbered inside
 set-up-exact g r times =
     let n = firstOf (setUpRows g r times) in
     rw (← answer-number (λ (x : Answered). x .number) n (cleared g r times) (blank n r times) refl refl)
@@ -278,28 +273,28 @@ module _ (time : ℕ) (w : World) where
 
   pub new-data-apart : (bytes : ℕ)
       → Apart (withSound w (plainNewData time bytes (w .state))) (newDataFields bytes (w .state)) (onNewData time bytes w .number)
-  unfolding onNewData fourless numbered inTable inside
+  unfolding onNewData fourless numbered inside
   new-data-apart bytes = decided-apart ahead (newDataFields bytes (w .state)) [] _ (any-one _ 20) refl refl w _ refl refl
 
   pub send-apart : (a : Send)
       → Apart (withSound w (sendAllRows time a (w .state) (w .slots))) (sendFields a (w .state)) (onSend time a w .number)
-  unfolding onSend fourless numbered inTable inside
+  unfolding onSend fourless numbered inside
   send-apart a =
       decided-apart ahead (sendFields a (w .state)) _ _ (any-one _ 4) refl
       (send-fourless (w .state .flow) (w .slots) (a .psn) (a .size) (a .resend) _ refl) w _ (send-all-numbered time a (w .state) (w .slots)) refl
 
   pub ack-apart : (a : Ack) → Apart (withSound w (plainAck time a (w .state))) (ackFields a (w .state)) (onAck time a w .number)
-  unfolding onAck fourless numbered inTable inside
+  unfolding onAck fourless numbered inside
   ack-apart a = decided-apart ahead (ackFields a (w .state)) _ _ (any-three _ _ _ 21 23 24) refl refl w _ refl refl
 
   pub nack-apart : (a : Nack)
       → Apart (withSound w (plainNack time a (w .state) (w .slots))) (nackFields a (w .state)) (onNack time a w .number)
-  unfolding onNack fourless numbered inTable inside
+  unfolding onNack fourless numbered inside
   nack-apart a = decided-apart ahead (nackFields a (w .state)) _ _ (any-two _ _ 22 23) refl refl w _ refl refl
 
   pub loss-apart : (a : Loss)
       → Apart (withSound w (plainLoss time a (w .state) (w .slots))) (lossFields a (w .state)) (onLoss time a w .number)
-  unfolding onLoss fourless numbered inTable inside
+  unfolding onLoss fourless numbered inside
   loss-apart a = decided-apart ahead (lossFields a (w .state)) _ _ (any-one _ 23) refl refl w _ refl refl
 
 -- ---- a permitted send is accepted
@@ -341,76 +336,16 @@ permitted-resend time a w p =
 
 -- ---- a number is one outcome's
 
--- the refusal of a number
-refusalOf : ℕ → Refusal
-refusalOf n =
-    cond (eqb n 1) Setting
-    (cond (eqb n 2) Unsound
-    (cond (eqb n 3) Time
-    (cond (eqb n 4) Size
-    (cond (eqb n 5) Backlog
-    (cond (eqb n 6) WindowFull
-    (cond (eqb n 7) RingFull
-    (cond (eqb n 8) WrongPsn
-    (cond (eqb n 9) UnsentOrOld
-    (cond (eqb n 10) NotFlying
-    (cond (eqb n 11) Sinks
-    (cond (eqb n 20) Bytes
-    (cond (eqb n 21) Count
-    (cond (eqb n 22) Reason
-    (cond (eqb n 23) Ev Trigger))))))))))))))
-
--- a refusal's number is not 0, and tells the refusal
-row-back : (r : Refusal) → (eqb (rowOf r) 0 ≡ false) × (refusalOf (rowOf r) ≡ r)
-unfolding rowOf refusalOf
-row-back Setting = (refl, refl)
-row-back Unsound = (refl, refl)
-row-back Time = (refl, refl)
-row-back Size = (refl, refl)
-row-back Backlog = (refl, refl)
-row-back WindowFull = (refl, refl)
-row-back RingFull = (refl, refl)
-row-back WrongPsn = (refl, refl)
-row-back UnsentOrOld = (refl, refl)
-row-back NotFlying = (refl, refl)
-row-back Sinks = (refl, refl)
-row-back Bytes = (refl, refl)
-row-back Count = (refl, refl)
-row-back Reason = (refl, refl)
-row-back Ev = (refl, refl)
-row-back Trigger = (refl, refl)
-
-outcomeOf : ℕ → Outcome
-outcomeOf n = cond (eqb n 0) outcome.Accepted (outcome.Refused (refusalOf n))
-
-outcome-back : (o : Outcome) → outcomeOf (numberOf o) ≡ o
-unfolding outcomeOf numberOf
-outcome-back outcome.Accepted = refl
-outcome-back (outcome.Refused r) = rw (row-back r .0) (ap outcome.Refused (row-back r .1))
-
-pub outcome-one : (o p : Outcome) → numberOf o ≡ numberOf p → o ≡ p
-outcome-one o p e = sym (outcome-back o) ∙ ap outcomeOf e ∙ outcome-back p
-
-routeFrom : ℕ → ℕ → Route
-routeFrom n ev = cond (eqb n 0) (route.Chosen ev) (route.Refused (refusalOf n))
-
-route-back : (o : Route) → routeFrom (pathNumber o) (pathEv o) ≡ o
-unfolding routeFrom pathNumber pathEv
-route-back (route.Chosen ev) = refl
-route-back (route.Refused r) = rw (row-back r .0) (ap route.Refused (row-back r .1))
-
-pub route-one : (o p : Route) → pathNumber o ≡ pathNumber p → pathEv o ≡ pathEv p → o ≡ p
-route-one o p e f = sym (route-back o) ∙ ap₂ routeFrom e f ∙ route-back p
-
--- no two outcomes satisfy one contract: whatever the right side, it fixes outcome, state, ring and times
-pub one-outcome : (x : Answered) (o p : Outcome) (c d : Controller) (r s : Ring) (t u : List ℕ)
-    → answered (numberOf o) c r t ≡ x → answered (numberOf p) d s u ≡ x → (o ≡ p) × (world c r t ≡ world d s u)
-one-outcome x o p c d r s t u e f =
+-- no two outcomes satisfy one contract: whatever the right side, it fixes verdict, state, ring and times
+pub one-outcome : (x : Answered) (v u : Verdict) (c d : Controller) (r s : Ring) (t k : List ℕ)
+    → answered (numberOf v) c r t ≡ x → answered (numberOf u) d s k ≡ x → (v ≡ u) × (world c r t ≡ world d s k)
+one-outcome x v u c d r s t k e f =
     let g = e ∙ sym f in
-    (outcome-one o p (ap (λ (y : Answered). y .number) g), ap (λ (y : Answered). y .after) g)
+    (number-tells v u (ap (λ (y : Answered). y .number) g), ap (λ (y : Answered). y .after) g)
 
-pub one-route : (x : Routing) (o p : Route) (c d : Controller) (r s : Ring) (t u : List ℕ)
-    → routed (pathNumber o) (pathEv o) c r t ≡ x → routed (pathNumber p) (pathEv p) d s u ≡ x → (o ≡ p) × (world c r t ≡ world d s u)
-one-route x o p c d r s t u e f =
+-- .. and of a path choice the EV too
+pub one-route : (x : Routing) (v u : Verdict) (i j : ℕ) (c d : Controller) (r s : Ring) (t k : List ℕ)
+    → routed (numberOf v) i c r t ≡ x → routed (numberOf u) j d s k ≡ x → (v ≡ u) × (i ≡ j) × (world c r t ≡ world d s k)
+one-route x v u i j c d r s t k e f =
     let g = e ∙ sym f in
-    (route-one o p (ap (λ (y : Routing). y .number) g) (ap (λ (y : Routing). y .ev) g), ap (λ (y : Routing). y .after) g)
+    (number-tells v u (ap (λ (y : Routing). y .number) g), ap (λ (y : Routing). y .ev) g, ap (λ (y : Routing). y .after) g)

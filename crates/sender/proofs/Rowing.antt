@@ -2,15 +2,14 @@
 -- what an event answers by their number.
 -- Assumes nothing.
 use mathlib.Core.Path.{_≡_, refl, sym, ap, ap₂, _∙_}
-use mathlib.Core.Bool.{Bool, true, false, not, _&&_, _||_}
+use mathlib.Core.Bool.{Bool, true, false, not, _&&_}
 use mathlib.Core.List.{List, [], _∷_, _++_}
 use mathlib.Core.Logic.{by-cases}
 use mathlib.Core.Option.{Option, none, some}
-use Prim.Native.Nat.{ℕ, _+_, _-_, _≤_, _<_}
-use native.Mathlib.Nat.{le-antisymm}
+use Prim.Native.Nat.{ℕ, _+_, _-_, _≤_}
 use native.Mathlib.Decide.{decLt}
 use native.Mathlib.Omega.{arith}
-use lib.Dec.{ltb, leb}
+use lib.Dec.{ltb}
 use borrow.Author.Tests.{ltb-true, ltb-false, lt-ltb, le-ltb, not-true}
 use Rattle.rules.specs.Branch.{ifSo, ifEq, eq-yes, eq-no, eq-both}
 use Rattle.rules.specs.Test.{inside, both, whole, inside-tells}
@@ -20,13 +19,11 @@ use Rattle.ledger.specs.Ring.{Ring, capOf}
 use Rattle.ledger.specs.Rows.{sendRows, newRows, resendRows}
 use Rattle.ledger.specs.declared.Flow.{Flow}
 use Rattle.sender.specs.Statements.{silent}
-use Rattle.sender.specs.Limits.{timeEnd}
-use Rattle.sender.specs.Numbers.{inTable}
 use Rattle.sender.specs.World.{World, world, Answered, answered, Routing}
 use Rattle.sender.specs.Named.{hasRoom}
 use Rattle.sender.specs.Bounds.{roomAfter}
 use Rattle.sender.specs.Sound.{sound}
-use Rattle.sender.specs.Rows.{withSound, sendAllRows, pathRows}
+use Rattle.sender.specs.Rows.{withSound, sendAllRows}
 use Rattle.sender.specs.Steps.{routeOf, pathStep}
 use Rattle.sender.specs.Events.{decided, says}
 use Rattle.sender.specs.declared.Controller.{Controller}
@@ -37,52 +34,26 @@ use Rattle.sender.specs.declared.Send.{Send}
 -- every row's number is one of the table's
 unfoldable pub numbered : List Row → Bool
 numbered [] = true
-numbered (x ∷ xs) = inTable (x .number) && numbered xs
-
--- the table's numbers lie in 1..24
-pub table-bounds : (n : ℕ) → inTable n ≡ true → (1 ≤ n) × (n ≤ 24)
-unfolding inTable
-table-bounds n = go (inside 1 n 11) refl
-  where
-    go : (low : Bool) → inside 1 n 11 ≡ low → (low || inside 20 n 24) ≡ true → (1 ≤ n) × (n ≤ 24)
-    go true e f = let p = inside-tells 1 n 11 e in (p .0, omega (arith, p .1))
-    go false e f = let p = inside-tells 20 n 24 f in (omega (arith, p .0), p .1)
-
--- 2, which every event tests first
-pub two-table : inTable 2 ≡ true
-unfolding inTable inside
-two-table = refl
-
--- a number of the table that is past 11 wherever it is past 0, and past 23 wherever it is past 19, is the last
-pub table-last : (n : ℕ) → inTable n ≡ true → (1 ≤ n → 12 ≤ n) → (20 ≤ n → 24 ≤ n) → n ≡ 24
-unfolding inTable
-table-last n = go (inside 1 n 11) refl
-  where
-    go : (low : Bool) → inside 1 n 11 ≡ low → (low || inside 20 n 24) ≡ true → (1 ≤ n → 12 ≤ n) → (20 ≤ n → 24 ≤ n) → n ≡ 24
-    go true e f g h = let p = inside-tells 1 n 11 e in absurd (let k : ⊥ = omega (arith, p .1, g (p .0)) in k)
-    go false e f g h = let p = inside-tells 20 n 24 f in le-antisymm (p .1) (h (p .0))
+numbered (x ∷ xs) = inside 1 (x .number) 24 && numbered xs
 
 -- a list's number is none, or one of the table's
-first-table : (xs : List Row) → numbered xs ≡ true → (firstOf xs ≡ 0 → ⊥) → inTable (firstOf xs) ≡ true
+first-table : (xs : List Row) → numbered xs ≡ true → (firstOf xs ≡ 0 → ⊥) → inside 1 (firstOf xs) 24 ≡ true
 unfolding firstOf numbered ifSo
 first-table [] e h = absurd (h refl)
 first-table (x ∷ xs) e h =
-    let p = both (inTable (x .number)) (numbered xs) e in
+    let p = both (inside 1 (x .number) 24) (numbered xs) e in
     go (x .test) (p .0) (first-table xs (p .1)) h
   where
-    go : (t : Bool) → inTable (x .number) ≡ true → ((firstOf xs ≡ 0 → ⊥) → inTable (firstOf xs) ≡ true)
-        → (ifSo t (x .number) (firstOf xs) ≡ 0 → ⊥) → inTable (ifSo t (x .number) (firstOf xs)) ≡ true
+    go : (t : Bool) → inside 1 (x .number) 24 ≡ true → ((firstOf xs ≡ 0 → ⊥) → inside 1 (firstOf xs) 24 ≡ true)
+        → (ifSo t (x .number) (firstOf xs) ≡ 0 → ⊥) → inside 1 (ifSo t (x .number) (firstOf xs)) 24 ≡ true
     go true here later h = here
     go false here later h = later h
 
 -- at most the table's last
 pub first-most : (xs : List Row) → numbered xs ≡ true → firstOf xs ≤ 24
 first-most xs e =
-    by-cases (decLt 0 (firstOf xs)) (λ h. table-bounds (firstOf xs) (first-table xs e (λ z. omega (arith, h, z))) .1) (λ h. omega (arith, h))
-
--- a number that rows give and that is not 0 is one of the table's
-pub in-table : (xs : List Row) → numbered xs ≡ true → (n : ℕ) → n ≡ firstOf xs → (n ≡ 0 → ⊥) → inTable n ≡ true
-in-table xs e n f h = ap inTable f ∙ first-table xs e (λ z. h (f ∙ z))
+    by-cases (decLt 0 (firstOf xs)) (λ h. inside-tells 1 (firstOf xs) 24 (first-table xs e (λ z. omega (arith, h, z))) .1)
+    (λ h. omega (arith, h))
 
 -- rows of which no test holds are passed
 pub first-past : (xs ys : List Row) → silent xs ≡ true → firstOf (xs ++ ys) ≡ firstOf ys
@@ -97,8 +68,8 @@ pub none-silent : (xs : List Row) → numbered xs ≡ true → firstOf xs ≡ 0 
 unfolding firstOf numbered silent ifSo
 none-silent [] e f = refl
 none-silent (x ∷ xs) e f =
-    let p = both (inTable (x .number)) (numbered xs) e in
-    go (x .test) (table-bounds (x .number) (p .0) .0) f (none-silent xs (p .1))
+    let p = both (inside 1 (x .number) 24) (numbered xs) e in
+    go (x .test) (inside-tells 1 (x .number) 24 (p .0) .0) f (none-silent xs (p .1))
   where
     go : (t : Bool) → 1 ≤ x .number → ifSo t (x .number) (firstOf xs) ≡ 0 → (firstOf xs ≡ 0 → silent xs ≡ true) → (not t && silent xs) ≡ true
     go true here f later = absurd (omega arith)
@@ -109,8 +80,8 @@ pub first-append : (xs ys : List Row) → numbered xs ≡ true → ifEq (firstOf
 unfolding firstOf numbered ifSo
 first-append [] ys e = sym (eq-yes 0 0 (firstOf ys) (firstOf ys) 0 refl refl)
 first-append (x ∷ xs) ys e =
-    let p = both (inTable (x .number)) (numbered xs) e in
-    go (x .test) (table-bounds (x .number) (p .0) .0) (first-append xs ys (p .1))
+    let p = both (inside 1 (x .number) 24) (numbered xs) e in
+    go (x .test) (inside-tells 1 (x .number) 24 (p .0) .0) (first-append xs ys (p .1))
   where
     go : (t : Bool) → 1 ≤ x .number → ifEq (firstOf xs) 0 (firstOf ys) (firstOf xs) ≡ firstOf (xs ++ ys)
         → ifEq (ifSo t (x .number) (firstOf xs)) 0 (firstOf ys) (ifSo t (x .number) (firstOf xs)) ≡ ifSo t (x .number) (firstOf (xs ++ ys))
@@ -121,12 +92,8 @@ pub numbered-append : (xs ys : List Row) → numbered xs ≡ true → numbered y
 unfolding numbered
 numbered-append [] ys e f = f
 numbered-append (x ∷ xs) ys e f =
-    let p = both (inTable (x .number)) (numbered xs) e in
+    let p = both (inside 1 (x .number) 24) (numbered xs) e in
     whole (p .0) (numbered-append xs ys (p .1) f)
-
--- a number from k on, but not k
-pub past : (n k : ℕ) → k ≤ n → (n ≡ k → ⊥) → k + 1 ≤ n
-past n k h f = omega arith
 
 -- ---- 3, then the row of a field, k, then the other rows of one event
 
@@ -141,15 +108,6 @@ module _ (late bad : Bool) (k : ℕ) (xs : List Row) where
     pub judged-on : bad ≡ false → (n : ℕ) → n ≡ firstOf xs → n ≡ firstOf (row late 3 ∷ row bad k ∷ xs)
     judged-on e n f = first-later n 3 late (row bad k ∷ xs) in-time (first-later n k bad xs e f)
 
--- a path choice is refused with 3 alone
-pub path-late : (time : ℕ) (c : Controller) → (firstOf (pathRows time c) ≡ 0 → ⊥) → 3 ≡ firstOf (pathRows time c)
-unfolding firstOf ifSo
-path-late time c = go (ltb time (c .clock) || leb timeEnd time)
-  where
-    go : (t : Bool) → (_≡_ {A = ℕ} (ifSo t 3 0) 0 → ⊥) → _≡_ {A = ℕ} 3 (ifSo t 3 0)
-    go true h = refl
-    go false h = absurd (h refl)
-
 -- a sum over a most, tested by what is left up to it
 pub over-test : (most held n : ℕ) → held ≤ most → ltb (most - held) n ≡ ltb most (held + n)
 over-test most held n h = go (ltb most (held + n)) refl
@@ -162,7 +120,7 @@ over-test most held n h = go (ltb most (held + n)) refl
 
 module _ (f : Flow) (r : Ring) (psn size : ℕ) where
   pub send-numbered : (resend : Bool) → numbered (sendRows f r psn size resend) ≡ true
-  unfolding numbered inTable inside
+  unfolding numbered inside
   send-numbered true = refl
   send-numbered false = refl
 
@@ -173,7 +131,7 @@ module _ (f : Flow) (r : Ring) (psn size : ℕ) where
   rows-new resend e = rw e
 
 pub send-all-numbered : (time : ℕ) (a : Send) (c : Controller) (r : Ring) → numbered (sendAllRows time a c r) ≡ true
-unfolding numbered inTable inside
+unfolding numbered inside
 send-all-numbered time a c r =
     numbered-append (sendRows (c .flow) r (a .psn) (a .size) (a .resend)) _ (send-numbered (c .flow) r (a .psn) (a .size) (a .resend)) refl
 

@@ -8,6 +8,8 @@ use Rattle.window.specs.declared.Sampling.{Sampling}
 use Rattle.sender.specs.World.{World, Answered, Routing}
 use Rattle.sender.specs.Rows.{withSound, newDataRows, sendAllRows, ackAllRows, nackAllRows, lossAllRows, pathRows}
 use Rattle.sender.specs.Steps.{newDataStep, sendStep, ackSampling, ackStep, nackSampling, nackStep, lossStep, pathStep, routeOf}
+use Rattle.sender.specs.declared.Feedback.{Feedback}
+use Rattle.sender.specs.declared.Feedback.the-variants.{Sampled, Nothing}
 use Rattle.sender.specs.declared.Send.{Send}
 use Rattle.sender.specs.declared.Ack.{Ack}
 use Rattle.sender.specs.declared.Nack.{Nack}
@@ -29,6 +31,11 @@ onAck time a w = decided (firstOf (withSound w (ackAllRows time a (w .state)))) 
 -- request M-103: what an answer of this number says of the sample. "Refused records .. get no letter."
 unfoldable pub says : ℕ → Sampling → Option Sampling
 says number sampling = ifEq number 0 (some sampling) none
+
+-- an ACK's or a NACK's feedback as that
+unfoldable pub saysOf : Feedback → Option Sampling
+saysOf (Sampled s) = some s
+saysOf Nothing = none
 
 abbrev pub ackSays : ℕ → Ack → World → Option Sampling
 ackSays time a w = says (onAck time a w .number) (ackSampling time a w)

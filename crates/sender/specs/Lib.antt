@@ -1,6 +1,5 @@
 -- What the contracts of `sender` cite.
 pub mod Limits
-pub mod Numbers
 pub mod World
 pub mod Lent
 pub mod Named

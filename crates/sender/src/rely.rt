@@ -3,26 +3,23 @@
 use crate::Ack;
 use crate::Answer;
 use crate::Controller;
+use crate::Feedback;
 use crate::Heard;
 use crate::Loss;
 use crate::Nack;
-use crate::Refusal;
-use crate::Route;
 use crate::Routed;
 use crate::Send;
-use crate::accepted;
-use crate::feedback_accepted;
-use crate::feedback_refused;
 use crate::judge;
-use crate::refused;
 use crate::steps;
+use crate::unheard;
+use rules::verdict::is_accepted;
 ghost use mathlib.Core.Path.{_≡_};
 ghost use mathlib.Core.Bool.{true};
+ghost use Rattle.rules.specs.Verdict.{numberOf};
 ghost use Rattle.ledger.specs.Ring.{ring};
 ghost use Rattle.sender.specs.Lent.{worldGiven, worldBefore, answeredAfter, routedAfter};
-ghost use Rattle.sender.specs.Numbers.{numberOf, feedbackNumber, saysOf, pathNumber, pathEv};
 ghost use Rattle.sender.specs.Sound.{sound};
-ghost use Rattle.sender.specs.Events.{onNewData, onSend, onAck, ackSays, onNack, nackSays, onLoss, onPath};
+ghost use Rattle.sender.specs.Events.{saysOf, onNewData, onSend, onAck, ackSays, onNack, nackSays, onLoss, onPath};
 
 // New data in the backlog. The ring and the EV times are lent for what is required of them.
 pub fn new_data<'a>(
@@ -36,13 +33,15 @@ pub fn new_data<'a>(
     bytes: u64,
 ) -> Answer
     requires { ⌜ sound (worldGiven c status size sent resent evs) ≡ true ⌝ }
-    ensures { λ r. ⌜ answeredAfter (numberOf (r .outcome)) (r .state) status size sent resent evs ≡ onNewData time bytes (worldBefore c status size sent resent evs) ⌝ }
+    ensures { λ r. ⌜ answeredAfter (numberOf (r .verdict)) (r .state) status size sent resent evs
+        ≡ onNewData time bytes (worldBefore c status size sent resent evs) ⌝ }
 {
-    let number = judge::judge_new_data(c, time, bytes);
-    if number != 0 {
-        return refused(c, number);
+    let verdict = judge::judge_new_data(c, time, bytes);
+    if !is_accepted(verdict) {
+        return Answer { state: c, verdict };
     }
-    accepted(steps::new_data(c, time, bytes))
+    let state = steps::new_data(c, time, bytes);
+    Answer { state, verdict }
 }
 
 // A new packet or a resend.
@@ -57,13 +56,15 @@ pub fn send<'a, 'b, 'c, 'd, 'e>(
     a: Send,
 ) -> Answer
     requires { ⌜ sound (worldGiven c status size sent resent evs) ≡ true ⌝ }
-    ensures { λ r. ⌜ answeredAfter (numberOf (r .outcome)) (r .state) status size sent resent evs ≡ onSend time a (worldBefore c status size sent resent evs) ⌝ }
+    ensures { λ r. ⌜ answeredAfter (numberOf (r .verdict)) (r .state) status size sent resent evs
+        ≡ onSend time a (worldBefore c status size sent resent evs) ⌝ }
 {
-    let number = judge::judge_send(c, status, size, sent, resent, time, a);
-    if number != 0 {
-        return refused(c, number);
+    let verdict = judge::judge_send(c, status, size, sent, resent, time, a);
+    if !is_accepted(verdict) {
+        return Answer { state: c, verdict };
     }
-    accepted(steps::send(c, status, size, sent, resent, evs, time, a))
+    let state = steps::send(c, status, size, sent, resent, evs, time, a);
+    Answer { state, verdict }
 }
 
 // An ACK.
@@ -78,14 +79,22 @@ pub fn ack<'a, 'b, 'c, 'd, 'e>(
     a: Ack,
 ) -> Heard
     requires { ⌜ sound (worldGiven c status size sent resent evs) ≡ true ⌝ }
-    ensures { λ r. ⌜ answeredAfter (feedbackNumber (r .feedback)) (r .state) status size sent resent evs ≡ onAck time a (worldBefore c status size sent resent evs) ⌝ }
+    ensures { λ r. ⌜ answeredAfter (numberOf (r .verdict)) (r .state) status size sent resent evs
+        ≡ onAck time a (worldBefore c status size sent resent evs) ⌝ }
     ensures { λ r. ⌜ saysOf (r .feedback) ≡ ackSays time a (worldBefore c status size sent resent evs) ⌝ }
 {
-    let number = judge::judge_ack(c, time, a);
-    if number != 0 {
-        return feedback_refused(c, number);
+    let verdict = judge::judge_ack(c, time, a);
+    if !is_accepted(verdict) {
+        return unheard(c, verdict);
     }
-    feedback_accepted(steps::ack(c, status, size, sent, resent, evs, time, a))
+    let sensed = steps::ack(c, status, size, sent, resent, evs, time, a);
+    let state = sensed.state;
+    let sampling = sensed.sampling;
+    Heard {
+        state,
+        verdict,
+        feedback: Feedback::Sampled(sampling),
+    }
 }
 
 // A NACK.
@@ -100,14 +109,22 @@ pub fn nack<'a, 'b, 'c>(
     a: Nack,
 ) -> Heard
     requires { ⌜ sound (worldGiven c status size sent resent evs) ≡ true ⌝ }
-    ensures { λ r. ⌜ answeredAfter (feedbackNumber (r .feedback)) (r .state) status size sent resent evs ≡ onNack time a (worldBefore c status size sent resent evs) ⌝ }
+    ensures { λ r. ⌜ answeredAfter (numberOf (r .verdict)) (r .state) status size sent resent evs
+        ≡ onNack time a (worldBefore c status size sent resent evs) ⌝ }
     ensures { λ r. ⌜ saysOf (r .feedback) ≡ nackSays time a (worldBefore c status size sent resent evs) ⌝ }
 {
-    let number = judge::judge_nack(c, status, size, sent, resent, time, a);
-    if number != 0 {
-        return feedback_refused(c, number);
+    let verdict = judge::judge_nack(c, status, size, sent, resent, time, a);
+    if !is_accepted(verdict) {
+        return unheard(c, verdict);
     }
-    feedback_accepted(steps::nack(c, status, size, sent, resent, evs, time, a))
+    let sensed = steps::nack(c, status, size, sent, resent, evs, time, a);
+    let state = sensed.state;
+    let sampling = sensed.sampling;
+    Heard {
+        state,
+        verdict,
+        feedback: Feedback::Sampled(sampling),
+    }
 }
 
 // A loss.
@@ -122,13 +139,15 @@ pub fn loss<'a, 'b, 'c>(
     a: Loss,
 ) -> Answer
     requires { ⌜ sound (worldGiven c status size sent resent evs) ≡ true ⌝ }
-    ensures { λ r. ⌜ answeredAfter (numberOf (r .outcome)) (r .state) status size sent resent evs ≡ onLoss time a (worldBefore c status size sent resent evs) ⌝ }
+    ensures { λ r. ⌜ answeredAfter (numberOf (r .verdict)) (r .state) status size sent resent evs
+        ≡ onLoss time a (worldBefore c status size sent resent evs) ⌝ }
 {
-    let number = judge::judge_loss(c, status, size, sent, resent, time, a);
-    if number != 0 {
-        return refused(c, number);
+    let verdict = judge::judge_loss(c, status, size, sent, resent, time, a);
+    if !is_accepted(verdict) {
+        return Answer { state: c, verdict };
     }
-    accepted(steps::loss(c, status, size, sent, resent, evs, time, a))
+    let state = steps::loss(c, status, size, sent, resent, evs, time, a);
+    Answer { state, verdict }
 }
 
 // The next path. The EV times are only read, the ring is lent for what is required of it.
@@ -142,18 +161,22 @@ pub fn path<'a>(
     time: u64,
 ) -> Routed
     requires { ⌜ sound (worldGiven c status size sent resent evs) ≡ true ⌝ }
-    ensures { λ r. ⌜ routedAfter (pathNumber (r .route)) (pathEv (r .route)) (r .state) status size sent resent evs ≡ onPath time (worldBefore c status size sent resent evs) ⌝ }
+    ensures { λ r. ⌜ routedAfter (numberOf (r .verdict)) (r .ev) (r .state) status size sent resent evs
+        ≡ onPath time (worldBefore c status size sent resent evs) ⌝ }
 {
-    if judge::judge_path(c, time) != 0 {
+    let verdict = judge::judge_path(c, time);
+    if !is_accepted(verdict) {
         return Routed {
             state: c,
-            route: Route::Refused(Refusal::Time),
+            verdict,
+            ev: 0,
         };
     }
     let stepped = steps::path(c, evs, time);
     let state = stepped.state;
     Routed {
         state,
-        route: Route::Chosen(stepped.ev),
+        verdict,
+        ev: stepped.ev,
     }
 }

@@ -1,17 +1,16 @@
 // Setting up.
 use crate::Answer;
 use crate::Controller;
-use crate::Outcome;
 use crate::Phase;
-use crate::Refusal;
 use ledger::Flow;
 use ledger::Totals;
+use rules::verdict::Verdict;
 use window::Settings;
 ghost use mathlib.Core.Path.{_≡_};
+ghost use Rattle.rules.specs.Verdict.{numberOf};
 ghost use Rattle.ledger.specs.Lent.{ringBefore, ringAfter};
 ghost use Rattle.ledger.specs.Ring.{ring};
 ghost use Rattle.sender.specs.Lent.{answeredAfter};
-ghost use Rattle.sender.specs.Numbers.{rowOf, numberOf};
 ghost use Rattle.sender.specs.Start.{noSettings, freshState, zeros, clearRing, onSetUp};
 
 // Zeros over a lent slice, at each width.
@@ -112,12 +111,12 @@ fn clear<'a, 'b, 'c, 'd, 'e>(
 }
 
 // A refused setting up: the state of zeros.
-fn not_set_up(refusal: Refusal) -> Answer
-    ensures { λ r. ⌜ (r .state ≡ freshState noSettings) × (numberOf (r .outcome) ≡ rowOf refusal) ⌝ }
+fn not_set_up(verdict: Verdict) -> Answer
+    ensures { λ r. ⌜ (r .state ≡ freshState noSettings) × (r .verdict ≡ verdict) ⌝ }
 {
     Answer {
         state: fresh(no_settings()),
-        outcome: Outcome::Refused(refusal),
+        verdict,
     }
 }
 
@@ -130,18 +129,19 @@ pub fn set_up<'a, 'b, 'c, 'd, 'e>(
     resent: &'d mut [u8],
     evs: &'e mut [u64],
 ) -> Answer
-    ensures { λ r. ⌜ answeredAfter (numberOf (r .outcome)) (r .state) status size sent resent evs ≡ onSetUp settings (ringBefore status size sent resent) (now (evs .entry)) ⌝ }
+    ensures { λ r. ⌜ answeredAfter (numberOf (r .verdict)) (r .state) status size sent resent evs
+        ≡ onSetUp settings (ringBefore status size sent resent) (now (evs .entry)) ⌝ }
 {
     if !window::bounds::in_range(settings) {
-        return not_set_up(Refusal::Setting);
+        return not_set_up(Verdict::Setting);
     }
     if !(ledger::whole::is_ring(status, size, sent, resent)
         & (evs.len() as u64 == settings.ev_count)) {
-        return not_set_up(Refusal::Unsound);
+        return not_set_up(Verdict::Unsound);
     }
     clear(status, size, sent, resent, evs);
     Answer {
         state: fresh(settings),
-        outcome: Outcome::Accepted,
+        verdict: Verdict::Accepted,
     }
 }

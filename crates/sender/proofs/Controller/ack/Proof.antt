@@ -1,14 +1,15 @@
 -- The method `ack` tests number 2 and then relies on it: either answer is a case of `onAck`.
-use mathlib.Core.Path.{sym, _∙_}
+use mathlib.Core.Path.{sym, ap, _∙_}
 use native.Mathlib.Omega.{arith}
 use borrow.Author.Needs.{needs}
 use borrow.Author.Tests.{not-true, not-false}
+use Rattle.rules.specs.Verdict.{numberOf}
 use Rattle.ledger.specs.Ring.{ring}
 use Rattle.sender.specs.World.{World, world}
 use Rattle.sender.specs.Rows.{ackAllRows}
 use Rattle.sender.specs.Steps.{ackSampling, ackStep}
 use Rattle.sender.specs.Events.{onAck}
-use Rattle.sender.proofs.Rowing.{two-table, answer-unsound, says-nothing}
+use Rattle.sender.proofs.Rowing.{answer-unsound, says-nothing}
 use Rattle.sender.proofs.Controller.ack.Statement.{statement}
 use Rattle.sender.proofs.Controller.ack.Tie as tie
 
@@ -23,8 +24,8 @@ start i = i .before .before .before .before .before .before .before .before .bef
 is-sound-requires : tie.Need-is-sound-requires
 is-sound-requires c κs = search needs
 
-feedback-refused-requires : tie.Need-feedback-refused-requires
-feedback-refused-requires c κs = two-table
+unheard-requires : tie.Need-unheard-requires
+unheard-requires c κs = search needs
 
 same-length : tie.Need-same-length
 same-length c = search needs
@@ -42,13 +43,17 @@ same-length-5 : tie.Need-same-length-5
 same-length-5 c = search needs
 
 returns : tie.Need-returns
-unfolding onAck
+unfolding numberOf onAck
 returns c =
     let i = c .before .before in
     let s = start i in
+    let two = ap numberOf (c .unheard .ensures .1) in
     let answer = answer-unsound (handed s) (ackAllRows (s .args .time) (s .args .a) (s .args .self)) (ackStep (s .args .time) (s .args .a) (handed s)) _ _
-    (sym (i .is-sound .ensures) ∙ not-true _ (c .before .if1 .taken)) (c .feedback-refused .ensures .0) (c .feedback-refused .ensures .1) in
-    (answer, says-nothing answer (ackSampling (s .args .time) (s .args .a) (handed s)) (λ z. omega (arith, c .feedback-refused .ensures .1, z)) (c .feedback-refused .ensures .2))
+    (sym (i .is-sound .ensures) ∙ not-true _ (c .before .if1 .taken)) (c .unheard .ensures .0) two in (
+      answer,
+      says-nothing answer (ackSampling (s .args .time) (s .args .a) (handed s)) (λ z. omega (arith, two, z))
+          (c .unheard .ensures .2),
+    )
 
 ack-requires : tie.Need-ack-requires
 ack-requires c κs =
@@ -78,7 +83,7 @@ ack-spec =
     tie.close
     (tie.spec
     is-sound-requires
-    feedback-refused-requires
+    unheard-requires
     same-length
     same-length-2
     same-length-3

@@ -1,13 +1,14 @@
 -- The method `loss` tests number 2 and then relies on it: either answer is a case of `onLoss`.
-use mathlib.Core.Path.{sym, _∙_}
+use mathlib.Core.Path.{refl, sym, _∙_}
 use borrow.Author.Needs.{needs}
 use borrow.Author.Tests.{not-true, not-false}
+use Rattle.rules.specs.Verdict.{numberOf}
 use Rattle.ledger.specs.Ring.{ring}
 use Rattle.sender.specs.World.{World, world}
 use Rattle.sender.specs.Rows.{lossAllRows}
 use Rattle.sender.specs.Steps.{lossStep}
 use Rattle.sender.specs.Events.{onLoss}
-use Rattle.sender.proofs.Rowing.{two-table, answer-unsound}
+use Rattle.sender.proofs.Rowing.{answer-unsound}
 use Rattle.sender.proofs.Controller.loss.Statement.{statement}
 use Rattle.sender.proofs.Controller.loss.Tie as tie
 
@@ -22,9 +23,6 @@ start i = i .before .before .before .before .before .before .before .before
 is-sound-requires : tie.Need-is-sound-requires
 is-sound-requires c κs = search needs
 
-refused-requires : tie.Need-refused-requires
-refused-requires c κs = two-table
-
 same-length : tie.Need-same-length
 same-length c = search needs
 
@@ -32,12 +30,12 @@ same-length-2 : tie.Need-same-length-2
 same-length-2 c = search needs
 
 returns : tie.Need-returns
-unfolding onLoss
+unfolding numberOf onLoss
 returns c =
-    let i = c .before .before in
+    let i = c .before in
     let s = start i in
     answer-unsound (handed s) (lossAllRows (s .args .time) (s .args .a) (s .args .self) (handed s .slots)) (lossStep (s .args .time) (s .args .a) (handed s)) _ _
-    (sym (i .is-sound .ensures) ∙ not-true _ (c .before .if1 .taken)) (c .refused .ensures .0) (c .refused .ensures .1)
+    (sym (i .is-sound .ensures) ∙ not-true _ (c .if1 .taken)) refl refl
 
 loss-requires : tie.Need-loss-requires
 loss-requires c κs =
@@ -58,7 +56,6 @@ loss-spec =
     tie.close
     (tie.spec
     is-sound-requires
-    refused-requires
     same-length
     same-length-2
     returns

@@ -1,14 +1,15 @@
 -- The method `nack` tests number 2 and then relies on it: either answer is a case of `onNack`.
-use mathlib.Core.Path.{sym, _∙_}
+use mathlib.Core.Path.{sym, ap, _∙_}
 use native.Mathlib.Omega.{arith}
 use borrow.Author.Needs.{needs}
 use borrow.Author.Tests.{not-true, not-false}
+use Rattle.rules.specs.Verdict.{numberOf}
 use Rattle.ledger.specs.Ring.{ring}
 use Rattle.sender.specs.World.{World, world}
 use Rattle.sender.specs.Rows.{nackAllRows}
 use Rattle.sender.specs.Steps.{nackSampling, nackStep}
 use Rattle.sender.specs.Events.{onNack}
-use Rattle.sender.proofs.Rowing.{two-table, answer-unsound, says-nothing}
+use Rattle.sender.proofs.Rowing.{answer-unsound, says-nothing}
 use Rattle.sender.proofs.Controller.nack.Statement.{statement}
 use Rattle.sender.proofs.Controller.nack.Tie as tie
 
@@ -23,8 +24,8 @@ start i = i .before .before .before .before .before .before .before .before
 is-sound-requires : tie.Need-is-sound-requires
 is-sound-requires c κs = search needs
 
-feedback-refused-requires : tie.Need-feedback-refused-requires
-feedback-refused-requires c κs = two-table
+unheard-requires : tie.Need-unheard-requires
+unheard-requires c κs = search needs
 
 same-length : tie.Need-same-length
 same-length c = search needs
@@ -33,13 +34,17 @@ same-length-2 : tie.Need-same-length-2
 same-length-2 c = search needs
 
 returns : tie.Need-returns
-unfolding onNack
+unfolding numberOf onNack
 returns c =
     let i = c .before .before in
     let s = start i in
+    let two = ap numberOf (c .unheard .ensures .1) in
     let answer = answer-unsound (handed s) (nackAllRows (s .args .time) (s .args .a) (s .args .self) (handed s .slots)) (nackStep (s .args .time) (s .args .a) (handed s)) _ _
-    (sym (i .is-sound .ensures) ∙ not-true _ (c .before .if1 .taken)) (c .feedback-refused .ensures .0) (c .feedback-refused .ensures .1) in
-    (answer, says-nothing answer (nackSampling (s .args .time) (s .args .a) (handed s)) (λ z. omega (arith, c .feedback-refused .ensures .1, z)) (c .feedback-refused .ensures .2))
+    (sym (i .is-sound .ensures) ∙ not-true _ (c .before .if1 .taken)) (c .unheard .ensures .0) two in (
+      answer,
+      says-nothing answer (nackSampling (s .args .time) (s .args .a) (handed s)) (λ z. omega (arith, two, z))
+          (c .unheard .ensures .2),
+    )
 
 nack-requires : tie.Need-nack-requires
 nack-requires c κs =
@@ -60,7 +65,7 @@ nack-spec =
     tie.close
     (tie.spec
     is-sound-requires
-    feedback-refused-requires
+    unheard-requires
     same-length
     same-length-2
     returns

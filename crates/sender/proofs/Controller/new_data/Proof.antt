@@ -1,13 +1,14 @@
 -- The method `new_data` tests number 2 and then relies on it: either answer is a case of `onNewData`.
-use mathlib.Core.Path.{sym, _∙_}
+use mathlib.Core.Path.{refl, sym, _∙_}
 use borrow.Author.Needs.{needs}
 use borrow.Author.Tests.{not-true, not-false}
+use Rattle.rules.specs.Verdict.{numberOf}
 use Rattle.ledger.specs.Ring.{ring}
 use Rattle.sender.specs.World.{World, world}
 use Rattle.sender.specs.Rows.{newDataRows}
 use Rattle.sender.specs.Steps.{newDataStep}
 use Rattle.sender.specs.Events.{onNewData}
-use Rattle.sender.proofs.Rowing.{two-table, answer-unsound}
+use Rattle.sender.proofs.Rowing.{answer-unsound}
 use Rattle.sender.proofs.Controller.new_data.Statement.{statement}
 use Rattle.sender.proofs.Controller.new_data.Tie as tie
 
@@ -22,16 +23,13 @@ start i = i .before .before .before .before .before .before
 is-sound-requires : tie.Need-is-sound-requires
 is-sound-requires c κs = search needs
 
-refused-requires : tie.Need-refused-requires
-refused-requires c κs = two-table
-
 returns : tie.Need-returns
-unfolding onNewData
+unfolding numberOf onNewData
 returns c =
-    let i = c .before .before in
+    let i = c .before in
     let s = start i in
     answer-unsound (handed s) (newDataRows (s .args .time) (s .args .bytes) (s .args .self)) (newDataStep (s .args .time) (s .args .bytes) (handed s)) _ _
-    (sym (i .is-sound .ensures) ∙ not-true _ (c .before .if1 .taken)) (c .refused .ensures .0) (c .refused .ensures .1)
+    (sym (i .is-sound .ensures) ∙ not-true _ (c .if1 .taken)) refl refl
 
 new-data-requires : tie.Need-new-data-requires
 new-data-requires c κs =
@@ -43,4 +41,4 @@ returns-2 c = c .new-data .ensures
 
 pub new-data-spec : {M : Type 1} → statement M
 new-data-spec =
-    tie.close (tie.spec is-sound-requires refused-requires returns new-data-requires returns-2)
+    tie.close (tie.spec is-sound-requires returns new-data-requires returns-2)

@@ -3,7 +3,7 @@ use mathlib.Core.Path.{refl, sym, _∙_}
 use borrow.Author.Needs.{needs}
 use borrow.Author.Tests.{not-true, not-false}
 use Rattle.ledger.specs.Ring.{ring}
-use Rattle.sender.specs.Numbers.{rowOf, pathNumber, pathEv}
+use Rattle.rules.specs.Verdict.{numberOf}
 use Rattle.sender.specs.World.{World, world}
 use Rattle.sender.specs.Rows.{pathRows}
 use Rattle.sender.specs.Events.{onPath}
@@ -23,7 +23,7 @@ is-sound-requires : tie.Need-is-sound-requires
 is-sound-requires c κs = search needs
 
 returns : tie.Need-returns
-unfolding onPath pathNumber pathEv rowOf
+unfolding numberOf onPath
 returns c =
     let s = start (c .before) in
     let w = handed s in

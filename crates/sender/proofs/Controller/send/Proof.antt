@@ -1,13 +1,14 @@
 -- The method `send` tests number 2 and then relies on it: either answer is a case of `onSend`.
-use mathlib.Core.Path.{sym, _∙_}
+use mathlib.Core.Path.{refl, sym, _∙_}
 use borrow.Author.Needs.{needs}
 use borrow.Author.Tests.{not-true, not-false}
+use Rattle.rules.specs.Verdict.{numberOf}
 use Rattle.ledger.specs.Ring.{ring}
 use Rattle.sender.specs.World.{World, world}
 use Rattle.sender.specs.Rows.{sendAllRows}
 use Rattle.sender.specs.Steps.{sendStep}
 use Rattle.sender.specs.Events.{onSend}
-use Rattle.sender.proofs.Rowing.{two-table, answer-unsound}
+use Rattle.sender.proofs.Rowing.{answer-unsound}
 use Rattle.sender.proofs.Controller.send.Statement.{statement}
 use Rattle.sender.proofs.Controller.send.Tie as tie
 
@@ -22,9 +23,6 @@ start i = i .before .before .before .before .before .before .before .before .bef
 is-sound-requires : tie.Need-is-sound-requires
 is-sound-requires c κs = search needs
 
-refused-requires : tie.Need-refused-requires
-refused-requires c κs = two-table
-
 same-length : tie.Need-same-length
 same-length c = search needs
 
@@ -38,12 +36,12 @@ same-length-4 : tie.Need-same-length-4
 same-length-4 c = search needs
 
 returns : tie.Need-returns
-unfolding onSend
+unfolding numberOf onSend
 returns c =
-    let i = c .before .before in
+    let i = c .before in
     let s = start i in
     answer-unsound (handed s) (sendAllRows (s .args .time) (s .args .a) (s .args .self) (handed s .slots)) (sendStep (s .args .time) (s .args .a) (handed s)) _ _
-    (sym (i .is-sound .ensures) ∙ not-true _ (c .before .if1 .taken)) (c .refused .ensures .0) (c .refused .ensures .1)
+    (sym (i .is-sound .ensures) ∙ not-true _ (c .if1 .taken)) refl refl
 
 send-requires : tie.Need-send-requires
 send-requires c κs =
@@ -70,7 +68,6 @@ send-spec =
     tie.close
     (tie.spec
     is-sound-requires
-    refused-requires
     same-length
     same-length-2
     same-length-3

@@ -2,6 +2,7 @@
 use mathlib.Core.Path.{sym, ap, refl, _∙_}
 use mathlib.Core.Bool.{not}
 use borrow.Author.Needs.{needs}
+use Rattle.rules.specs.Verdict.{numberOf}
 use borrow.Author.Tests.{le-leb, lt-leb}
 use Rattle.rules.specs.Rows.{first-here, first-later}
 use Rattle.sender.proofs.Rowing.{judged-3, judged-field, judged-on}
@@ -12,9 +13,11 @@ bad-time-requires : tie.Need-bad-time-requires
 bad-time-requires c κs = search needs
 
 returns : tie.Need-returns
+unfolding numberOf
 returns c = judged-3 _ _ _ _ (sym (c .before .bad-time .ensures) ∙ c .if1 .taken)
 
 returns-2 : tie.Need-returns-2
+unfolding numberOf
 returns-2 c =
     let i = c .before .before in
     judged-field _ _ _ _ (sym (i .before .bad-time .ensures) ∙ i .if1 .left) (le-leb _ _ (c .if2 .taken))
@@ -23,6 +26,7 @@ cast-if3 : tie.Need-cast-if3
 cast-if3 c = search needs
 
 returns-3 : tie.Need-returns-3
+unfolding numberOf
 returns-3 c =
     let k = c .before .before .before in
     let i = k .before .before in
@@ -32,6 +36,7 @@ covers-requires : tie.Need-covers-requires
 covers-requires c κs = search needs
 
 returns-4 : tie.Need-returns-4
+unfolding numberOf
 returns-4 c =
     let v = c .before .before in
     let k = v .before .before .before in
@@ -43,6 +48,7 @@ judge-ack-requires : tie.Need-judge-ack-requires
 judge-ack-requires c κs = search needs
 
 returns-5 : tie.Need-returns-5
+unfolding numberOf
 returns-5 c =
     let g = c .before in
     let v = g .before .before in

@@ -3,6 +3,7 @@ use mathlib.Core.Path.{sym, ap, _∙_}
 use mathlib.Core.Bool.{not}
 use mathlib.Core.List.{_++_}
 use borrow.Author.Needs.{needs}
+use Rattle.rules.specs.Verdict.{numberOf}
 use Rattle.ledger.specs.Ring.{Ring, ring}
 use Rattle.ledger.specs.Rows.{sendRows}
 use Rattle.sender.proofs.Rowing.{judged-3, judged-field, judged-on, roomRows, judged-resend, judged-new}
@@ -16,6 +17,7 @@ bad-time-requires : tie.Need-bad-time-requires
 bad-time-requires c κs = search needs
 
 returns : tie.Need-returns
+unfolding numberOf
 returns c = judged-3 _ _ _ _ (sym (c .before .bad-time .ensures) ∙ c .if1 .taken)
 
 cast-within : tie.Need-cast-within
@@ -28,6 +30,7 @@ within-requires : tie.Need-within-requires
 within-requires c κs = search needs
 
 returns-2 : tie.Need-returns-2
+unfolding numberOf
 returns-2 c =
     let i = c .before .before .before in
     judged-field _ _ _ _ (sym (i .before .bad-time .ensures) ∙ i .if1 .left) (ap not (sym (c .before .within .ensures)) ∙ c .if2 .taken)
@@ -39,6 +42,7 @@ judge-room-requires : tie.Need-judge-room-requires
 judge-room-requires c κs = search needs
 
 returns-3 : tie.Need-returns-3
+unfolding numberOf
 returns-3 c =
     let n = c .before in
     let k = n .before .before in
@@ -46,8 +50,10 @@ returns-3 c =
     let s = i .before .before .before .before .before .before .before .before in
     let a = s .args in
     judged-on _ _ _ (sendRows (a .c .flow) (slots s) (a .a .psn) (a .a .size) (a .a .resend) ++ roomRows (a .c))
-    (sym (i .before .bad-time .ensures) ∙ i .if1 .left) (ap not (sym (k .before .within .ensures)) ∙ k .if2 .left) (c .judge-room .result)
-    (judged-resend (a .c) (slots s) (a .a) (n .judge-resend .result) (c .judge-room .result) (c .judge-room .ensures) (n .before .if3 .taken) (n .judge-resend .ensures))
+    (sym (i .before .bad-time .ensures) ∙ i .if1 .left) (ap not (sym (k .before .within .ensures)) ∙ k .if2 .left)
+    (numberOf (c .judge-room .result))
+    (judged-resend (a .c) (slots s) (a .a) (numberOf (n .judge-resend .result)) (numberOf (c .judge-room .result))
+    (c .judge-room .ensures) (n .before .if3 .taken) (n .judge-resend .ensures))
 
 judge-new-requires : tie.Need-judge-new-requires
 judge-new-requires c κs = search needs
@@ -56,6 +62,7 @@ judge-room-requires-2 : tie.Need-judge-room-requires-2
 judge-room-requires-2 c κs = search needs
 
 returns-4 : tie.Need-returns-4
+unfolding numberOf
 returns-4 c =
     let n = c .before in
     let k = n .before .before in
@@ -63,8 +70,10 @@ returns-4 c =
     let s = i .before .before .before .before .before .before .before .before in
     let a = s .args in
     judged-on _ _ _ (sendRows (a .c .flow) (slots s) (a .a .psn) (a .a .size) (a .a .resend) ++ roomRows (a .c))
-    (sym (i .before .bad-time .ensures) ∙ i .if1 .left) (ap not (sym (k .before .within .ensures)) ∙ k .if2 .left) (c .judge-room2 .result)
-    (judged-new (a .c) (slots s) (a .a) (n .judge-new .result) (c .judge-room2 .result) (c .judge-room2 .ensures) (n .before .if3 .left) (n .judge-new .ensures))
+    (sym (i .before .bad-time .ensures) ∙ i .if1 .left) (ap not (sym (k .before .within .ensures)) ∙ k .if2 .left)
+    (numberOf (c .judge-room2 .result))
+    (judged-new (a .c) (slots s) (a .a) (numberOf (n .judge-new .result)) (numberOf (c .judge-room2 .result)) (c .judge-room2 .ensures)
+    (n .before .if3 .left) (n .judge-new .ensures))
 
 pub judge-send-spec : {M : Type 1} → statement M
 judge-send-spec =

@@ -3,16 +3,16 @@ use mathlib.Core.Path.{refl, sym, ap, _∙_}
 use mathlib.Core.Option.{some}
 use mathlib.Core.List.{List}
 use borrow.Author.Needs.{needs}
-use Rattle.rules.specs.Test.{inside}
+use borrow.Author.Tests.{not-true, not-false}
 use Rattle.rules.specs.Rows.{Row}
+use Rattle.rules.specs.Verdict.{numberOf, accepted-zero, refused-not}
 use Rattle.ledger.specs.Ring.{ring}
 use Rattle.sender.specs.World.{World, world}
 use Rattle.sender.specs.Rows.{ackAllRows}
 use Rattle.sender.specs.Steps.{ackSampling, ackStep}
-use Rattle.sender.specs.Events.{onAck}
+use Rattle.sender.specs.Events.{saysOf, onAck}
 use Rattle.sender.proofs.Sounds.{sound-bounded}
-use Rattle.sender.specs.Numbers.{inTable}
-use Rattle.sender.proofs.Rowing.{numbered, in-table, answer-refused, answer-accepted, says-nothing, says-sample}
+use Rattle.sender.proofs.Rowing.{answer-refused, answer-accepted, says-nothing, says-sample}
 use Rattle.sender.proofs.rely.ack.Statement.{statement}
 use Rattle.sender.proofs.rely.ack.Tie as tie
 
@@ -35,30 +35,33 @@ judge-ack-requires c κs =
     let s = c .before .before .before .before .before in
     sound-bounded (handed s) (s .pre)
 
-feedback-refused-requires : tie.Need-feedback-refused-requires
-unfolding numbered inTable inside
-feedback-refused-requires c κs =
-    let j = c .before in
-    let s = start j in
-    in-table (rows s) refl (j .judge-ack .result) (j .judge-ack .ensures) (c .if1 .taken)
+is-accepted-requires : tie.Need-is-accepted-requires
+is-accepted-requires c κs = search needs
+
+unheard-requires : tie.Need-unheard-requires
+unheard-requires c κs = search needs
 
 returns : tie.Need-returns
 unfolding onAck
 returns c =
-    let j = c .before .before in
+    let v = c .before .before in
+    let j = v .before in
     let s = start j in
-    let answer = answer-refused (handed s) (rows s) (stepped s) _ _ (s .pre) (j .judge-ack .result) (j .judge-ack .ensures) (c .before .if1 .taken) (c .feedback-refused .ensures .0)
-    (c .feedback-refused .ensures .1) in
-    (answer, says-nothing answer (ackSampling (s .args .time) (s .args .a) (handed s)) (λ z. c .before .if1 .taken (sym (c .feedback-refused .ensures .1) ∙ z)) (c .feedback-refused .ensures .2))
+    let refused = refused-not _ _ (v .is-accepted .ensures) (not-true _ (c .before .if1 .taken)) in
+    let same = ap numberOf (c .unheard .ensures .1) in
+    let answer = answer-refused (handed s) (rows s) (stepped s) _ _ (s .pre) (numberOf (j .judge-ack .result))
+    (j .judge-ack .ensures) refused
+    (c .unheard .ensures .0) same in (
+      answer,
+      says-nothing answer (ackSampling (s .args .time) (s .args .a) (handed s)) (λ z. refused (sym same ∙ z))
+          (c .unheard .ensures .2),
+    )
 
 ack-requires : tie.Need-ack-requires
 ack-requires c κs =
     let e = c .before .before .before .before .before in
-    let j = e .before in
-    (start j .pre, sym (j .judge-ack .ensures) ∙ e .if1 .left)
-
-feedback-accepted-requires : tie.Need-feedback-accepted-requires
-feedback-accepted-requires c κs = search needs
+    let j = e .before .before in
+    (start j .pre, sym (j .judge-ack .ensures) ∙ accepted-zero _ _ (e .before .is-accepted .ensures) (not-false _ (e .if1 .left)))
 
 same-length : tie.Need-same-length
 same-length c = search needs
@@ -76,27 +79,28 @@ same-length-5 : tie.Need-same-length-5
 same-length-5 c = search needs
 
 returns-2 : tie.Need-returns-2
-unfolding onAck
+unfolding saysOf onAck
 returns-2 c =
     let k = c .before .before .before .before .before .before .before .before .before .before .before in
     let l = k .ack .last in
     let e = k .before .before .before .before .before .before in
-    let j = e .before in
+    let j = e .before .before in
     let s = start j in
-    let answer = answer-accepted (handed s) (rows s) (stepped s) _ _ (s .pre) (j .judge-ack .result) (j .judge-ack .ensures) (e .if1 .left)
+    let zero = accepted-zero _ _ (e .before .is-accepted .ensures) (not-false _ (e .if1 .left)) in
+    let answer = answer-accepted (handed s) (rows s) (stepped s) _ _ (s .pre) (numberOf (j .judge-ack .result)) (j .judge-ack .ensures) zero
     (k .ack .result .state) (ring (l .1 .0) (l .1 .1 .0) (l .1 .1 .1 .0) (l .1 .1 .1 .1 .0)) (l .1 .1 .1 .1 .1 .0)
-    (k .ack .ensures .0) (c .feedback-accepted .ensures .0) (c .feedback-accepted .ensures .1) in
-    (answer, says-sample answer (ackSampling (s .args .time) (s .args .a) (handed s)) (c .feedback-accepted .ensures .1) (c .feedback-accepted .ensures .2 ∙ ap some (k .ack .ensures .1)))
+    (k .ack .ensures .0) refl zero in
+    (answer, says-sample answer (ackSampling (s .args .time) (s .args .a) (handed s)) zero (ap some (k .ack .ensures .1)))
 
 pub ack-spec : {M : Type 1} → statement M
 ack-spec =
     tie.close
     (tie.spec
     judge-ack-requires
-    feedback-refused-requires
+    is-accepted-requires
+    unheard-requires
     returns
     ack-requires
-    feedback-accepted-requires
     same-length
     same-length-2
     same-length-3

@@ -2,16 +2,16 @@
 use mathlib.Core.Path.{refl, sym, _∙_}
 use mathlib.Core.List.{List}
 use borrow.Author.Needs.{needs}
-use Rattle.rules.specs.Test.{inside}
+use borrow.Author.Tests.{not-true, not-false}
 use Rattle.rules.specs.Rows.{Row}
+use Rattle.rules.specs.Verdict.{numberOf, accepted-zero, refused-not}
 use Rattle.ledger.specs.Ring.{ring}
 use Rattle.sender.specs.World.{World, world}
 use Rattle.sender.specs.Rows.{lossAllRows}
 use Rattle.sender.specs.Steps.{lossStep}
 use Rattle.sender.specs.Events.{onLoss}
 use Rattle.sender.proofs.Sounds.{sound-bounded, sound-even}
-use Rattle.sender.specs.Numbers.{inTable}
-use Rattle.sender.proofs.Rowing.{numbered, in-table, answer-refused, answer-accepted}
+use Rattle.sender.proofs.Rowing.{answer-refused, answer-accepted}
 use Rattle.sender.proofs.rely.loss.Statement.{statement}
 use Rattle.sender.proofs.rely.loss.Tie as tie
 
@@ -34,32 +34,25 @@ judge-loss-requires c κs =
     let s = c .before .before .before .before .before .before in
     (sound-bounded (handed s) (s .pre), sound-even (handed s) (s .pre))
 
-refused-requires : tie.Need-refused-requires
-unfolding numbered inTable inside
-refused-requires c κs =
-    let j = c .before in
-    let s = start j in
-    in-table (rows s) refl (j .judge-loss .result) (j .judge-loss .ensures) (c .if1 .taken)
-
 same-length : tie.Need-same-length
 same-length c = search needs
+
+is-accepted-requires : tie.Need-is-accepted-requires
+is-accepted-requires c κs = search needs
 
 returns : tie.Need-returns
 unfolding onLoss
 returns c =
     let j = c .before .before in
     let s = start j in
-    answer-refused (handed s) (rows s) (stepped s) _ _ (s .pre) (j .judge-loss .result) (j .judge-loss .ensures) (c .before .if1 .taken) (c .refused .ensures .0)
-    (c .refused .ensures .1)
+    answer-refused (handed s) (rows s) (stepped s) _ _ (s .pre) (numberOf (j .judge-loss .result)) (j .judge-loss .ensures)
+    (refused-not _ _ (c .before .is-accepted .ensures) (not-true _ (c .if1 .taken))) refl refl
 
 loss-requires : tie.Need-loss-requires
 loss-requires c κs =
     let e = c .before .before in
-    let j = e .before in
-    (start j .pre, sym (j .judge-loss .ensures) ∙ e .if1 .left)
-
-accepted-requires : tie.Need-accepted-requires
-accepted-requires c κs = search needs
+    let j = e .before .before in
+    (start j .pre, sym (j .judge-loss .ensures) ∙ accepted-zero _ _ (e .before .is-accepted .ensures) (not-false _ (e .if1 .left)))
 
 same-length-2 : tie.Need-same-length-2
 same-length-2 c = search needs
@@ -70,25 +63,25 @@ same-length-3 c = search needs
 returns-2 : tie.Need-returns-2
 unfolding onLoss
 returns-2 c =
-    let k = c .before .before .before .before .before in
+    let k = c .before .before .before .before in
     let l = k .loss .last in
     let e = k .before .before .before in
-    let j = e .before in
+    let j = e .before .before in
     let s = start j in
-    answer-accepted (handed s) (rows s) (stepped s) _ _ (s .pre) (j .judge-loss .result) (j .judge-loss .ensures) (e .if1 .left)
+    let zero = accepted-zero _ _ (e .before .is-accepted .ensures) (not-false _ (e .if1 .left)) in
+    answer-accepted (handed s) (rows s) (stepped s) _ _ (s .pre) (numberOf (j .judge-loss .result)) (j .judge-loss .ensures) zero
     (k .loss .result) (ring (l .1 .0) (s .args .size .now) (s .args .sent .now) (s .args .resent .now)) (l .1 .1 .1 .1 .1 .0)
-    (k .loss .ensures) (c .accepted .ensures .0) (c .accepted .ensures .1)
+    (k .loss .ensures) refl zero
 
 pub loss-spec : {M : Type 1} → statement M
 loss-spec =
     tie.close
     (tie.spec
     judge-loss-requires
-    refused-requires
+    is-accepted-requires
     same-length
     returns
     loss-requires
-    accepted-requires
     same-length-2
     same-length-3
     returns-2)

@@ -3,16 +3,16 @@ use mathlib.Core.Path.{refl, sym, ap, _∙_}
 use mathlib.Core.Option.{some}
 use mathlib.Core.List.{List}
 use borrow.Author.Needs.{needs}
-use Rattle.rules.specs.Test.{inside}
+use borrow.Author.Tests.{not-true, not-false}
 use Rattle.rules.specs.Rows.{Row}
+use Rattle.rules.specs.Verdict.{numberOf, accepted-zero, refused-not}
 use Rattle.ledger.specs.Ring.{ring}
 use Rattle.sender.specs.World.{World, world}
 use Rattle.sender.specs.Rows.{nackAllRows}
 use Rattle.sender.specs.Steps.{nackSampling, nackStep}
-use Rattle.sender.specs.Events.{onNack}
+use Rattle.sender.specs.Events.{saysOf, onNack}
 use Rattle.sender.proofs.Sounds.{sound-bounded, sound-even}
-use Rattle.sender.specs.Numbers.{inTable}
-use Rattle.sender.proofs.Rowing.{numbered, in-table, answer-refused, answer-accepted, says-nothing, says-sample}
+use Rattle.sender.proofs.Rowing.{answer-refused, answer-accepted, says-nothing, says-sample}
 use Rattle.sender.proofs.rely.nack.Statement.{statement}
 use Rattle.sender.proofs.rely.nack.Tie as tie
 
@@ -35,33 +35,36 @@ judge-nack-requires c κs =
     let s = c .before .before .before .before .before .before in
     (sound-bounded (handed s) (s .pre), sound-even (handed s) (s .pre))
 
-feedback-refused-requires : tie.Need-feedback-refused-requires
-unfolding numbered inTable inside
-feedback-refused-requires c κs =
-    let j = c .before in
-    let s = start j in
-    in-table (rows s) refl (j .judge-nack .result) (j .judge-nack .ensures) (c .if1 .taken)
-
 same-length : tie.Need-same-length
 same-length c = search needs
+
+is-accepted-requires : tie.Need-is-accepted-requires
+is-accepted-requires c κs = search needs
+
+unheard-requires : tie.Need-unheard-requires
+unheard-requires c κs = search needs
 
 returns : tie.Need-returns
 unfolding onNack
 returns c =
-    let j = c .before .before in
+    let v = c .before .before in
+    let j = v .before in
     let s = start j in
-    let answer = answer-refused (handed s) (rows s) (stepped s) _ _ (s .pre) (j .judge-nack .result) (j .judge-nack .ensures) (c .before .if1 .taken) (c .feedback-refused .ensures .0)
-    (c .feedback-refused .ensures .1) in
-    (answer, says-nothing answer (nackSampling (s .args .time) (s .args .a) (handed s)) (λ z. c .before .if1 .taken (sym (c .feedback-refused .ensures .1) ∙ z)) (c .feedback-refused .ensures .2))
+    let refused = refused-not _ _ (v .is-accepted .ensures) (not-true _ (c .before .if1 .taken)) in
+    let same = ap numberOf (c .unheard .ensures .1) in
+    let answer = answer-refused (handed s) (rows s) (stepped s) _ _ (s .pre) (numberOf (j .judge-nack .result))
+    (j .judge-nack .ensures) refused
+    (c .unheard .ensures .0) same in (
+      answer,
+      says-nothing answer (nackSampling (s .args .time) (s .args .a) (handed s)) (λ z. refused (sym same ∙ z))
+          (c .unheard .ensures .2),
+    )
 
 nack-requires : tie.Need-nack-requires
 nack-requires c κs =
     let e = c .before .before in
-    let j = e .before in
-    (start j .pre, sym (j .judge-nack .ensures) ∙ e .if1 .left)
-
-feedback-accepted-requires : tie.Need-feedback-accepted-requires
-feedback-accepted-requires c κs = search needs
+    let j = e .before .before in
+    (start j .pre, sym (j .judge-nack .ensures) ∙ accepted-zero _ _ (e .before .is-accepted .ensures) (not-false _ (e .if1 .left)))
 
 same-length-2 : tie.Need-same-length-2
 same-length-2 c = search needs
@@ -70,28 +73,30 @@ same-length-3 : tie.Need-same-length-3
 same-length-3 c = search needs
 
 returns-2 : tie.Need-returns-2
-unfolding onNack
+unfolding saysOf onNack
 returns-2 c =
     let k = c .before .before .before .before .before in
     let l = k .nack .last in
     let e = k .before .before .before in
-    let j = e .before in
+    let j = e .before .before in
     let s = start j in
-    let answer = answer-accepted (handed s) (rows s) (stepped s) _ _ (s .pre) (j .judge-nack .result) (j .judge-nack .ensures) (e .if1 .left)
+    let zero = accepted-zero _ _ (e .before .is-accepted .ensures) (not-false _ (e .if1 .left)) in
+    let answer = answer-accepted (handed s) (rows s) (stepped s) _ _ (s .pre) (numberOf (j .judge-nack .result))
+    (j .judge-nack .ensures) zero
     (k .nack .result .state) (ring (l .1 .0) (s .args .size .now) (s .args .sent .now) (s .args .resent .now)) (l .1 .1 .1 .1 .1 .0)
-    (k .nack .ensures .0) (c .feedback-accepted .ensures .0) (c .feedback-accepted .ensures .1) in
-    (answer, says-sample answer (nackSampling (s .args .time) (s .args .a) (handed s)) (c .feedback-accepted .ensures .1) (c .feedback-accepted .ensures .2 ∙ ap some (k .nack .ensures .1)))
+    (k .nack .ensures .0) refl zero in
+    (answer, says-sample answer (nackSampling (s .args .time) (s .args .a) (handed s)) zero (ap some (k .nack .ensures .1)))
 
 pub nack-spec : {M : Type 1} → statement M
 nack-spec =
     tie.close
     (tie.spec
     judge-nack-requires
-    feedback-refused-requires
+    is-accepted-requires
+    unheard-requires
     same-length
     returns
     nack-requires
-    feedback-accepted-requires
     same-length-2
     same-length-3
     returns-2)

@@ -2,8 +2,9 @@
 use mathlib.Core.Path.{refl, sym, ap, _∙_}
 use mathlib.Core.List.{List}
 use borrow.Author.Needs.{needs}
-use Rattle.rules.specs.Test.{inside}
+use borrow.Author.Tests.{not-true, not-false}
 use Rattle.rules.specs.Rows.{Row}
+use Rattle.rules.specs.Verdict.{numberOf, accepted-zero, refused-not}
 use Rattle.ledger.specs.Ring.{ring}
 use Rattle.sender.specs.World.{World, world}
 use Rattle.sender.specs.Rows.{newDataRows}
@@ -11,8 +12,7 @@ use Rattle.sender.specs.Steps.{newDataStep}
 use Rattle.sender.specs.Events.{onNewData}
 use Rattle.sender.specs.declared.Controller.{Controller}
 use Rattle.sender.proofs.Sounds.{sound-bounded}
-use Rattle.sender.specs.Numbers.{inTable}
-use Rattle.sender.proofs.Rowing.{numbered, in-table, answer-refused, answer-accepted}
+use Rattle.sender.proofs.Rowing.{answer-refused, answer-accepted}
 use Rattle.sender.proofs.rely.new_data.Statement.{statement}
 use Rattle.sender.proofs.rely.new_data.Tie as tie
 
@@ -35,48 +35,43 @@ judge-new-data-requires c κs =
     let s = c .before .before .before .before .before in
     sound-bounded (handed s) (s .pre)
 
-refused-requires : tie.Need-refused-requires
-unfolding numbered inTable inside
-refused-requires c κs =
-    let j = c .before in
-    let s = start j in
-    in-table (rows s) refl (j .judge-new-data .result) (j .judge-new-data .ensures) (c .if1 .taken)
+is-accepted-requires : tie.Need-is-accepted-requires
+is-accepted-requires c κs = search needs
 
 returns : tie.Need-returns
 unfolding onNewData
 returns c =
     let j = c .before .before in
     let s = start j in
-    answer-refused (handed s) (rows s) (stepped s) _ _ (s .pre) (j .judge-new-data .result) (j .judge-new-data .ensures) (c .before .if1 .taken) (c .refused .ensures .0)
-    (c .refused .ensures .1)
+    answer-refused (handed s) (rows s) (stepped s) _ _ (s .pre) (numberOf (j .judge-new-data .result)) (j .judge-new-data .ensures)
+    (refused-not _ _ (c .before .is-accepted .ensures) (not-true _ (c .if1 .taken))) refl refl
 
 new-data-requires : tie.Need-new-data-requires
 new-data-requires c κs =
-    let j = c .before in
-    let s = start j in
-    (sound-bounded (handed s) (s .pre), sym (j .judge-new-data .ensures) ∙ c .if1 .left)
-
-accepted-requires : tie.Need-accepted-requires
-accepted-requires c κs = search needs
+    let j = c .before .before in
+    let s = start j in (
+      sound-bounded (handed s) (s .pre),
+      sym (j .judge-new-data .ensures) ∙ accepted-zero _ _ (c .before .is-accepted .ensures)
+          (not-false _ (c .if1 .left)),
+    )
 
 returns-2 : tie.Need-returns-2
 unfolding onNewData newDataStep
 returns-2 c =
-    let k = c .before in
-    let e = k .before in
-    let j = e .before in
+    let e = c .before in
+    let j = e .before .before in
     let s = start j in
-    answer-accepted (handed s) (rows s) (stepped s) _ _ (s .pre) (j .judge-new-data .result) (j .judge-new-data .ensures) (e .if1 .left)
-    (k .new-data .result) (handed s .slots) (handed s .times)
-    (ap (λ (x : Controller). world x (handed s .slots) (handed s .times)) (k .new-data .ensures)) (c .accepted .ensures .0) (c .accepted .ensures .1)
+    let zero = accepted-zero _ _ (e .before .is-accepted .ensures) (not-false _ (e .if1 .left)) in
+    answer-accepted (handed s) (rows s) (stepped s) _ _ (s .pre) (numberOf (j .judge-new-data .result)) (j .judge-new-data .ensures) zero
+    (c .new-data .result) (handed s .slots) (handed s .times)
+    (ap (λ (x : Controller). world x (handed s .slots) (handed s .times)) (c .new-data .ensures)) refl zero
 
 pub new-data-spec : {M : Type 1} → statement M
 new-data-spec =
     tie.close
     (tie.spec
     judge-new-data-requires
-    refused-requires
+    is-accepted-requires
     returns
     new-data-requires
-    accepted-requires
     returns-2)

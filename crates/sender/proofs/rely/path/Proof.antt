@@ -1,10 +1,11 @@
 -- `path` judges the time, then chooses: each answer is a case of `onPath` of a sound world, by the laws of `Rowing`.
-use mathlib.Core.Path.{sym, ap, ap₂, _∙_}
+use mathlib.Core.Path.{refl, sym, ap, ap₂, _∙_}
 use mathlib.Core.List.{[]}
 use Prim.Native.Nat.{ℕ}
 use borrow.Author.Needs.{needs}
+use borrow.Author.Tests.{not-true, not-false}
+use Rattle.rules.specs.Verdict.{numberOf, accepted-zero, refused-not}
 use Rattle.ledger.specs.Ring.{ring}
-use Rattle.sender.specs.Numbers.{rowOf, pathNumber, pathEv}
 use Rattle.sender.specs.World.{World, world, routed}
 use Rattle.sender.specs.Rows.{pathRows}
 use Rattle.sender.specs.Steps.{pathStep}
@@ -12,7 +13,7 @@ use Rattle.sender.specs.Events.{onPath}
 use Rattle.sender.specs.declared.Controller.{Controller}
 use Rattle.sender.proofs.Sounds.{sound-facts, sound-bounded}
 use Rattle.sender.proofs.Stepping.{time-facts}
-use Rattle.sender.proofs.Rowing.{path-late, entry-refused, entry-accepted, taken, untaken}
+use Rattle.sender.proofs.Rowing.{entry-refused, entry-accepted, taken, untaken}
 use Rattle.sender.proofs.rely.path.Statement.{statement}
 use Rattle.sender.proofs.rely.path.Tie as tie
 
@@ -27,37 +28,42 @@ start j = j .before .before .before .before .before .before
 judge-path-requires : tie.Need-judge-path-requires
 judge-path-requires c κs = search needs
 
+is-accepted-requires : tie.Need-is-accepted-requires
+is-accepted-requires c κs = search needs
+
 returns : tie.Need-returns
-unfolding onPath pathNumber pathEv rowOf
+unfolding onPath
 returns c =
-    let j = c .before .judge-path in
-    let s = start (c .before) in
+    let j = c .before .before .judge-path in
+    let s = start (c .before .before) in
     let w = handed s in
     let time = s .args .time in
-    let three = path-late time (w .state) (λ z. c .if1 .taken (j .ensures ∙ z)) ∙ sym (j .ensures) in
-    entry-refused w (pathRows time (w .state)) (taken time w) (λ n. untaken n w) (s .pre) (j .result) (j .ensures) (untaken 3 w) (c .if1 .taken)
-    (ap (λ (n : ℕ). untaken n w) three)
+    entry-refused w (pathRows time (w .state)) (taken time w) (λ n. untaken n w) (s .pre) (numberOf (j .result)) (j .ensures)
+    (untaken (numberOf (j .result)) w) (refused-not _ _ (c .before .is-accepted .ensures) (not-true _ (c .if1 .taken))) refl
 
 path-requires : tie.Need-path-requires
 path-requires c κs =
-    let s = start (c .before) in
+    let s = start (c .before .before) in
     let f = sound-facts (handed s) (s .pre) in
-    let j = c .before .judge-path in
-    let t = time-facts (s .args .time) (s .args .c) [] (sym (j .ensures) ∙ c .if1 .left) .0 in
+    let j = c .before .before .judge-path in
+    let zero = accepted-zero _ _ (c .before .is-accepted .ensures) (not-false _ (c .if1 .left)) in
+    let t = time-facts (s .args .time) (s .args .c) [] (sym (j .ensures) ∙ zero) .0 in
     (sound-bounded (handed s) (s .pre), ((f .times-long, f .cursor-ok), (f .times-ok, t .early)))
 
 returns-2 : tie.Need-returns-2
-unfolding onPath pathStep pathNumber pathEv
+unfolding onPath pathStep
 returns-2 c =
     let p = c .before .path in
     let e = c .before .before in
-    let j = e .before .judge-path in
-    let s = start (e .before) in
+    let j = e .before .before .judge-path in
+    let s = start (e .before .before) in
     let w = handed s in
     let time = s .args .time in
-    entry-accepted w (pathRows time (w .state)) (taken time w) (λ n. untaken n w) (s .pre) (j .result) (j .ensures)
-    (routed 0 (p .result .ev) (p .result .state) (w .slots) (w .times)) (e .if1 .left)
-    (ap₂ (λ (e : ℕ) (x : Controller). routed 0 e x (w .slots) (w .times)) (p .ensures .1) (p .ensures .0))
+    let zero = accepted-zero _ _ (e .before .is-accepted .ensures) (not-false _ (e .if1 .left)) in
+    entry-accepted w (pathRows time (w .state)) (taken time w) (λ n. untaken n w) (s .pre) (numberOf (j .result)) (j .ensures)
+    (routed (numberOf (j .result)) (p .result .ev) (p .result .state) (w .slots) (w .times)) zero
+    (ap (λ (n : ℕ). routed n (p .result .ev) (p .result .state) (w .slots) (w .times)) zero
+    ∙ ap₂ (λ (e : ℕ) (x : Controller). routed 0 e x (w .slots) (w .times)) (p .ensures .1) (p .ensures .0))
 
 pub path-spec : {M : Type 1} → statement M
-path-spec = tie.close (tie.spec judge-path-requires returns path-requires returns-2)
+path-spec = tie.close (tie.spec judge-path-requires is-accepted-requires returns path-requires returns-2)

@@ -1,15 +1,17 @@
 -- `send` judges the rows past 2, then takes the step: each answer is a case of `onSend` of a sound world, by the laws of `Rowing`.
-use mathlib.Core.Path.{sym, _∙_}
+use mathlib.Core.Path.{refl, sym, _∙_}
 use mathlib.Core.List.{List}
 use borrow.Author.Needs.{needs}
+use borrow.Author.Tests.{not-true, not-false}
 use Rattle.rules.specs.Rows.{Row}
+use Rattle.rules.specs.Verdict.{numberOf, accepted-zero, refused-not}
 use Rattle.ledger.specs.Ring.{ring}
 use Rattle.sender.specs.World.{World, world}
 use Rattle.sender.specs.Rows.{sendAllRows}
 use Rattle.sender.specs.Steps.{sendStep}
 use Rattle.sender.specs.Events.{onSend}
 use Rattle.sender.proofs.Sounds.{sound-bounded, sound-even}
-use Rattle.sender.proofs.Rowing.{in-table, send-all-numbered, answer-refused, answer-accepted}
+use Rattle.sender.proofs.Rowing.{answer-refused, answer-accepted}
 use Rattle.sender.proofs.rely.send.Statement.{statement}
 use Rattle.sender.proofs.rely.send.Tie as tie
 
@@ -32,12 +34,6 @@ judge-send-requires c κs =
     let s = c .before .before .before .before .before .before .before .before .before in
     (sound-bounded (handed s) (s .pre), sound-even (handed s) (s .pre))
 
-refused-requires : tie.Need-refused-requires
-refused-requires c κs =
-    let j = c .before in
-    let s = start j in
-    in-table (rows s) (send-all-numbered (s .args .time) (s .args .a) (s .args .c) (handed s .slots)) (j .judge-send .result) (j .judge-send .ensures) (c .if1 .taken)
-
 same-length : tie.Need-same-length
 same-length c = search needs
 
@@ -50,22 +46,22 @@ same-length-3 c = search needs
 same-length-4 : tie.Need-same-length-4
 same-length-4 c = search needs
 
+is-accepted-requires : tie.Need-is-accepted-requires
+is-accepted-requires c κs = search needs
+
 returns : tie.Need-returns
 unfolding onSend
 returns c =
     let j = c .before .before in
     let s = start j in
-    answer-refused (handed s) (rows s) (stepped s) _ _ (s .pre) (j .judge-send .result) (j .judge-send .ensures) (c .before .if1 .taken) (c .refused .ensures .0)
-    (c .refused .ensures .1)
+    answer-refused (handed s) (rows s) (stepped s) _ _ (s .pre) (numberOf (j .judge-send .result)) (j .judge-send .ensures)
+    (refused-not _ _ (c .before .is-accepted .ensures) (not-true _ (c .if1 .taken))) refl refl
 
 send-requires : tie.Need-send-requires
 send-requires c κs =
     let e = c .before .before .before .before in
-    let j = e .before in
-    (start j .pre, sym (j .judge-send .ensures) ∙ e .if1 .left)
-
-accepted-requires : tie.Need-accepted-requires
-accepted-requires c κs = search needs
+    let j = e .before .before in
+    (start j .pre, sym (j .judge-send .ensures) ∙ accepted-zero _ _ (e .before .is-accepted .ensures) (not-false _ (e .if1 .left)))
 
 same-length-5 : tie.Need-same-length-5
 same-length-5 c = search needs
@@ -82,28 +78,28 @@ same-length-8 c = search needs
 returns-2 : tie.Need-returns-2
 unfolding onSend
 returns-2 c =
-    let k = c .before .before .before .before .before .before .before .before .before in
+    let k = c .before .before .before .before .before .before .before .before in
     let l = k .send .last in
     let e = k .before .before .before .before .before in
-    let j = e .before in
+    let j = e .before .before in
     let s = start j in
-    answer-accepted (handed s) (rows s) (stepped s) _ _ (s .pre) (j .judge-send .result) (j .judge-send .ensures) (e .if1 .left)
+    let zero = accepted-zero _ _ (e .before .is-accepted .ensures) (not-false _ (e .if1 .left)) in
+    answer-accepted (handed s) (rows s) (stepped s) _ _ (s .pre) (numberOf (j .judge-send .result)) (j .judge-send .ensures) zero
     (k .send .result) (ring (l .1 .0) (l .1 .1 .0) (l .1 .1 .1 .0) (l .1 .1 .1 .1 .0)) (handed s .times)
-    (k .send .ensures) (c .accepted .ensures .0) (c .accepted .ensures .1)
+    (k .send .ensures) refl zero
 
 pub send-spec : {M : Type 1} → statement M
 send-spec =
     tie.close
     (tie.spec
     judge-send-requires
-    refused-requires
+    is-accepted-requires
     same-length
     same-length-2
     same-length-3
     same-length-4
     returns
     send-requires
-    accepted-requires
     same-length-5
     same-length-6
     same-length-7

@@ -1,7 +1,6 @@
 -- `not_set_up` answers the fresh state of no settings.
 use mathlib.Core.Path.{refl, ap, _∙_}
 use borrow.Author.Needs.{needs}
-use Rattle.sender.specs.Numbers.{numberOf}
 use Rattle.sender.specs.Start.{freshState}
 use Rattle.sender.proofs.start.not_set_up.Statement.{statement}
 use Rattle.sender.proofs.start.not_set_up.Tie as tie
@@ -13,7 +12,6 @@ fresh-requires : tie.Need-fresh-requires
 fresh-requires c κs = search needs
 
 returns : tie.Need-returns
-unfolding numberOf
 returns c = (c .fresh .ensures ∙ ap freshState (c .before .no-settings .ensures), refl)
 
 pub not-set-up-spec : {M : Type 1} → statement M

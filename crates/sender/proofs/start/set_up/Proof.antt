@@ -1,7 +1,8 @@
 -- `set_up` makes the tests of `onSetUp` in their order, and clears what it was lent only after them: by the laws of proofs/Starts on its answer.
+use mathlib.Core.Path.{ap}
 use borrow.Author.Needs.{needs}
+use Rattle.rules.specs.Verdict.{numberOf}
 use Rattle.ledger.specs.Ring.{ring}
-use Rattle.sender.specs.Numbers.{rowOf, numberOf}
 use Rattle.sender.proofs.Starts.{refused-range, refused-lengths, accepted-so}
 use Rattle.sender.proofs.start.set_up.Statement.{statement}
 use Rattle.sender.proofs.start.set_up.Tie as tie
@@ -13,12 +14,12 @@ not-set-up-requires : tie.Need-not-set-up-requires
 not-set-up-requires c κs = search needs
 
 returns : tie.Need-returns
-unfolding rowOf
+unfolding numberOf
 returns c =
     let i = c .before .before in
     let a = i .before .before .before .before .before .before .args in
     refused-range (a .settings) (ring (a .status .now) (a .size .now) (a .sent .now) (a .resent .now)) (a .evs .now) _ (i .in-range .ensures)
-    _ (c .not-set-up .ensures .0) _ (c .not-set-up .ensures .1) (c .before .if1 .taken)
+    _ (c .not-set-up .ensures .0) _ (ap numberOf (c .not-set-up .ensures .1)) (c .before .if1 .taken)
 
 is-ring-requires : tie.Need-is-ring-requires
 is-ring-requires c κs = search needs
@@ -39,13 +40,14 @@ same-length-4 : tie.Need-same-length-4
 same-length-4 c = search needs
 
 returns-2 : tie.Need-returns-2
-unfolding rowOf
+unfolding numberOf
 returns-2 c =
     let l = c .before .before .before in
     let i = l .before .before .before .before .before .before in
     let a = i .before .before .before .before .before .before .args in
     refused-lengths (a .settings) (ring (a .status .now) (a .size .now) (a .sent .now) (a .resent .now)) (a .evs .now) _ (i .in-range .ensures)
-    _ (c .not-set-up2 .ensures .0) _ (c .not-set-up2 .ensures .1) (l .before .before .before .before .before .if1 .left) _ (l .is-ring .ensures) (c .before .if2 .taken)
+    _ (c .not-set-up2 .ensures .0) _ (ap numberOf (c .not-set-up2 .ensures .1)) (l .before .before .before .before .before .if1 .left) _
+    (l .is-ring .ensures) (c .before .if2 .taken)
 
 clear-requires : tie.Need-clear-requires
 clear-requires c κs = search needs
