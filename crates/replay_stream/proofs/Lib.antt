@@ -2,7 +2,7 @@
 pub mod Moving
 pub mod Behind
 pub mod Opened
-pub mod Playing
+pub mod PlayLines
 pub mod Standing
 pub mod Ends
 pub mod Lending
