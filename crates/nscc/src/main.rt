@@ -55,56 +55,52 @@ fn tell_ending(input: Input, name: &[u8]) -> u8 {
 }
 
 // Writes a text to standard output, and answers whether it is written.
-fn put(text: &[u8]) -> bool {
+fn write_out(text: &[u8]) -> bool {
     io::write_all(STDOUT_FILENO, text)
 }
 
 // How it ended that a text was to be written.
-fn ended(written: bool) -> u8 {
+fn status_of(written: bool) -> u8 {
     if written {
         return DONE;
     }
     tell_failed(b"standard output")
 }
 
-fn write_version() -> bool {
-    put(b"nscc 1.0.0\n")
-}
-
 fn write_help() -> bool {
-    put(b"usage: nscc [-p] [-r] [--] [LOG]\n")
-        & put(
+    write_out(b"usage: nscc [-p] [-r] [--] [LOG]\n")
+        & write_out(
             b"Replays an event log, of standard input where LOG is - or is not there, and writes a line for each record.\n",
         )
-        & put(b"  -p, --progress  tells on standard error how many records are done\n")
-        & put(b"  -r, --report    writes a report of the run in place of its lines\n")
-        & put(b"  -h, --help      writes this\n")
-        & put(b"      --version   writes the version\n")
-        & put(b"      --          what follows is no option\n")
+        & write_out(b"  -p, --progress  tells on standard error how many records are done\n")
+        & write_out(b"  -r, --report    writes a report of the run in place of its lines\n")
+        & write_out(b"  -h, --help      writes this\n")
+        & write_out(b"      --version   writes the version\n")
+        & write_out(b"      --          what follows is no option\n")
 }
 
-// Replays the log that a file has.
-fn run(fd: i32, name: &[u8], task: Task) -> u8 {
+// Replays the log that a file has, and says why it did not come to its end where it did not.
+fn replay_log(fd: i32, name: &[u8], task: Task) -> u8 {
     let replayed = replay_stream::replay_from(fd, task);
     let input = replayed.input;
     tell_ending(input, name)
 }
 
 // Opens the log that a word names, and replays it; `-` is standard input.
-fn open_and_run(index: usize, task: Task) -> u8 {
+fn open_and_replay(index: usize, task: Task) -> u8 {
     let mut path = io::buffer();
     let length = os::arg(index, &mut path);
     if os::errno() != 0 {
         return tell_failed(b"LOG");
     }
     if (length == 1) & (path[0] == b'-') {
-        return run(STDIN_FILENO, b"standard input", task);
+        return replay_log(STDIN_FILENO, b"standard input", task);
     }
     let fd = os::open_read(&path[..length]);
     if fd < 0 {
         return tell_failed(&path[..length]);
     }
-    let status = run(fd, &path[..length], task);
+    let status = replay_log(fd, &path[..length], task);
     libc::close(fd);
     status
 }
@@ -129,29 +125,29 @@ fn tell_unknown(index: usize) -> u8 {
 }
 
 // Does what is asked for, and answers how that ended.
-fn answer(o: Options) -> u8 {
+fn carry_out(o: Options) -> u8 {
     if o.unknown != 0 {
         return tell_unknown(o.unknown);
     }
     if o.help {
-        return ended(write_help());
+        return status_of(write_help());
     }
     if o.version {
-        return ended(write_version());
+        return status_of(write_out(b"nscc 1.0.0\n"));
     }
     if o.many {
         return tell_usage();
     }
     if o.log == 0 {
-        return run(STDIN_FILENO, b"standard input", task_of(o));
+        return replay_log(STDIN_FILENO, b"standard input", task_of(o));
     }
-    open_and_run(o.log, task_of(o))
+    open_and_replay(o.log, task_of(o))
 }
 
 fn main() {
     let o = options::read();
-    let ended = answer(o);
+    let status = carry_out(o);
     if o.status {
-        io::write_all(STATUS_FILENO, &[ended]);
+        io::write_all(STATUS_FILENO, &[status]);
     }
 }

@@ -85,7 +85,7 @@ impl Options {
         }
     }
 
-    // What is said with one word more.
+    // What is said with one word more, which stands at an index.
     fn with(mut self, word: Word, index: usize) -> Self {
         match word {
             Word::Progress => self.progress = true,
@@ -104,8 +104,8 @@ impl Options {
     }
 }
 
-// The word at an index, taken in.
-fn take(options: Options, index: usize) -> Options {
+// What is said with the word at an index more.
+fn read_word(options: Options, index: usize) -> Options {
     let mut word = io::buffer();
     let length = os::arg(index, &mut word);
     let says = word_of(&word[..length], options.ended);
@@ -118,7 +118,7 @@ pub(crate) fn read() -> Options {
     let mut options = Options::none();
     let mut index = 1;
     while index < count {
-        options = take(options, index);
+        options = read_word(options, index);
         index += 1;
     }
     options

@@ -1,11 +1,11 @@
 // Replays the bundled logs, which its arguments name, one after another, and writes each back from its records (request M-110).
-use log_records::back::write_back;
 use libc::STDOUT_FILENO;
+use log_records::back::write_back;
 use replay_stream::Input;
 use replay_stream::Task;
 
 // What stands behind the lines of a log that was not replayed to its end.
-fn report(input: Input) {
+fn complain(input: Input) {
     match input {
         Input::Done => {}
         Input::Long => {
@@ -56,7 +56,7 @@ fn replay_one(index: usize) {
     let fd = os::open_read(&path[..length]);
     let replayed = replay_stream::replay_from(fd, Task::Lines { progress: false });
     let input = replayed.input;
-    report(input);
+    complain(input);
     libc::close(fd);
     back_one(&path[..length]);
 }

@@ -20,8 +20,8 @@ none-requires c κs = tt
 loop-holds : tie.Need-loop-holds Inv-loop μ-loop
 loop-holds c = tt
 
-take-requires : tie.Need-take-requires Inv-loop μ-loop
-take-requires c κs = tt
+read-word-requires : tie.Need-read-word-requires Inv-loop μ-loop
+read-word-requires c κs = tt
 
 add-index : tie.Need-add-index Inv-loop μ-loop
 add-index c = omega arith
@@ -44,7 +44,7 @@ read-spec =
     arg-count-requires
     none-requires
     loop-holds
-    take-requires
+    read-word-requires
     add-index
     loop-less
     loop-again
