@@ -9,12 +9,13 @@ use Rattle.rules.specs.Rows.{firstOf}
 use Rattle.serial.specs.Wrap.{minus}
 use Rattle.serial.specs.Psn.{plus, bitOf, covered, backOf, spanOf, unsentOrOld}
 use Rattle.serial.specs.Count.{aheadOf, isOld, forwardOf}
-use Rattle.window.specs.Limits.{ceilingOf}
+use Rattle.window.specs.Limits.{maxWndOf}
 use Rattle.window.specs.Range.{isEvCount, inRange}
-use Rattle.window.specs.Held.{isHeld, freshOf}
-use Rattle.window.specs.Delays.{oneSend, sampleOf, averageOf, fedBy, feedOf, loweredOf, measuredOf}
-use Rattle.window.specs.Cases.{calmOf, fastOf, incBy, risenOf, factorOf, cutOf, caseOf}
-use Rattle.window.specs.Adjust.{turnedOf, adjustedOf}
+use Rattle.window.specs.Sound.{soundWindow, freshOf}
+use Rattle.window.specs.Delays.{oneSend, sampleOf, avgDelayOf, updateDelayOf, feedOf, updateBaseRttOf, measureOf}
+use Rattle.window.specs.Cases.{leaveFastModeOf, isNear, fastIncreaseOf, addIncBytesOf, proportionalIncreaseOf, factorOf, mayDecrease}
+use Rattle.window.specs.Cases.{multiplicativeDecreaseOf, respondOf}
+use Rattle.window.specs.Adjust.{enoughReceived, periodPassed, fulfillAdjustmentOf, adjustOf}
 use Rattle.paths.specs.Path.{avoids, avoided, firstFree, steps, landed, choice}
 use Rattle.ledger.specs.Packets.{isFlying, isDone, isOut, flyingOne, markedOne, markedSize, sumOf, coverOne, coverAll, doneRun}
 use Rattle.ledger.specs.Bounds.{inBounds, sinks}
@@ -29,10 +30,12 @@ use Rattle.demands.specs.Burst.{isDelivered}
 use Rattle.demands.specs.Cases.{agree, same, cases, settingsE, windowOf, ticksOf, measuredBy, worldOf, deliveredOf, acknowledged, chosen}
 
 pub cases-hold : agree cases ≡ true
-unfolding agree same cases settingsE windowOf ticksOf measuredBy worldOf deliveredOf acknowledged chosen isDelivered ifSo ifLt ifEq inside firstOf minus plus
-    bitOf covered backOf spanOf unsentOrOld aheadOf isOld forwardOf leadingZeros ceilingOf isEvCount inRange isHeld freshOf oneSend sampleOf averageOf fedBy
-    feedOf loweredOf measuredOf calmOf fastOf incBy risenOf factorOf cutOf caseOf turnedOf adjustedOf avoids avoided firstFree steps landed choice isFlying isDone
-    isOut flyingOne markedOne markedSize sumOf coverOne coverAll doneRun inBounds sinks packetAt tabulate placeOf ageOf lay laid queueOf longOf packets
-    offsetOf packetOf allTo isCapacity isRing isLive isZero slotOk headOk stands tallies coherent heldOf newlyOf ackedOf hasRoom phaseOf phaseNumber
-    timesOk namedOk sound stateOf settled ackStep pathState pathStep decided onSend onAck onPath
+unfolding agree same cases settingsE windowOf ticksOf measuredBy worldOf deliveredOf acknowledged chosen isDelivered ifSo ifLt ifEq inside
+    firstOf minus plus bitOf covered backOf spanOf unsentOrOld aheadOf isOld forwardOf leadingZeros maxWndOf isEvCount inRange soundWindow
+    freshOf oneSend sampleOf avgDelayOf updateDelayOf feedOf updateBaseRttOf measureOf leaveFastModeOf isNear fastIncreaseOf addIncBytesOf
+    proportionalIncreaseOf factorOf mayDecrease multiplicativeDecreaseOf respondOf enoughReceived periodPassed fulfillAdjustmentOf adjustOf
+    avoids avoided firstFree steps landed choice isFlying isDone isOut flyingOne markedOne markedSize sumOf coverOne coverAll doneRun
+    inBounds sinks packetAt tabulate placeOf ageOf lay laid queueOf longOf packets offsetOf packetOf allTo isCapacity isRing isLive isZero
+    slotOk headOk stands tallies coherent heldOf newlyOf ackedOf hasRoom phaseOf phaseNumber timesOk namedOk sound stateOf settled ackStep
+    pathState pathStep decided onSend onAck onPath
 cases-hold = refl

@@ -19,13 +19,14 @@ use Rattle.serial.specs.Wrap.{minus}
 use Rattle.serial.specs.Psn.{plus, bitOf, covered, backOf, spanOf, unsentOrOld}
 use Rattle.serial.specs.Count.{counts, half, aheadOf, isOld, forwardOf}
 use Rattle.window.specs.Range.{isEvCount, inRange}
-use Rattle.window.specs.Held.{isHeld, freshOf}
-use Rattle.window.specs.Limits.{ceilingOf}
-use Rattle.window.specs.Delays.{oneSend, sampleOf, averageOf, fedBy, feedOf, loweredOf, measuredOf}
-use Rattle.window.specs.Quick.{firesOf, firedOf, restartedOf, adaptedOf}
-use Rattle.window.specs.Cases.{countedOf, calmOf, grownOf, fastOf, incBy, risenOf, factorOf, cutOf, caseOf}
-use Rattle.window.specs.Adjust.{turnedOf, adjustedOf}
-use Rattle.window.specs.Events.{respondedOf, reactedOf, shrunkOf, lossOf}
+use Rattle.window.specs.Sound.{soundWindow, freshOf}
+use Rattle.window.specs.Limits.{maxWndOf}
+use Rattle.window.specs.Delays.{oneSend, sampleOf, avgDelayOf, updateDelayOf, feedOf, updateBaseRttOf, measureOf}
+use Rattle.window.specs.Quick.{firesOf, fireOf, restartOf, quickAdaptOf}
+use Rattle.window.specs.Cases.{countNewlyOf, leaveFastModeOf, raiseCwndOf, isNear, fastIncreaseOf, addIncBytesOf, proportionalIncreaseOf}
+use Rattle.window.specs.Cases.{fairIncreaseOf, factorOf, mayDecrease, multiplicativeDecreaseOf, respondOf}
+use Rattle.window.specs.Adjust.{enoughReceived, periodPassed, fulfillAdjustmentOf, adjustOf}
+use Rattle.window.specs.Events.{goOnOf, reactOf, shrinkOf, lossOf}
 use Rattle.window.specs.Events as window
 use Rattle.window.specs.declared.Settings.{Settings}
 use Rattle.ledger.specs.Packets.{isFlying, isMarked, isDone, isOut, flyingOne, markedOne, markedSize, sumOf, coverOne, coverAll, coveredSum, doneRun}
@@ -95,13 +96,15 @@ worked =
 -- three packets sent, one reported, one taken out as lost: one in flight
 pub worked-sums : (sum sentBy fresh noPast worked ≡ 3 * 4096) × (sum reportedBy fresh noPast worked ≡ 4096) × (sum lostBy fresh noPast worked ≡ 4096)
     × (run fresh worked .state .totals .«in_flight» ≡ pos 4096)
-unfolding fresh freshState settingsE sum remember sentBy reportedBy lostBy ifSo ifLt ifEq inside firstOf minus plus bitOf covered backOf spanOf unsentOrOld aheadOf
-    isOld forwardOf leadingZeros ceilingOf isEvCount inRange isHeld freshOf oneSend sampleOf averageOf fedBy feedOf loweredOf measuredOf firesOf firedOf
-    restartedOf adaptedOf countedOf calmOf grownOf fastOf incBy risenOf factorOf cutOf caseOf turnedOf adjustedOf respondedOf reactedOf window.ackOf shrunkOf
-    lossOf isFlying isMarked isDone isOut flyingOne markedOne markedSize sumOf coverOne coverAll coveredSum doneRun inBounds sinks packetAt tabulate placeOf
-    ageOf lay laid queueOf longOf packets offsetOf packetOf allTo isCapacity isRing isLive isZero slotOk headOk stands tallies coherent changed suppliedOf
-    pushedOf resentOf markedOf heldOf newlyOf ackedOf hasRoom phaseOf phaseNumber timesOk namedOk sound stateOf settled avoidedIn newDataState newDataStep
-    sendStep ackSample ackStep lossStep decided onNewData onSend onAck onLoss
+unfolding fresh freshState settingsE sum remember sentBy reportedBy lostBy ifSo ifLt ifEq inside firstOf minus plus bitOf covered backOf
+    spanOf unsentOrOld aheadOf isOld forwardOf leadingZeros maxWndOf isEvCount inRange soundWindow freshOf oneSend sampleOf avgDelayOf
+    updateDelayOf feedOf updateBaseRttOf measureOf firesOf fireOf restartOf quickAdaptOf countNewlyOf leaveFastModeOf raiseCwndOf isNear
+    fastIncreaseOf addIncBytesOf proportionalIncreaseOf fairIncreaseOf factorOf mayDecrease multiplicativeDecreaseOf respondOf
+    enoughReceived periodPassed fulfillAdjustmentOf adjustOf goOnOf reactOf window.ackOf shrinkOf lossOf isFlying isMarked isDone isOut
+    flyingOne markedOne markedSize sumOf coverOne coverAll coveredSum doneRun inBounds sinks packetAt tabulate placeOf ageOf lay laid
+    queueOf longOf packets offsetOf packetOf allTo isCapacity isRing isLive isZero slotOk headOk stands tallies coherent changed suppliedOf
+    pushedOf resentOf markedOf heldOf newlyOf ackedOf hasRoom phaseOf phaseNumber timesOk namedOk sound stateOf settled avoidedIn
+    newDataState newDataStep sendStep ackSample ackStep lossStep decided onNewData onSend onAck onLoss
 worked-sums = (refl, refl, refl, refl)
 
 -- ---- the start of the bursts: settings E, 64 slots, four packets, of which the second was lost
@@ -120,7 +123,9 @@ start =
     (replicate 256 0)
 
 start-sound : sound start ≡ true
-unfolding start settingsE sound isEvCount inRange inside isHeld ceilingOf freshOf coherent stands isRing isCapacity longOf minus allTo slotOk ifLt ifSo ifEq isLive isZero headOk tallies sumOf flyingOne markedOne markedSize inBounds packets queueOf tabulate packetAt placeOf plus ageOf lay laid isDone timesOk namedOk phaseOf phaseNumber hasRoom stateOf
+unfolding start settingsE sound isEvCount inRange inside soundWindow maxWndOf freshOf coherent stands isRing isCapacity longOf minus allTo
+    slotOk ifLt ifSo ifEq isLive isZero headOk tallies sumOf flyingOne markedOne markedSize inBounds packets queueOf tabulate packetAt
+    placeOf plus ageOf lay laid isDone timesOk namedOk phaseOf phaseNumber hasRoom stateOf
 start-sound = refl
 
 -- ---- ACKs

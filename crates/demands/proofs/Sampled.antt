@@ -7,9 +7,9 @@ use mathlib.Core.Bool.{Bool, true, false, _||_}
 use Prim.Native.Nat.{ℕ, min}
 use lib.Dec.{eqb}
 use borrow.Author.Tests.{eqb-true, eq-eqb}
-use Rattle.rules.specs.Branch.{lt-both, eq-both}
-use Rattle.window.specs.Delays.{sampleOf, loweredOf, measuredOf}
-use Rattle.window.specs.Events.{rttFed}
+use Rattle.rules.specs.Branch.{so-both, eq-both}
+use Rattle.window.specs.Delays.{sampleOf, updateBaseRttOf, measureOf}
+use Rattle.window.specs.Events.{feedTrimmedOf, isTrimmed}
 use Rattle.window.specs.declared.Settings.{Settings}
 use Rattle.window.specs.declared.Window.{Window}
 use Rattle.window.specs.declared.Sample.{Sample}
@@ -78,36 +78,39 @@ nack-sampled time ticks a w = sampled w (a .psn) (a .retx) time 0 ticks
 
 -- a step leaves the base that a sample gives
 abbrev Lowers : Sample → World → World → Type 0
-Lowers sample w v = v .state .window .base ≡ loweredOf (w .state .settings) sample (w .state .window) .base
+Lowers sample w v = v .state .window .base ≡ updateBaseRttOf (w .state .settings) sample (w .state .window) .base
 
-measured-base : (s : Settings) (marked : Bool) (sample : Sample) (w : Window) → measuredOf s marked sample w .window .base ≡ loweredOf s sample w .base
-unfolding loweredOf measuredOf
-measured-base s marked (Ticks t) w = refl
-measured-base s marked Absent w = refl
+measure-base :
+    (s : Settings) (marked : Bool) (sample : Sample) (w : Window) →
+    measureOf s marked sample w .window .base ≡ updateBaseRttOf s sample w .base
+unfolding updateBaseRttOf measureOf
+measure-base s marked (Ticks t) w = refl
+measure-base s marked Absent w = refl
 
 module _ (w : World) (time : ℕ) where
   ack-lowers : (a : Ack) → Lowers (ackSample time a w) w (ackStep time a w)
   unfolding ackStep settled stateOf
   ack-lowers a =
       ap (λ (d : Delays). d .base) (ack-delays (w .state .settings) time _ (a .marked) (ackSample time a w) _ (w .state .window))
-      ∙ measured-base (w .state .settings) (a .marked) (ackSample time a w) (w .state .window)
+      ∙ measure-base (w .state .settings) (a .marked) (ackSample time a w) (w .state .window)
 
   nack-lowers : (a : Nack) → Lowers (nackSample time a w) w (nackStep time a w)
-  unfolding nackStep settled stateOf rttFed
+  unfolding nackStep settled stateOf feedTrimmedOf
   nack-lowers a =
-      let v = loweredOf (w .state .settings) (nackSample time a w) (w .state .window) in
+      let v = updateBaseRttOf (w .state .settings) (nackSample time a w) (w .state .window) in
       ap (λ (d : Delays). d .base) (nack-delays (w .state .settings) time _ (a .reason) (nackSample time a w) _ (w .state .window))
-      ∙ lt-both (λ (x : Window). x .base ≡ v .base) 1 (a .reason) _ _ (λ e. refl) (λ e. refl)
+      ∙ so-both (λ (x : Window). x .base ≡ v .base) (isTrimmed (a .reason)) _ _ (λ e. refl) (λ e. refl)
 
 -- ---- .. without a sample
 
 -- an answer's world is the given one or the one after the step
 decided-base : (n : ℕ) (w after : World) → Lowers Absent w after → Lowers Absent w (decided n w after .after)
-unfolding decided loweredOf
+unfolding decided updateBaseRttOf
 decided-base n w after e = eq-both (λ (x : Answered). Lowers Absent w (x .after)) n 0 _ _ (λ _. e) (λ _. refl)
 
 pub base-stays : BaseStays
-unfolding onNewData onSend onAck onNack onLoss onPath newDataStep newDataState sendStep lossStep pathStep pathState settled stateOf loweredOf
+unfolding onNewData onSend onAck onNack onLoss onPath newDataStep newDataState sendStep lossStep pathStep pathState settled stateOf
+    updateBaseRttOf
 base-stays (newData time bytes) w of-ack of-nack = decided-base _ w _ refl
 base-stays (send time a) w of-ack of-nack = decided-base _ w _ refl
 base-stays (ack time a) w of-ack of-nack = decided-base _ w _ (rw (of-ack time a refl) at (ack-lowers w time a))
@@ -120,7 +123,7 @@ base-stays (path time) w of-ack of-nack = eq-both (λ (x : Routing). Lowers Abse
 -- an accepted event's world is the one after the step
 decided-lowered : (n : ℕ) (w after : World) (ticks : ℕ) → Lowers (Ticks ticks) w after → decided n w after .number ≡ 0
     → decided n w after .after .state .window .base ≡ min (w .state .window .base) ticks
-unfolding decided loweredOf
+unfolding decided updateBaseRttOf
 decided-lowered n w after ticks e =
     eq-both (λ (x : Answered). x .number ≡ 0 → x .after .state .window .base ≡ min (w .state .window .base) ticks) n 0 _ _
     (λ _ _. e) (λ refused zero. absurd (refused zero))

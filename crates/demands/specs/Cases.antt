@@ -9,10 +9,10 @@ use lib.IntN.{pos}
 use lib.ListN.{replicate}
 use Rattle.window.specs.Limits.{parts}
 use Rattle.window.specs.Fields.{withCwnd, withAvg, withIncBytes, withReceived}
-use Rattle.window.specs.Held.{freshOf}
-use Rattle.window.specs.Delays.{sampleOf, measuredOf}
-use Rattle.window.specs.Cases.{factorOf, cutOf, caseOf}
-use Rattle.window.specs.Adjust.{adjustedOf}
+use Rattle.window.specs.Sound.{freshOf}
+use Rattle.window.specs.Delays.{sampleOf, measureOf}
+use Rattle.window.specs.Cases.{factorOf, multiplicativeDecreaseOf, respondOf}
+use Rattle.window.specs.Adjust.{adjustOf}
 use Rattle.window.specs.declared.Settings.{Settings}
 use Rattle.window.specs.declared.Window.{Window}
 use Rattle.window.specs.declared.Delayed.{Delayed}
@@ -114,21 +114,23 @@ chosen x = x .number ∷ x .ev ∷ x .after .state .cursor ∷ []
 unfoldable pub cases : List Case
 cases =
     -- P1 "cwnd 307,200, inc_bytes 33,554,432: window 307,309 ..
-    case (adjustedOf settingsE 95 (withReceived 32768 (windowOf 307200 0 33554432)) .cwnd ∷ []) (307309 ∷ [])
+    case (adjustOf settingsE 95 (withReceived 32768 (windowOf 307200 0 33554432)) .cwnd ∷ []) (307309 ∷ [])
     -- .. with the period passed 308,333"
-    ∷ case (adjustedOf settingsE 96 (withReceived 32768 (windowOf 307200 0 33554432)) .cwnd ∷ []) (308333 ∷ [])
+    ∷ case (adjustOf settingsE 96 (withReceived 32768 (windowOf 307200 0 33554432)) .cwnd ∷ []) (308333 ∷ [])
     -- P2 "base 96, unmarked, delay 22, newly 8,192: inc_bytes +91,750,400"
-    ∷ case ((caseOf settingsE 10 8192 false 22 (windowOf 307200 0 33554432) .«inc_bytes» - 33554432) ∷ []) (91750400 ∷ [])
+    ∷ case ((respondOf settingsE 10 8192 false 22 (windowOf 307200 0 33554432) .«inc_bytes» - 33554432) ∷ []) (91750400 ∷ [])
     -- P3 "cwnd 614,400, avg 144: cut 409, window 369,000 ..
-    ∷ case ((parts - factorOf settingsE 144) ∷ cutOf settingsE 1000 (windowOf 614400 (parts * 144) 0) .cwnd ∷ []) (409 ∷ 369000 ∷ [])
+    ∷ case
+    ((parts - factorOf settingsE 144) ∷ multiplicativeDecreaseOf settingsE 1000 (windowOf 614400 (parts * 144) 0) .cwnd ∷ [])
+    (409 ∷ 369000 ∷ [])
     -- .. avg 72: no cut"
-    ∷ case (cutOf settingsE 1000 (windowOf 614400 (parts * 72) 0) .cwnd ∷ []) (614400 ∷ [])
+    ∷ case (multiplicativeDecreaseOf settingsE 1000 (windowOf 614400 (parts * 72) 0) .cwnd ∷ []) (614400 ∷ [])
     -- P4 "held 16,777,214, count 3: 1,280 bytes" (and 3 is held) ..
     ∷ case (newlyOf 3 16777214 ∷ heldOf 3 16777214 ∷ []) (1280 ∷ 3 ∷ [])
     -- .. "Difference 8,388,608: old" (no bytes, and what was held stays)
     ∷ case (newlyOf (7 + 8388608) 7 ∷ heldOf (7 + 8388608) 7 ∷ []) (0 ∷ 7 ∷ [])
     -- P5 "avg 73,728, unmarked delay 100, base 96: 73,113" (a sample of 96 + 100)
-    ∷ case (measuredBy (measuredOf settingsE false (Ticks 196) (windowOf 614400 73728 0))) (100 ∷ 73113 ∷ [])
+    ∷ case (measuredBy (measureOf settingsE false (Ticks 196) (windowOf 614400 73728 0))) (100 ∷ 73113 ∷ [])
     -- P6 "sent 1,000, now 1,150, service 30, not resent: sample 120 ..
     ∷ case (ticksOf (sampleOf true 0 false 1150 1000 30)) (120 ∷ [])
     -- .. Resent once, flag clear: none ..

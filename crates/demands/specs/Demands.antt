@@ -8,7 +8,7 @@ use mathlib.Core.Bool.{true}
 use mathlib.Core.List.{List}
 use Prim.Native.Nat.{ℕ, _≤_, min}
 use lib.IntN.{pos, _-ℤ_}
-use Rattle.window.specs.Limits.{ceilingOf}
+use Rattle.window.specs.Limits.{maxWndOf}
 use Rattle.window.specs.declared.Settings.{Settings}
 use Rattle.window.specs.declared.Sample.the-variants.{Ticks, Absent}
 use Rattle.ledger.specs.Ring.{Ring}
@@ -71,7 +71,7 @@ AlwaysSound = (s : Settings) (r : Ring) (times : List ℕ) (w : World) (es : Lis
 -- Request M-101. "cwnd always lies between MTU and max_wnd": after any such list
 abbrev pub CwndBetween : Type 0
 CwndBetween = (s : Settings) (r : Ring) (times : List ℕ) (w : World) (es : List Event) → SetUp s r times w
-    → let c = run w es .state in (c .settings .mtu ≤ c .window .cwnd) × (c .window .cwnd ≤ ceilingOf (c .settings) (c .window .base))
+    → let c = run w es .state in (c .settings .mtu ≤ c .window .cwnd) × (c .window .cwnd ≤ maxWndOf (c .settings) (c .window .base))
 
 -- DEMAND 2. "In-flight bytes equal sent less reported less taken out as lost, summed from set-up on"
 abbrev pub History : Type 0

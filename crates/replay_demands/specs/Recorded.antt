@@ -11,7 +11,7 @@ use mathlib.Core.Option.{none, some}
 use Prim.Native.Nat.{ℕ, suc, _+_, _≤_}
 use lib.IntN.{pos, _-ℤ_}
 use lib.ListN.{length, take, getElem?}
-use Rattle.window.specs.Limits.{ceilingOf}
+use Rattle.window.specs.Limits.{maxWndOf}
 use Rattle.window.specs.declared.Settings.{Settings}
 use Rattle.sender.specs.World.{World, ledgerOf}
 use Rattle.sender.specs.Sound.{sound}
@@ -69,7 +69,7 @@ TurnSound = (log : List ℕ) (lent : World) (s : Settings) (behind : List Record
 abbrev pub TurnBetween : Type 0
 TurnBetween = (log : List ℕ) (lent : World) (s : Settings) (behind : List Record) → Opened log lent s behind
     → (k : ℕ) (t : Turning) → getElem? (turns log lent) k ≡ some t
-    → let c = t .after .state in (c .settings .mtu ≤ c .window .cwnd) × (c .window .cwnd ≤ ceilingOf (c .settings) (c .window .base))
+    → let c = t .after .state in (c .settings .mtu ≤ c .window .cwnd) × (c .window .cwnd ≤ maxWndOf (c .settings) (c .window .base))
 
 -- DEMAND 2. "In-flight bytes equal sent less reported less taken out as lost, summed from set-up on": over the events of the turns so far
 abbrev pub TurnHistory : Type 0

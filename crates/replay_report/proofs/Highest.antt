@@ -10,7 +10,7 @@ use Rattle.rules.specs.Branch.{so-both, lt-both, eq-both}
 use Rattle.window.specs.Delays.{samplingOf, sampleIn, Sampled}
 use Rattle.window.specs.declared.Sample.the-variants.{Ticks, Absent}
 use Rattle.window.specs.declared.Sampling.{Sampling}
-use Rattle.window.proofs.Tests.{sample-held, same-sample}
+use Rattle.window.proofs.Tests.{sample-bounds, same-sample}
 use Rattle.sender.specs.World.{World}
 use Rattle.sender.specs.Steps.{ackSampling, nackSampling}
 use Rattle.sender.specs.Events.{says}
@@ -82,7 +82,7 @@ unfolding shownFirst
 held-first n = eq-both Held n 0 State Nothing (λ _. not-shown refl) (λ _. not-shown refl)
 
 held-sampling : (out : Bool) (resent : ℕ) (retx : Bool) (time sent service : ℕ) → Sampled (sampleIn (samplingOf out resent retx time sent service))
-held-sampling out resent retx time sent service = rw (same-sample out resent retx time sent service) (sample-held out resent retx time sent service)
+held-sampling out resent retx time sent service = rw (same-sample out resent retx time sent service) (sample-bounds out resent retx time sent service)
 
 held-ack : (time : ℕ) (a : Ack) (w : World) → Sampled (sampleIn (ackSampling time a w))
 unfolding ackSampling

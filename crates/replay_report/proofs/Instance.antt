@@ -18,13 +18,13 @@ use Rattle.log_bytes.specs.Little.{littleEndian, numberAt, bytesOf}
 use Rattle.serial.specs.Wrap.{minus}
 use Rattle.serial.specs.Psn.{plus, bitOf, covered, backOf, spanOf, unsentOrOld}
 use Rattle.serial.specs.Count.{aheadOf, forwardOf}
-use Rattle.window.specs.Limits.{ceilingOf}
+use Rattle.window.specs.Limits.{maxWndOf}
 use Rattle.window.specs.Range.{isEvCount, inRange}
-use Rattle.window.specs.Held.{isHeld, freshOf}
+use Rattle.window.specs.Sound.{soundWindow, freshOf}
 use Rattle.window.specs.declared.Sampling.the-variants.{Taken, Ambiguous}
-use Rattle.window.specs.Delays.{oneSend, cutOf, samplingOf}
-use Rattle.window.specs.Events.{shrunkOf, lossOf}
-use Rattle.window.specs.Quick.{firesOf, restartedOf, adaptedOf}
+use Rattle.window.specs.Delays.{oneSend, takeSampleOf, samplingOf}
+use Rattle.window.specs.Events.{shrinkOf, lossOf}
+use Rattle.window.specs.Quick.{firesOf, restartOf, quickAdaptOf}
 use Rattle.ledger.specs.Packets.{isFlying, isMarked, isDone, isOut, flyingOne, markedOne, markedSize, sumOf}
 use Rattle.ledger.specs.Bounds.{inBounds, sinks}
 use Rattle.ledger.specs.Ring.{ring, packetAt, tabulate, placeOf, ageOf, lay, laid, queueOf, longOf, packets, offsetOf, packetOf}
@@ -190,8 +190,8 @@ pub record Replayed : Type 0 where
 pub replayed : Replayed
 unfolding resentLog onceLog lent recordBytes bytesOf littleEndian numberAt lookUp properOf checkOf wholeOf frontOf parseAt kindOf turnsOf turnsIn turnOf
     onFound placeAfter foundIn foundFrom endFrom shownSays shownFirst onFirst onLater onEvent ifSo ifLt ifEq inside firstOf onSetUp freshState noSettings
-    freshOf inRange isEvCount isRing isCapacity allTo leadingZeros minus plus bitOf covered backOf spanOf unsentOrOld aheadOf forwardOf ceilingOf isHeld
-    oneSend cutOf samplingOf shrunkOf lossOf firesOf restartedOf adaptedOf isFlying isMarked isDone isOut flyingOne markedOne markedSize sumOf inBounds
+    freshOf inRange isEvCount isRing isCapacity allTo leadingZeros minus plus bitOf covered backOf spanOf unsentOrOld aheadOf forwardOf maxWndOf soundWindow
+    oneSend takeSampleOf samplingOf shrinkOf lossOf firesOf restartOf quickAdaptOf isFlying isMarked isDone isOut flyingOne markedOne markedSize sumOf inBounds
     sinks packetAt tabulate placeOf ageOf lay laid queueOf longOf packets offsetOf packetOf isLive isZero slotOk headOk stands tallies coherent changed
     suppliedOf pushedOf resentOf markedOf newlyOf hasRoom phaseOf phaseNumber timesOk namedOk sound stateOf settled avoidedIn newDataState newDataStep
     sendStep ackSampling lossStep decided says onNewData onSend onAck onLoss howMany kindTest isAck ackStands mayDiffer

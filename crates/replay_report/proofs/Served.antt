@@ -6,7 +6,7 @@ use mathlib.Core.Option.{Option, none, some}
 use Prim.Native.Nat.{ℕ, _+_, _-_}
 use native.Mathlib.Omega.{arith}
 use Rattle.rules.specs.Branch.{so-yes, so-no, so-both, lt-both, eq-no, eq-both}
-use Rattle.window.specs.Delays.{oneSend, cutOf, samplingOf, sampleIn}
+use Rattle.window.specs.Delays.{oneSend, takeSampleOf, samplingOf, sampleIn}
 use Rattle.window.specs.Limits.{sampleMost}
 use Rattle.window.specs.declared.Sampling.{Sampling}
 use Rattle.window.specs.declared.Sampling.the-variants.{Cut, Gone, Ambiguous, NotPositive}
@@ -30,7 +30,7 @@ never e f = absurd (let wrong : ⊥ = omega (arith, f e) in wrong)
 -- "tested in the order gone, ambiguous, not positive": the service time comes after
 module _ (out : Bool) (resent : ℕ) (retx : Bool) (time sent service other : ℕ) where
   sampling-served : samplingOf out resent retx time sent service ≡ Ambiguous → samplingOf out resent retx time sent other ≡ Ambiguous
-  unfolding samplingOf cutOf
+  unfolding samplingOf takeSampleOf
   sampling-served =
       let P : Sampling → Type 0 = λ q. q ≡ Ambiguous → samplingOf out resent retx time sent other ≡ Ambiguous in
       so-both P out _ Gone

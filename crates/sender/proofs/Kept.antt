@@ -10,10 +10,10 @@ use native.Mathlib.Omega.{arith}
 use lib.Dec.{eqb}
 use Rattle.rules.specs.Branch.{ifEq, eq-both}
 use Rattle.rules.specs.Rows.{Row, firstOf, first-later}
-use Rattle.window.specs.Held.{Held}
+use Rattle.window.specs.Sound.{SoundWindow}
 use Rattle.window.specs.declared.Window.{Window}
-use Rattle.window.proofs.Tests.{sample-held}
-use Rattle.window.proofs.Keeps.{held-ack, held-nack, held-loss}
+use Rattle.window.proofs.Tests.{sample-bounds}
+use Rattle.window.proofs.Keeps.{sound-ack, sound-nack, sound-loss}
 use Rattle.ledger.specs.Packets.{isOut}
 use Rattle.ledger.specs.Ring.{Ledger, packetOf}
 use Rattle.ledger.specs.Steps.{suppliedOf, newlyOf}
@@ -31,7 +31,7 @@ use Rattle.sender.proofs.Stepping.{Ready, time-facts, new-data-facts, s
 
 -- after a ledger's step and the window's rules, with one EV's time changed or none
 kept-of : {w : World} (S : SoundFacts w) {time : ℕ} {l : Ledger} (R : Ready (w .state .settings) time (w .state .window) l) {v : Window}
-    → Held (w .state .settings) time v → (on : Bool) (ev : ℕ)
+    → SoundWindow (w .state .settings) time v → (on : Bool) (ev : ℕ)
     → sound (settled time (w .state) l v (avoidedIn on ev time (w .state .window .base) (w .times))) ≡ true
 kept-of {w} S {time} {l} R {v} H on ev =
     settled-sound time (w .state) l v (avoidedIn on ev time (w .state .window .base) (w .times)) (R .range) H (R .coheres) (R .early)
@@ -67,8 +67,8 @@ ack-kept time a w e rows =
     let R = ack-ready S (ack-facts time a c rows) in
     let x = packetOf (c .flow) (w .slots) (a .trigger) in
     kept-of S R
-    (held-ack (R .range) _ (R .early) (R .flown .high) (newlyOf (a .count) (c .flow .held)) (a .marked)
-    (sample-held (isOut x) (x .resent) (a .retx) time (x .sent) (a .service)) (R .held))
+    (sound-ack (R .range) _ (R .early) (R .flown .high) (newlyOf (a .count) (c .flow .held)) (a .marked)
+    (sample-bounds (isOut x) (x .resent) (a .retx) time (x .sent) (a .service)) (R .held))
     (a .marked) (a .ev)
 
 pub nack-kept : (time : ℕ) (a : Nack) (w : World) → sound w ≡ true → firstOf (nackAllRows time a (w .state) (w .slots)) ≡ 0
@@ -80,8 +80,8 @@ nack-kept time a w e rows =
     let R = marked-ready S (nack-facts time a c (w .slots) rows) in
     let x = packetOf (c .flow) (w .slots) (a .psn) in
     kept-of S R
-    (held-nack (R .range) _ (R .early) (R .flown .high) (x .size) (a .reason)
-    (sample-held (isOut x) (x .resent) (a .retx) time (x .sent) 0) (R .held))
+    (sound-nack (R .range) _ (R .early) (R .flown .high) (x .size) (a .reason)
+    (sample-bounds (isOut x) (x .resent) (a .retx) time (x .sent) 0) (R .held))
     (a .marked || eqb (a .reason) 0) (a .ev)
 
 pub loss-kept : (time : ℕ) (a : Loss) (w : World) → sound w ≡ true → firstOf (lossAllRows time a (w .state) (w .slots)) ≡ 0
@@ -91,7 +91,7 @@ loss-kept time a w e rows =
     let c = w .state in
     let S = sound-facts w e in
     let R = marked-ready S (loss-facts time a c (w .slots) rows) in
-    kept-of S R (held-loss (R .range) _ (R .early) (R .flown .high) (packetOf (c .flow) (w .slots) (a .psn) .size) (R .held)) true (a .ev)
+    kept-of S R (sound-loss (R .range) _ (R .early) (R .flown .high) (packetOf (c .flow) (w .slots) (a .psn) .size) (R .held)) true (a .ev)
 
 pub path-kept : (time : ℕ) (w : World) → sound w ≡ true → firstOf (pathRows time (w .state)) ≡ 0 → sound (pathStep time w) ≡ true
 unfolding pathStep pathState

@@ -16,11 +16,11 @@ use Rattle.rules.specs.Branch.{so-both}
 use Rattle.rules.specs.Test.{both, whole}
 use Rattle.window.specs.Limits.{laterEnd}
 use Rattle.window.specs.Range.{inRange, InRange}
-use Rattle.window.specs.Held.{isHeld, Held}
+use Rattle.window.specs.Sound.{soundWindow, SoundWindow}
 use Rattle.window.specs.declared.Settings.{Settings}
 use Rattle.window.specs.declared.Window.{Window}
-use Rattle.window.proofs.Tests.{ev-count-bounds, range-facts, range-test, held-facts, held-test}
-use Rattle.window.proofs.Ceilings.{ceiling-high}
+use Rattle.window.proofs.Tests.{ev-count-bounds, range-facts, range-test, window-facts, window-test}
+use Rattle.window.proofs.MaxWnd.{max-wnd-high}
 use Rattle.paths.specs.Path.{Early}
 use Rattle.ledger.specs.Ring.{Ring, Ledger, ledger}
 use Rattle.ledger.specs.Coherent.{coherent, Even, Coheres}
@@ -124,7 +124,7 @@ module _ (on : Bool) (ev time base : ℕ) (times : List ℕ) where
 -- what a sound world has
 pub record SoundFacts (w : World) : Type 0 where
   pub range : InRange (w .state .settings)
-  pub held : Held (w .state .settings) (w .state .clock) (w .state .window)
+  pub held : SoundWindow (w .state .settings) (w .state .clock) (w .state .window)
   pub coheres : coherent (w .state .settings .mtu) (w .state .settings .maxwnd) (w .state .clock) (ledgerOf w) ≡ true
   pub clock-ok : w .state .clock < timeEnd
   pub times-long : length (w .times) ≡ w .state .settings .«ev_count»
@@ -150,10 +150,10 @@ sound-facts w e =
     let long = both _ (eqb (length (w .times)) (c .settings .«ev_count»)) (times .0) in
     let clock = both _ (ltb (c .clock) timeEnd) (long .0) in
     let ledger = both _ (coherent (c .settings .mtu) (c .settings .maxwnd) (c .clock) (ledgerOf w)) (clock .0) in
-    let first = both (inRange (c .settings)) (isHeld (c .settings) (c .clock) (c .window)) (ledger .0) in
+    let first = both (inRange (c .settings)) (soundWindow (c .settings) (c .clock) (c .window)) (ledger .0) in
     record {
       range = range-facts (c .settings) (first .0);
-      held = held-facts (c .settings) (c .clock) (c .window) (first .1);
+      held = window-facts (c .settings) (c .clock) (c .window) (first .1);
       coheres = ledger .1;
       clock-ok = ltb-true (c .clock) timeEnd (clock .1);
       times-long = eqb-true (length (w .times)) (c .settings .«ev_count») (long .1);
@@ -172,7 +172,7 @@ facts-sound w S =
     (whole
     (whole
     (whole
-    (whole (range-test (c .settings) (S .range)) (held-test (c .settings) (c .clock) (c .window) (S .held)))
+    (whole (range-test (c .settings) (S .range)) (window-test (c .settings) (c .clock) (c .window) (S .held)))
     (S .coheres))
     (lt-ltb (c .clock) timeEnd (S .clock-ok)))
     (eq-eqb (length (w .times)) (c .settings .«ev_count») (S .times-long)))
@@ -190,14 +190,14 @@ module _ (w : World) (R : InRange (w .state .settings))
       coherent-coheres (w .state .settings .mtu) (w .state .settings .maxwnd) (w .state .clock) (ledgerOf w)
       (omega (arith, R .mtu-high)) (omega (arith, R .maxwnd-high)) e
 
-  parts-bounded : Held (w .state .settings) (w .state .clock) (w .state .window) → Bounded (w .state)
+  parts-bounded : SoundWindow (w .state .settings) (w .state .clock) (w .state .window) → Bounded (w .state)
   parts-bounded H =
       record {
         flown = coheres-flown parts-coheres;
         backlog-high = coheres-facts parts-coheres .backlog;
         mtu-high = omega (arith, R .mtu-high);
         evs-high = ev-count-bounds (w .state .settings .«ev_count») (R .evs-allowed) .1;
-        cwnd-high = omega (arith, H .cwnd-high, ceiling-high R (w .state .window .base) (H .base-high), R .maxwnd-high);
+        cwnd-high = omega (arith, H .cwnd-high, max-wnd-high R (w .state .window .base) (H .base-high), R .maxwnd-high);
       }
 
 pub sound-coheres : (w : World) → sound w ≡ true → Coheres (ledgerOf w)
@@ -216,7 +216,8 @@ module _ (w : World) (range : Bool) (range-is : range ≡ inRange (w .state .set
   unfolding sound
   not-range e = rw (sym range-is ∙ not-true range e)
 
-  module _ (r : not range ≡ false) (held : Bool) (held-is : held ≡ isHeld (w .state .settings) (w .state .clock) (w .state .window)) where
+  module _ (r : not range ≡ false) (held : Bool)
+      (held-is : held ≡ soundWindow (w .state .settings) (w .state .clock) (w .state .window)) where
     pub not-held : not held ≡ true → false ≡ sound w
     unfolding sound
     not-held e = rw (sym range-is ∙ not-false range r, sym held-is ∙ not-true held e)
@@ -232,7 +233,7 @@ module _ (w : World) (range : Bool) (range-is : range ≡ inRange (w .state .set
         pub tests-bounded : Bounded (w .state)
         tests-bounded =
             parts-bounded w (range-facts (w .state .settings) (sym range-is ∙ not-false range r)) (sym books-is ∙ not-false books l)
-            (held-facts (w .state .settings) (w .state .clock) (w .state .window) (sym held-is ∙ not-false held h))
+            (window-facts (w .state .settings) (w .state .clock) (w .state .window) (sym held-is ∙ not-false held h))
 
         pub tests-left :
             (ok : Bool) (m n : ℕ) (name : Phase) → ok ≡ timesOk (w .times) → m ≡ phaseNumber (w .state .phase) → n ≡ phaseNumber name →
@@ -247,7 +248,7 @@ module _ (w : World) (range : Bool) (range-is : range ≡ inRange (w .state .set
 -- a state that the rule names is sound where its parts are
 pub stated-sound :
     (s : Settings) (f : Flow) (t : Totals) (v : Window) (time cursor : ℕ) (r : Ring) (times : List ℕ) →
-    InRange s → Held s time v → coherent (s .mtu) (s .maxwnd) time (ledger f t r) ≡ true → time < timeEnd →
+    InRange s → SoundWindow s time v → coherent (s .mtu) (s .maxwnd) time (ledger f t r) ≡ true → time < timeEnd →
     length times ≡ s .«ev_count» → timesOk times ≡ true → cursor < s .«ev_count» → sound (world (stateOf s f t v time cursor) r times) ≡ true
 unfolding stateOf
 stated-sound s f t v time cursor r times range held coheres clock long ok at =
@@ -265,7 +266,7 @@ stated-sound s f t v time cursor r times range held coheres clock long ok at =
 
 pub settled-sound :
     (time : ℕ) (c : Controller) (l : Ledger) (v : Window) (times : List ℕ) →
-    InRange (c .settings) → Held (c .settings) time v → coherent (c .settings .mtu) (c .settings .maxwnd) time l ≡ true → time < timeEnd →
+    InRange (c .settings) → SoundWindow (c .settings) time v → coherent (c .settings .mtu) (c .settings .maxwnd) time l ≡ true → time < timeEnd →
     length times ≡ c .settings .«ev_count» → timesOk times ≡ true → c .cursor < c .settings .«ev_count» → sound (settled time c l v times) ≡ true
 unfolding settled
 settled-sound time c l v times = stated-sound (c .settings) (l .flow) (l .totals) v time (c .cursor) (l .slots) times

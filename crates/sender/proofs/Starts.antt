@@ -17,9 +17,9 @@ use Rattle.rules.specs.Test.{both}
 use Rattle.serial.specs.Psn.{psns}
 use Rattle.serial.proofs.Wraps.{minus-self}
 use Rattle.window.specs.Range.{inRange}
-use Rattle.window.specs.Held.{freshOf}
+use Rattle.window.specs.Sound.{freshOf}
 use Rattle.window.specs.declared.Settings.{Settings}
-use Rattle.window.proofs.Tests.{ev-count-bounds, range-facts, fresh-held}
+use Rattle.window.proofs.Tests.{ev-count-bounds, range-facts, fresh-window}
 use Rattle.ledger.specs.Packets.{none, sumOf}
 use Rattle.ledger.specs.Ring.{Ring, ring, ledger, capOf, packetAt, queueOf, tabulate, laid, longOf}
 use Rattle.ledger.specs.Coherent.{isCapacity, isRing, coherent, Even}
@@ -136,7 +136,7 @@ module _ (s : Settings) (r : Ring) (times : List ℕ) where
       facts-sound (world (freshState s) (clearRing r) (zeros times))
       (record {
         range = R;
-        held = fresh-held R;
+        held = fresh-window R;
         coheres = fresh-coherent (s .mtu) (s .maxwnd) (s .«first_psn») r (R .psn-high) (p .0);
         clock-ok = omega arith;
         times-long = length-replicate {A = ℕ} (length times) 0 ∙ eqb-true (length times) (s .«ev_count») (p .1);

@@ -18,7 +18,7 @@ use Rattle.rules.specs.Test.{inside-tells, neither}
 use Rattle.serial.specs.Psn.{covered}
 use Rattle.serial.specs.Count.{counts}
 use Rattle.window.specs.Range.{InRange}
-use Rattle.window.specs.Held.{Held}
+use Rattle.window.specs.Sound.{SoundWindow}
 use Rattle.window.specs.Delays.{sampleOf, samplingOf, sampleIn, Sampled}
 use Rattle.window.specs.Quick.{aboveZero}
 use Rattle.window.specs.Events.{ackOf, nackOf, lossOf}
@@ -26,9 +26,9 @@ use Rattle.window.specs.declared.Settings.{Settings}
 use Rattle.window.specs.declared.Window.{Window}
 use Rattle.window.specs.declared.Sample.{Sample}
 use Rattle.window.specs.declared.Sampling.{Sampling}
-use Rattle.window.proofs.Tests.{held-later, sample-held, same-sample}
+use Rattle.window.proofs.Tests.{window-later, sample-bounds, same-sample}
 use Rattle.window.proofs.Keeps.{cwnd-most}
-use Rattle.window.proofs.Ceilings.{ceiling-high}
+use Rattle.window.proofs.MaxWnd.{max-wnd-high}
 use Rattle.paths.specs.Path.{choice}
 use Rattle.paths.specs.declared.Choice.{Choice}
 use Rattle.paths.proofs.Chosen.{choice-inside}
@@ -143,7 +143,7 @@ loss-facts time a c r e =
 
 pub record Ready (s : Settings) (time : ℕ) (v : Window) (l : Ledger) : Type 0 where
   pub range : InRange s
-  pub held : Held s time v
+  pub held : SoundWindow s time v
   pub early : time < timeEnd
   pub coheres : coherent (s .mtu) (s .maxwnd) time l ≡ true
   pub flown : Flown (s .maxwnd) (l .totals .«in_flight»)
@@ -159,7 +159,7 @@ module _ {s : Settings} {time : ℕ} {v : Window} {l : Ledger} (R : Ready s time
   pub ready-above : aboveZero (toZ w64 (ofZ w64 (l .totals .«in_flight»))) ≤ s .maxwnd
   ready-above = rw ready-word (R .flown .high)
 
-  pub state-asks : {u : Window} → Held s time u → Flown (2 ^ 26) (l .totals .«in_flight») × ((s .mtu ≤ 2 ^ 14) × (u .cwnd ≤ 2 ^ 26))
+  pub state-asks : {u : Window} → SoundWindow s time u → Flown (2 ^ 26) (l .totals .«in_flight») × ((s .mtu ≤ 2 ^ 14) × (u .cwnd ≤ 2 ^ 26))
   state-asks H = (ready-flown, (omega (arith, R .range), cwnd-most (R .range) H))
 
 -- what is at most m is at most n
@@ -175,7 +175,7 @@ module _ {w : World} (S : SoundFacts w) where
       let p = coherent-parts (s .mtu) (s .maxwnd) time l co in
       record {
         range = S .range;
-        held = held-later (S .held) (t .later);
+        held = window-later (S .held) (t .later);
         early = t .early;
         coheres = co;
         flown = tallies-facts (s .maxwnd) (l .totals) (packets (l .flow) (l .slots)) (p .1) .3;
@@ -187,7 +187,7 @@ module _ {w : World} (S : SoundFacts w) where
   unfolding hasRoom
   room-under e =
       under (w .state .totals .«in_flight» +ℤ pos (w .state .settings .mtu)) (w .state .window .cwnd) (w .state .settings .maxwnd) e
-      (omega (arith, S .held .cwnd-high, ceiling-high (S .range) (w .state .window .base) (S .held .base-high)))
+      (omega (arith, S .held .cwnd-high, max-wnd-high (S .range) (w .state .window .base) (S .held .base-high)))
 
   -- the EV and the base of an event that changes an EV's time
   pub avoid-asks : {time ev : ℕ} → Timely time (w .state) → ev < w .state .settings .«ev_count»
@@ -333,7 +333,7 @@ module _ (out : Bool) (resent : ℕ) (retx : Bool) (time sent service : ℕ) {p 
   sample-at = ep ∙ ap sampleIn eq ∙ same-sample out resent retx time sent service
 
   pub sampled-at : Sampled p
-  sampled-at = rw sample-at (sample-held out resent retx time sent service)
+  sampled-at = rw sample-at (sample-bounds out resent retx time sent service)
 
 -- ---- a path choice stays among the EVs
 

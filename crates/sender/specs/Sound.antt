@@ -7,7 +7,7 @@ use lib.ListN.{length}
 use lib.Dec.{ltb, eqb}
 use Rattle.window.specs.Limits.{laterEnd}
 use Rattle.window.specs.Range.{inRange}
-use Rattle.window.specs.Held.{isHeld}
+use Rattle.window.specs.Sound.{soundWindow}
 use Rattle.ledger.specs.Coherent.{coherent}
 use Rattle.sender.specs.Limits.{timeEnd}
 use Rattle.sender.specs.World.{World, ledgerOf}
@@ -27,7 +27,7 @@ unfoldable pub sound : World → Bool
 sound w =
     let c = w .state in
     inRange (c .settings)
-    && isHeld (c .settings) (c .clock) (c .window)
+    && soundWindow (c .settings) (c .clock) (c .window)
     && coherent (c .settings .mtu) (c .settings .maxwnd) (c .clock) (ledgerOf w)
     && ltb (c .clock) timeEnd
     && eqb (length (w .times)) (c .settings .«ev_count»)

@@ -8,7 +8,7 @@ use lib.IntN.{pos}
 use lib.ListN.{length, replicate}
 use Rattle.rules.specs.Branch.{ifEq}
 use Rattle.rules.specs.Rows.{firstOf}
-use Rattle.window.specs.Held.{freshOf}
+use Rattle.window.specs.Sound.{freshOf}
 use Rattle.window.specs.declared.Settings.{Settings}
 use Rattle.ledger.specs.Ring.{Ring, ring}
 use Rattle.ledger.specs.declared.Flow.{Flow}

@@ -39,7 +39,7 @@ pub fn is_sound<'a>(
     if !window::bounds::in_range(settings) {
         return false;
     }
-    if !window::bounds::is_held(settings, c.clock, window) {
+    if !window::bounds::is_sound(settings, c.clock, window) {
         return false;
     }
     if !ledger::whole::is_coherent(

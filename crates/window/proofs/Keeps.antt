@@ -1,4 +1,4 @@
--- Every step of the window keeps its bounds at the event's time: one law a definition, in the order of the definitions.
+-- Every step of the window keeps it sound at the event's time: one law a definition, in the order of the definitions.
 -- Assumes nothing.
 use mathlib.Core.Path.{_≡_, refl, ap}
 use mathlib.Core.Bool.{Bool, true, false, not, _&&_, _||_}
@@ -11,13 +11,14 @@ use Rattle.rules.specs.Branch.{so-both, lt-both}
 use Rattle.rules.specs.Test.{both}
 use Rattle.window.specs.Limits.{parts, windowMost, sampleMost, avgMost, timeEnd}
 use Rattle.window.specs.Range.{InRange}
-use Rattle.window.specs.Held.{Held, Kept}
+use Rattle.window.specs.Sound.{SoundWindow, Kept}
 use Rattle.window.specs.Fields.{withIgnored, withTrigger}
-use Rattle.window.specs.Delays.{Sampled, averageOf, fedBy, loweredOf, measuredOf}
-use Rattle.window.specs.Quick.{aboveZero, firesOf, firedOf, restartedOf, adaptedOf}
-use Rattle.window.specs.Cases.{talliedBy, countedOf, calmOf, grownOf, fastOf, incBy, risenOf, factorOf, cutOf, caseOf}
-use Rattle.window.specs.Adjust.{turnedOf, adjustedOf}
-use Rattle.window.specs.Events.{respondedOf, reactedOf, ackOf, shrunkOf, lossOf, rttFed, nackOf}
+use Rattle.window.specs.Delays.{Sampled, avgDelayOf, updateDelayOf, updateBaseRttOf, measureOf}
+use Rattle.window.specs.Quick.{aboveZero, firesOf, fireOf, restartOf, quickAdaptOf}
+use Rattle.window.specs.Cases.{addToTallyOf, countNewlyOf, leaveFastModeOf, raiseCwndOf, isNear, fastIncreaseOf, addIncBytesOf}
+use Rattle.window.specs.Cases.{proportionalIncreaseOf, fairIncreaseOf, factorOf, mayDecrease, multiplicativeDecreaseOf, respondOf}
+use Rattle.window.specs.Adjust.{enoughReceived, periodPassed, fulfillAdjustmentOf, adjustOf}
+use Rattle.window.specs.Events.{goOnOf, reactOf, ackOf, shrinkOf, lossOf, feedTrimmedOf, isTrimmed, nackOf}
 use Rattle.window.specs.declared.Settings.{Settings}
 use Rattle.window.specs.declared.Window.{Window}
 use Rattle.window.specs.declared.Delayed.{Delayed}
@@ -26,19 +27,19 @@ use Rattle.window.specs.declared.Sample.{Sample}
 use Rattle.window.specs.declared.Sample.the-variants.{Ticks, Absent}
 use Rattle.window.proofs.Numbers.{share}
 use Rattle.window.proofs.Steps.{feed-under}
-use Rattle.window.proofs.Ceilings.{ceiling-low, ceiling-high}
+use Rattle.window.proofs.MaxWnd.{max-wnd-low, max-wnd-high}
 
--- the bounds of what is equal
-pub held-at : {s : Settings} {time : ℕ} {v w : Window} → v ≡ w → Held s time w → Held s time v
-held-at e H = rw e H
+-- what is equal to a sound window is sound
+pub sound-at : {s : Settings} {time : ℕ} {v w : Window} → v ≡ w → SoundWindow s time w → SoundWindow s time v
+sound-at e H = rw e H
 
-pub kept : {s : Settings} {time : ℕ} {v r : Window} → r ≡ v → Held s time v → Kept s time v r
-kept e H = record { is = e; held = held-at e H }
+pub kept : {s : Settings} {time : ℕ} {v r : Window} → r ≡ v → SoundWindow s time v → Kept s time v r
+kept e H = record { is = e; sound = sound-at e H }
 
 -- a fed average stays in its bound
-fed-high : (avg x : ℕ) → avg ≤ avgMost → x ≤ sampleMost → fedBy avg x ≤ avgMost
-unfolding fedBy
-fed-high avg x h g = omega arith
+update-delay-high : (avg x : ℕ) → avg ≤ avgMost → x ≤ sampleMost → updateDelayOf avg x ≤ avgMost
+unfolding updateDelayOf
+update-delay-high avg x h g = omega arith
 
 -- quick adapt fires only where less was achieved than the window holds
 fires-room :
@@ -49,183 +50,204 @@ fires-room s loss marked delay w e =
     let rest = not (eqb (w .«qa_end») 0) && marked && (w .trigger || loss || ltb (s .«qa_threshold») delay) in
     ltb-true (w .achieved) (w .cwnd) (both rest (ltb (w .achieved) (w .cwnd)) e .1)
 
+-- fast increase leaves inc_bytes as it is
+pub fast-increase-inc-bytes : (s : Settings) (newly delay : ℕ) (w : Window) → fastIncreaseOf s newly delay w .«inc_bytes» ≡ w .«inc_bytes»
+unfolding fastIncreaseOf raiseCwndOf leaveFastModeOf
+fast-increase-inc-bytes s newly delay w =
+    let P : Window → Type 0 = λ v. v .«inc_bytes» ≡ w .«inc_bytes» in
+    so-both P (isNear delay (w .base)) _ _
+    (λ h. so-both P (w .fast) _ _ (λ e. refl) (λ e. lt-both P (w .cwnd) _ _ _ (λ k. refl) (λ k. refl)))
+    (λ h. refl)
+
+-- a window that may decrease has an average above the target
+pub may-decrease-above : (s : Settings) (time : ℕ) (w : Window) → mayDecrease s time w ≡ true → s .«target_qdelay» < avgDelayOf (w .avg)
+unfolding mayDecrease
+may-decrease-above s time w e =
+    let above = ltb (s .«target_qdelay») (avgDelayOf (w .avg)) in
+    let heard = not (ltb (w .ignored) (w .«bytes_to_ignore»)) in
+    ltb-true _ _ (both heard above (both (heard && above) _ e .0) .1)
+
 -- a cut leaves no more than all
 pub factor-high : {s : Settings} → InRange s → (avg : ℕ) → factorOf s avg ≤ parts
 unfolding factorOf
 factor-high R avg = omega arith
 
 module _ {s : Settings} {time : ℕ} (R : InRange s) where
-  pub cwnd-most : {w : Window} → Held s time w → w .cwnd ≤ windowMost
-  cwnd-most {w} H = omega (arith, ceiling-high R (w .base) (H .base-high))
+  pub cwnd-most : {w : Window} → SoundWindow s time w → w .cwnd ≤ windowMost
+  cwnd-most {w} H = omega (arith, max-wnd-high R (w .base) (H .base-high))
 
-  pub held-counted : {w : Window} (newly : ℕ) → Held s time w → Held s time (countedOf newly w)
-  unfolding countedOf
-  held-counted newly H = omega arith
+  pub sound-count-newly : {w : Window} (newly : ℕ) → SoundWindow s time w → SoundWindow s time (countNewlyOf newly w)
+  unfolding countNewlyOf
+  sound-count-newly newly H = omega arith
 
-  pub held-calm : {w : Window} → Held s time w → Held s time (calmOf w)
-  unfolding calmOf
-  held-calm H = omega arith
+  pub sound-leave-fast-mode : {w : Window} → SoundWindow s time w → SoundWindow s time (leaveFastModeOf w)
+  unfolding leaveFastModeOf
+  sound-leave-fast-mode H = omega arith
 
-  pub held-grown : {w : Window} (newly : ℕ) → Held s time w → Held s time (grownOf s newly w)
-  unfolding grownOf
-  held-grown {w} newly H = omega (arith, ceiling-low R (w .base))
+  pub sound-raise-cwnd : {w : Window} (newly : ℕ) → SoundWindow s time w → SoundWindow s time (raiseCwndOf s newly w)
+  unfolding raiseCwndOf
+  sound-raise-cwnd {w} newly H = omega (arith, max-wnd-low R (w .base))
 
-  pub held-fast : {w : Window} (newly delay : ℕ) → Held s time w → Held s time (fastOf s newly delay w)
-  unfolding fastOf
-  held-fast {w} newly delay H =
-      let G = held-grown newly H in
-      lt-both (Held s time) (w .base / 8) delay _ _ (λ h. held-calm H)
+  pub sound-fast-increase : {w : Window} (newly delay : ℕ) → SoundWindow s time w → SoundWindow s time (fastIncreaseOf s newly delay w)
+  unfolding fastIncreaseOf
+  sound-fast-increase {w} newly delay H =
+      let G = sound-raise-cwnd newly H in
+      so-both (SoundWindow s time) (isNear delay (w .base)) _ _
       (λ h.
-      so-both (Held s time) (w .fast) _ _ (λ e. G)
+      so-both (SoundWindow s time) (w .fast) _ _ (λ e. G)
       (λ e.
-      lt-both (Held s time) (w .cwnd) (talliedBy (w .«fi_count») newly) _ _ (λ k. omega arith) (λ k. omega arith)))
+      lt-both (SoundWindow s time) (w .cwnd) (addToTallyOf (w .«fi_count») newly) _ _ (λ k. omega arith) (λ k. omega arith)))
+      (λ h. sound-leave-fast-mode H)
 
-  pub held-inc : {w : Window} (n : ℕ) → Held s time w → Held s time (incBy n w)
-  unfolding incBy
-  held-inc n H = omega arith
+  pub sound-add-inc-bytes : {w : Window} (n : ℕ) → SoundWindow s time w → SoundWindow s time (addIncBytesOf n w)
+  unfolding addIncBytesOf
+  sound-add-inc-bytes n H = omega arith
 
-  pub held-risen : {w : Window} (newly delay : ℕ) → Held s time w → Held s time (risenOf s newly delay w)
-  unfolding risenOf
-  held-risen {w} newly delay H = so-both (Held s time) (w .fast) _ _ (λ e. H) (λ e. held-inc _ H)
+  pub sound-proportional-increase :
+      {w : Window} (newly delay : ℕ) → SoundWindow s time w → SoundWindow s time (proportionalIncreaseOf s newly delay w)
+  unfolding proportionalIncreaseOf
+  sound-proportional-increase {w} newly delay H =
+      let F = sound-fast-increase newly delay H in
+      so-both (SoundWindow s time) (fastIncreaseOf s newly delay w .fast) _ _ (λ e. F) (λ e. sound-add-inc-bytes _ F)
 
-  pub held-cut : {w : Window} → Held s time w → Held s time (cutOf s time w)
-  unfolding cutOf
-  held-cut {w} H =
-      let avg = averageOf (w .avg) in
+  pub sound-fair-increase : {w : Window} (newly : ℕ) → SoundWindow s time w → SoundWindow s time (fairIncreaseOf s newly w)
+  unfolding fairIncreaseOf
+  sound-fair-increase newly H = sound-add-inc-bytes _ (sound-leave-fast-mode H)
+
+  pub sound-multiplicative-decrease : {w : Window} → SoundWindow s time w → SoundWindow s time (multiplicativeDecreaseOf s time w)
+  unfolding multiplicativeDecreaseOf leaveFastModeOf
+  sound-multiplicative-decrease {w} H =
+      let avg = avgDelayOf (w .avg) in
       let left = share (w .cwnd) (factorOf s avg) parts (factor-high R avg) in
-      lt-both (Held s time) (w .ignored) (w .«bytes_to_ignore») _ _ (λ h. H)
-      (λ h.
-      lt-both (Held s time) (s .«target_qdelay») avg _ _
-      (λ g.
-      lt-both (Held s time) (w .base) (time - w .«last_dec») _ _
-      (λ k. omega (arith, ceiling-low R (w .base)))
-      (λ k. H))
-      (λ g. H))
+      so-both (SoundWindow s time) (mayDecrease s time w) _ _ (λ h. omega (arith, max-wnd-low R (w .base))) (λ h. omega arith)
 
-  pub held-case :
-      {w : Window} (newly : ℕ) (marked : Bool) (delay : ℕ) → Held s time w →
-      Held s time (caseOf s time newly marked delay w)
-  unfolding caseOf
-  held-case newly marked delay H =
-      let C = held-calm H in
-      so-both (Held s time) marked _ _
-      (λ m. lt-both (Held s time) delay (s .«target_qdelay») _ _ (λ h. C) (λ h. held-cut C))
+  pub sound-respond :
+      {w : Window} (newly : ℕ) (marked : Bool) (delay : ℕ) → SoundWindow s time w →
+      SoundWindow s time (respondOf s time newly marked delay w)
+  unfolding respondOf
+  sound-respond newly marked delay H =
+      so-both (SoundWindow s time) (not marked) _ _
       (λ m.
-      lt-both (Held s time) delay (s .«target_qdelay») _ _
-      (λ h. held-risen newly delay (held-fast newly delay H))
-      (λ h. held-inc _ C))
+      lt-both (SoundWindow s time) delay (s .«target_qdelay») _ _
+      (λ h. sound-proportional-increase newly delay H)
+      (λ h. sound-fair-increase newly H))
+      (λ m.
+      lt-both (SoundWindow s time) delay (s .«target_qdelay») _ _
+      (λ h. sound-leave-fast-mode H)
+      (λ h. sound-multiplicative-decrease H))
 
-  pub step-case :
+  pub step-respond :
       {w v : Window} (newly : ℕ) (marked : Bool) (delay : ℕ) →
-      v ≡ caseOf s time newly marked delay w → Held s time w → Held s time v
-  step-case newly marked delay e H = held-at e (held-case newly marked delay H)
+      v ≡ respondOf s time newly marked delay w → SoundWindow s time w → SoundWindow s time v
+  step-respond newly marked delay e H = sound-at e (sound-respond newly marked delay H)
 
-  pub held-turned : {w : Window} (extra : ℕ) → Held s time w → Held s time (turnedOf s extra w)
-  unfolding turnedOf
-  held-turned {w} extra H = omega (arith, ceiling-low R (w .base))
+  pub sound-fulfill-adjustment : {w : Window} (extra : ℕ) → SoundWindow s time w → SoundWindow s time (fulfillAdjustmentOf s extra w)
+  unfolding fulfillAdjustmentOf
+  sound-fulfill-adjustment {w} extra H = omega (arith, max-wnd-low R (w .base))
 
-  pub held-adjusted : {w : Window} → Held s time w → Held s time (adjustedOf s time w)
-  unfolding adjustedOf
-  held-adjusted {w} H =
-      let T = held-turned (s .eta) H in
-      lt-both (Held s time) (time - w .«last_adjust») (s .«adjust_period») _ _
-      (λ h. lt-both (Held s time) (w .received) (s .«adjust_bytes») _ _ (λ k. H) (λ k. held-turned 0 H))
-      (λ h. omega arith)
+  pub sound-adjust : {w : Window} → SoundWindow s time w → SoundWindow s time (adjustOf s time w)
+  unfolding adjustOf
+  sound-adjust {w} H =
+      let T = sound-fulfill-adjustment (s .eta) H in
+      so-both (SoundWindow s time) (enoughReceived s w || periodPassed s time w) _ _
+      (λ h.
+      so-both (SoundWindow s time) (periodPassed s time w) _ _ (λ k. omega arith) (λ k. sound-fulfill-adjustment 0 H))
+      (λ h. H)
 
-  pub held-lowered : {w : Window} (sample : Sample) → Sampled sample → Held s time w → Held s time (loweredOf s sample w)
-  unfolding loweredOf
-  held-lowered {w} (Ticks t) S H = omega (arith, S .low t refl, ceiling-low R (min (w .base) t))
-  held-lowered Absent S H = H
+  pub sound-update-base-rtt :
+      {w : Window} (sample : Sample) → Sampled sample → SoundWindow s time w →
+      SoundWindow s time (updateBaseRttOf s sample w)
+  unfolding updateBaseRttOf
+  sound-update-base-rtt {w} (Ticks t) S H = omega (arith, S .low t refl, max-wnd-low R (min (w .base) t))
+  sound-update-base-rtt Absent S H = H
 
-  pub held-measured :
-      {w : Window} (marked : Bool) (sample : Sample) → Sampled sample → Held s time w →
-      Held s time (measuredOf s marked sample w .window)
-  unfolding measuredOf loweredOf
-  held-measured {w} marked (Ticks t) S H =
+  pub sound-measure :
+      {w : Window} (marked : Bool) (sample : Sample) → Sampled sample → SoundWindow s time w →
+      SoundWindow s time (measureOf s marked sample w .window)
+  unfolding measureOf updateBaseRttOf
+  sound-measure {w} marked (Ticks t) S H =
       let high = S .high t refl in
       let base = min (w .base) t in
       let x = feed-under (s .«target_qdelay») base marked (t - base) sampleMost (omega arith) (omega arith) in
-      let avg = fed-high (w .avg) _ (H .avg-high) x in
-      omega (arith, S .low t refl, ceiling-low R base)
-  held-measured marked Absent S H = H
+      let avg = update-delay-high (w .avg) _ (H .avg-high) x in
+      omega (arith, S .low t refl, max-wnd-low R base)
+  sound-measure marked Absent S H = H
 
-  pub step-measured :
+  pub step-measure :
       {w : Window} {d : Delayed} (marked : Bool) (sample : Sample) →
-      d ≡ measuredOf s marked sample w → Sampled sample → Held s time w → Held s time (d .window)
-  step-measured marked sample e S H = held-at (ap (λ (d : Delayed). d .window) e) (held-measured marked sample S H)
+      d ≡ measureOf s marked sample w → Sampled sample → SoundWindow s time w → SoundWindow s time (d .window)
+  step-measure marked sample e S H = sound-at (ap (λ (d : Delayed). d .window) e) (sound-measure marked sample S H)
 
   -- firing means that achieved, the new window, was under the old one
-  pub held-fired :
-      {w : Window} (inFlight : ℤ) → w .achieved < w .cwnd → aboveZero inFlight ≤ s .maxwnd → Held s time w →
-      Held s time (firedOf s inFlight w)
-  unfolding firedOf
-  held-fired {w} inFlight room flown H = omega (arith, ceiling-low R (w .base))
+  pub sound-fire :
+      {w : Window} (inFlight : ℤ) → w .achieved < w .cwnd → aboveZero inFlight ≤ s .maxwnd → SoundWindow s time w →
+      SoundWindow s time (fireOf s inFlight w)
+  unfolding fireOf
+  sound-fire {w} inFlight room flown H = omega (arith, max-wnd-low R (w .base))
 
-  pub held-restarted : {w : Window} → time < timeEnd → Held s time w → Held s time (restartedOf s time w)
-  unfolding restartedOf
-  held-restarted now H = omega arith
+  pub sound-restart : {w : Window} → time < timeEnd → SoundWindow s time w → SoundWindow s time (restartOf s time w)
+  unfolding restartOf
+  sound-restart now H = omega arith
 
-  pub held-shrunk : (a : Adapted) (size : ℕ) → Held s time (a .window) → Held s time (shrunkOf s size a)
-  unfolding shrunkOf
-  held-shrunk a size H =
-      so-both (Held s time) (a .fired) _ _ (λ e. H) (λ e. omega (arith, ceiling-low R (a .window .base)))
+  pub sound-shrink : (a : Adapted) (size : ℕ) → SoundWindow s time (a .window) → SoundWindow s time (shrinkOf s size a)
+  unfolding shrinkOf
+  sound-shrink a size H =
+      so-both (SoundWindow s time) (a .fired) _ _ (λ e. H) (λ e. omega (arith, max-wnd-low R (a .window .base)))
 
-  pub held-rtt-fed : {w : Window} → Held s time w → Held s time (rttFed s w)
-  unfolding rttFed
-  held-rtt-fed {w} H = omega (arith, fed-high (w .avg) (s .«config_base_rtt») (H .avg-high) (omega arith))
+  pub sound-feed-trimmed : {w : Window} → SoundWindow s time w → SoundWindow s time (feedTrimmedOf s w)
+  unfolding feedTrimmedOf
+  sound-feed-trimmed {w} H = omega (arith, update-delay-high (w .avg) (s .«config_base_rtt») (H .avg-high) (omega arith))
 
-  pub held-trimmed :
-      {w : Window} (size : ℕ) → Held s time w →
-      Held s time (withTrigger true (withIgnored (talliedBy (w .ignored) size) w))
-  held-trimmed size H = omega arith
+  pub sound-trimmed :
+      {w : Window} (size : ℕ) → SoundWindow s time w →
+      SoundWindow s time (withTrigger true (withIgnored (addToTallyOf (w .ignored) size) w))
+  sound-trimmed size H = omega arith
 
   module _ (inFlight : ℤ) (now : time < timeEnd) (flown : aboveZero inFlight ≤ s .maxwnd) where
-    pub held-adapted :
-        {w : Window} (loss marked : Bool) (delay : ℕ) → Held s time w →
-        Held s time (adaptedOf s time loss marked delay inFlight w .window)
-    unfolding adaptedOf
-    held-adapted {w} loss marked delay H =
-        let P : Adapted → Type 0 = λ a. Held s time (a .window) in
-        so-both P (s .«quick_adapt_off») _ _ (λ e. H)
+    pub sound-quick-adapt :
+        {w : Window} (loss marked : Bool) (delay : ℕ) → SoundWindow s time w →
+        SoundWindow s time (quickAdaptOf s time loss marked delay inFlight w .window)
+    unfolding quickAdaptOf
+    sound-quick-adapt {w} loss marked delay H =
+        let P : Adapted → Type 0 = λ a. SoundWindow s time (a .window) in
+        so-both P (s .«quick_adapt_off» || ltb time (w .«qa_end»)) _ _ (λ e. H)
         (λ e.
-        lt-both P time (w .«qa_end») _ _ (λ h. H)
-        (λ h.
         so-both P (firesOf s loss marked delay w) _ _
-        (λ k. held-restarted now (held-fired inFlight (fires-room s loss marked delay w k) flown H))
-        (λ k. held-restarted now H)))
+        (λ k. sound-restart now (sound-fire inFlight (fires-room s loss marked delay w k) flown H))
+        (λ k. sound-restart now H))
 
-    pub step-adapted :
+    pub step-quick-adapt :
         {w : Window} {a : Adapted} (loss marked : Bool) (delay : ℕ) →
-        a ≡ adaptedOf s time loss marked delay inFlight w → Held s time w → Held s time (a .window)
-    step-adapted loss marked delay e H = held-at (ap (λ (a : Adapted). a .window) e) (held-adapted loss marked delay H)
+        a ≡ quickAdaptOf s time loss marked delay inFlight w → SoundWindow s time w → SoundWindow s time (a .window)
+    step-quick-adapt loss marked delay e H = sound-at (ap (λ (a : Adapted). a .window) e) (sound-quick-adapt loss marked delay H)
 
-    pub held-loss : {w : Window} (size : ℕ) → Held s time w → Held s time (lossOf s time size inFlight w)
+    pub sound-loss : {w : Window} (size : ℕ) → SoundWindow s time w → SoundWindow s time (lossOf s time size inFlight w)
     unfolding lossOf
-    held-loss size H = held-shrunk _ size (held-adapted true true 0 (held-trimmed size H))
+    sound-loss size H = sound-shrink _ size (sound-quick-adapt true true 0 (sound-trimmed size H))
 
-    pub held-nack :
-        {w : Window} {sample : Sample} (size reason : ℕ) → Sampled sample → Held s time w →
-        Held s time (nackOf s time size reason sample inFlight w)
+    pub sound-nack :
+        {w : Window} {sample : Sample} (size reason : ℕ) → Sampled sample → SoundWindow s time w →
+        SoundWindow s time (nackOf s time size reason sample inFlight w)
     unfolding nackOf
-    held-nack size reason S H =
-        let L = held-lowered _ S H in
-        lt-both (Held s time) 1 reason _ _ (λ h. L) (λ h. held-loss size (held-rtt-fed L))
+    sound-nack size reason S H =
+        let L = sound-update-base-rtt _ S H in
+        so-both (SoundWindow s time) (isTrimmed reason) _ _ (λ h. sound-loss size (sound-feed-trimmed L)) (λ h. L)
 
     -- inside an ACK: the window that quick adapt leaves
-    pub ack-adapted :
+    pub ack-quick-adapt :
         {w v : Window} {d : Delayed} {a : Adapted} (newly : ℕ) (marked : Bool) (sample : Sample) →
-        v ≡ countedOf newly w → d ≡ measuredOf s marked sample v →
-        a ≡ adaptedOf s time false marked (d .delay) inFlight (d .window) →
-        Sampled sample → Held s time w → Held s time (a .window)
-    ack-adapted {d = d} newly marked sample e f g S H =
-        step-adapted false marked (d .delay) g (step-measured marked sample f S (held-at e (held-counted newly H)))
+        v ≡ countNewlyOf newly w → d ≡ measureOf s marked sample v →
+        a ≡ quickAdaptOf s time false marked (d .delay) inFlight (d .window) →
+        Sampled sample → SoundWindow s time w → SoundWindow s time (a .window)
+    ack-quick-adapt {d = d} newly marked sample e f g S H =
+        step-quick-adapt false marked (d .delay) g (step-measure marked sample f S (sound-at e (sound-count-newly newly H)))
 
-    pub held-ack :
-        {w : Window} {sample : Sample} (newly : ℕ) (marked : Bool) → Sampled sample → Held s time w →
-        Held s time (ackOf s time newly marked sample inFlight w)
-    unfolding ackOf reactedOf respondedOf
-    held-ack {w} {sample} newly marked S H =
-        let d = measuredOf s marked sample (countedOf newly w) in
-        let a = adaptedOf s time false marked (d .delay) inFlight (d .window) in
-        let A : Held s time (a .window) = ack-adapted {w = w} {d = d} newly marked sample refl refl refl S H in
-        so-both (Held s time) (a .fired) _ _ (λ e. A) (λ e. held-adjusted (held-case newly marked (d .delay) A))
+    pub sound-ack :
+        {w : Window} {sample : Sample} (newly : ℕ) (marked : Bool) → Sampled sample → SoundWindow s time w →
+        SoundWindow s time (ackOf s time newly marked sample inFlight w)
+    unfolding ackOf reactOf goOnOf
+    sound-ack {w} {sample} newly marked S H =
+        let d = measureOf s marked sample (countNewlyOf newly w) in
+        let a = quickAdaptOf s time false marked (d .delay) inFlight (d .window) in
+        let A : SoundWindow s time (a .window) = ack-quick-adapt {w = w} {d = d} newly marked sample refl refl refl S H in
+        so-both (SoundWindow s time) (a .fired) _ _ (λ e. A) (λ e. sound-adjust (sound-respond newly marked (d .delay) A))

@@ -2,6 +2,6 @@
 pub mod Numbers
 pub mod Signs
 pub mod Steps
-pub mod Ceilings
+pub mod MaxWnd
 pub mod Keeps
 pub mod Tests

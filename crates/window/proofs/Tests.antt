@@ -1,4 +1,4 @@
--- The tests of refusals 1 and 2 hold exactly where the facts do; the fresh window is held; a sample exists exactly as document 01 has it.
+-- The tests of refusals 1 and 2 hold exactly where the facts do; the fresh window is sound; a sample exists exactly as document 01 has it.
 -- Assumes nothing.
 use mathlib.Core.Path.{_≡_, refl, sym, ap}
 use mathlib.Core.Bool.{Bool, true, false, _&&_, _||_}
@@ -12,16 +12,16 @@ use Rattle.rules.specs.Branch.{so-both, lt-both, so-yes, so-no, lt-yes, lt-no}
 use Rattle.rules.specs.Test.{inside, both, whole, inside-tells, inside-yes}
 use Rattle.serial.specs.Psn.{psns}
 use Rattle.window.specs.Limits.{mtuLeast, mtuMost, windowMost, delayMost, gainMost, alphaMost, parts, periodMost, thresholdMost}
-use Rattle.window.specs.Limits.{sampleMost, avgMost, incStop, tallyStop, laterEnd, ceilingOf}
+use Rattle.window.specs.Limits.{sampleMost, avgMost, incStop, tallyStop, laterEnd, maxWndOf}
 use Rattle.window.specs.Range.{isEvCount, inRange, InRange}
-use Rattle.window.specs.Held.{isHeld, Held, freshOf}
-use Rattle.window.specs.Delays.{oneSend, sampleOf, cutOf, samplingOf, sampleIn, Sampled}
+use Rattle.window.specs.Sound.{soundWindow, SoundWindow, freshOf}
+use Rattle.window.specs.Delays.{oneSend, sampleOf, takeSampleOf, samplingOf, sampleIn, Sampled}
 use Rattle.window.specs.declared.Settings.{Settings}
 use Rattle.window.specs.declared.Window.{Window}
 use Rattle.window.specs.declared.Sample.{Sample}
 use Rattle.window.specs.declared.Sample.the-variants.{Ticks, Absent}
 use Rattle.window.specs.declared.Sampling.{Sampling}
-use Rattle.window.proofs.Ceilings.{ceiling-fresh}
+use Rattle.window.proofs.MaxWnd.{max-wnd-fresh}
 
 -- the last row of a list of ranges, and the rows before it
 row : (rest : Bool) (low x high : ℕ) → (rest && inside low x high) ≡ true → (rest ≡ true) × ((low ≤ x) × (x ≤ high))
@@ -93,9 +93,9 @@ pub range-test : (s : Settings) → InRange s → inRange s ≡ true
 unfolding inRange
 range-test s R = search (needs, whole, inside-yes, lt-ltb) depth 20
 
-pub held-facts : (s : Settings) (clock : ℕ) (w : Window) → isHeld s clock w ≡ true → Held s clock w
-unfolding isHeld
-held-facts s clock w e =
+pub window-facts : (s : Settings) (clock : ℕ) (w : Window) → soundWindow s clock w ≡ true → SoundWindow s clock w
+unfolding soundWindow
+window-facts s clock w e =
     let dec = row _ 0 (w .«last_dec») clock e in
     let adjust = row _ 0 (w .«last_adjust») clock (dec .0) in
     let end = row _ 0 (w .«qa_end») (laterEnd - 1) (adjust .0) in
@@ -106,23 +106,23 @@ held-facts s clock w e =
     let received = row _ 0 (w .received) tallyStop (achieved .0) in
     let inc = row _ 0 (w .«inc_bytes») incStop (received .0) in
     let avg = row _ 0 (w .avg) avgMost (inc .0) in
-    let cwnd = row (inside 1 (w .base) (s .«config_base_rtt»)) (s .mtu) (w .cwnd) (ceilingOf s (w .base)) (avg .0) in
+    let cwnd = row (inside 1 (w .base) (s .«config_base_rtt»)) (s .mtu) (w .cwnd) (maxWndOf s (w .base)) (avg .0) in
     let base = inside-tells 1 (w .base) (s .«config_base_rtt») (cwnd .0) in
     omega arith
 
-pub held-test : (s : Settings) (clock : ℕ) (w : Window) → Held s clock w → isHeld s clock w ≡ true
-unfolding isHeld
-held-test s clock w H =
+pub window-test : (s : Settings) (clock : ℕ) (w : Window) → SoundWindow s clock w → soundWindow s clock w ≡ true
+unfolding soundWindow
+window-test s clock w H =
     let end : w .«qa_end» ≤ laterEnd - 1 = omega arith in
     search (needs, whole, inside-yes) depth 20
 
-pub fresh-held : {s : Settings} → InRange s → Held s 0 (freshOf s)
+pub fresh-window : {s : Settings} → InRange s → SoundWindow s 0 (freshOf s)
 unfolding freshOf
-fresh-held R = omega (arith, ceiling-fresh R)
+fresh-window R = omega (arith, max-wnd-fresh R)
 
--- a window that is held stays so while the clock moves on
-pub held-later : {s : Settings} {a b : ℕ} {w : Window} → Held s a w → a ≤ b → Held s b w
-held-later H h = omega arith
+-- a sound window stays so while the clock moves on
+pub window-later : {s : Settings} {a b : ℕ} {w : Window} → SoundWindow s a w → a ≤ b → SoundWindow s b w
+window-later H h = omega arith
 
 -- "its resend count is 0 with the retx flag clear, or 1 with it set"
 abbrev pub OneCopy : ℕ → Bool → Type 0
@@ -181,8 +181,8 @@ module _ (outstanding : Bool) (resent : ℕ) (retx : Bool) (time sent service : 
       never : {A : Type 0} {t : ℕ} → Absent ≡ Ticks t → A
       never e = let z : _≡_ {A = ℕ} 0 1 = cc in absurd (let k : ⊥ = omega arith in k)
 
-  pub sample-held : Sampled (sampleOf outstanding resent retx time sent service)
-  sample-held =
+  pub sample-bounds : Sampled (sampleOf outstanding resent retx time sent service)
+  sample-bounds =
       record {
         low = λ t e. let x = exists-sample t e in omega (arith, x .0 .late, x .1);
         high = λ t e. let x = exists-sample t e in omega (arith, x .1);
@@ -190,7 +190,7 @@ module _ (outstanding : Bool) (resent : ℕ) (retx : Bool) (time sent service : 
 
   -- request M-103 leaves the window's rules the sample that they had
   pub same-sample : sampleIn (samplingOf outstanding resent retx time sent service) ≡ sampleOf outstanding resent retx time sent service
-  unfolding samplingOf sampleOf sampleIn cutOf
+  unfolding samplingOf sampleOf sampleIn takeSampleOf
   same-sample =
       let P : Sampling → Type 0 = λ p. sampleIn p ≡ sampleOf outstanding resent retx time sent service in
       so-both P outstanding _ _

@@ -2,7 +2,7 @@
 pub mod Limits
 pub mod Range
 pub mod Fields
-pub mod Held
+pub mod Sound
 pub mod Delays
 pub mod Quick
 pub mod Cases

@@ -66,6 +66,28 @@ incStop = 2 ^ 60
 abbrev pub newlyEnd : ℕ
 newlyEnd = 2 ^ 31
 
--- request M-101: "max_wnd = max(MTU, MaxWnd·base/config_base_rtt), rounded down": the ceiling that every clamp of cwnd uses, for a base round trip
-unfoldable pub ceilingOf : Settings → ℕ → ℕ
-ceilingOf s base = max (s .mtu) (s .maxwnd * base / s .«config_base_rtt»)
+-- "NACK reasons: 0 trimmed, 1 trimmed at the last hop, 2 other"
+abbrev pub trimmedLastHop : ℕ
+trimmedLastHop = 1
+
+-- "near means delay ≤ base/8"
+abbrev pub nearPart : ℕ
+nearPart = 8
+
+-- "Fed x: avg = (79·avg + 1,024·x) / 80": of 80 shares the old average keeps 79
+abbrev pub avgKeeps : ℕ
+avgKeeps = 79
+
+abbrev pub avgShares : ℕ
+avgShares = 80
+
+-- "x = base/4 when unmarked and target < delay ≤ 5·base"
+abbrev pub feedPart : ℕ
+feedPart = 4
+
+abbrev pub feedReach : ℕ
+feedReach = 5
+
+-- request M-101: "max_wnd = max(MTU, MaxWnd·base/config_base_rtt), rounded down", which every clamp of cwnd uses, for a base round trip
+unfoldable pub maxWndOf : Settings → ℕ → ℕ
+maxWndOf s base = max (s .mtu) (s .maxwnd * base / s .«config_base_rtt»)

@@ -5,15 +5,16 @@ use rules::most;
 use rules::within;
 ghost use mathlib.Core.Path.{_≡_};
 ghost use Prim.Native.Nat.{_≤_};
-ghost use Rattle.window.specs.Limits.{ceilingOf};
+ghost use Rattle.window.specs.Limits.{maxWndOf};
 ghost use Rattle.window.specs.Range.{isEvCount, inRange, InRange};
-ghost use Rattle.window.specs.Held.{isHeld, freshOf};
+ghost use Rattle.window.specs.Sound.{soundWindow, freshOf};
 
-// max_wnd: the ceiling of the window at a base round trip. An inner step: in these bounds the product does not overflow.
-pub(crate) fn ceiling(s: Settings, base: u64) -> u64
+// max(MTU, MaxWnd·base/config_base_rtt): max_wnd at a base round trip, by request M-101. UET 3.6.13.6, update_base_rtt.
+// An inner step: in these bounds the product does not overflow.
+pub(crate) fn max_wnd(s: Settings, base: u64) -> u64
     requires { ⌜ InRange s ⌝ }
     requires { ⌜ base ≤ s .«config_base_rtt» ⌝ }
-    ensures { λ r. ⌜ r ≡ ceilingOf s base ⌝ }
+    ensures { λ r. ⌜ r ≡ maxWndOf s base ⌝ }
 {
     let maxwnd = s.maxwnd;
     let rtt = s.config_base_rtt;
@@ -46,16 +47,16 @@ pub fn in_range(s: Settings) -> bool
         & is_ev_count(s.ev_count)
 }
 
-// Whether the window's numbers are in their bounds at a clock: the window's part of refusal 2. An inner step: the settings are in range. The base is tested
-// first, as max_wnd is worked out with it.
-pub fn is_held(s: Settings, clock: u64, w: Window) -> bool
+// Whether the window is sound at a clock, every number in its bounds: the window's part of refusal 2. An inner step: the settings are in
+// range. The base is tested first, as max_wnd is worked out with it.
+pub fn is_sound(s: Settings, clock: u64, w: Window) -> bool
     requires { ⌜ InRange s ⌝ }
-    ensures { λ r. ⌜ r ≡ isHeld s clock w ⌝ }
+    ensures { λ r. ⌜ r ≡ soundWindow s clock w ⌝ }
 {
     if !within(1, w.base, s.config_base_rtt) {
         return false;
     }
-    within(s.mtu, w.cwnd, ceiling(s, w.base))
+    within(s.mtu, w.cwnd, max_wnd(s, w.base))
         & within(0, w.avg, crate::AVG_MOST)
         & within(0, w.inc_bytes, crate::INC_STOP)
         & within(0, w.received, crate::TALLY_STOP)

@@ -1,40 +1,44 @@
-// The four cases by M flag and delay, and the tallies that come before them.
+// The four cases by M flag and delay, and the tallies that come before them. The rules bear their names in UET 3.6.13.6.
 use crate::Settings;
 use crate::Window;
-use crate::bounds::ceiling;
-use crate::delay::average;
+use crate::bounds::max_wnd;
+use crate::delay::avg_delay;
 use rules::least;
 use rules::most;
 ghost use mathlib.Core.Path.{_≡_};
 ghost use Prim.Native.Nat.{_≤_, _<_};
-ghost use Rattle.window.specs.Limits.{parts, windowMost, alphaMost, delayMost, avgMost, tallyStop, incStop, newlyEnd};
+ghost use Rattle.window.specs.Limits.{parts, windowMost, avgMost, tallyStop, incStop, newlyEnd};
 ghost use Rattle.window.specs.Range.{InRange};
-ghost use Rattle.window.specs.Held.{Held};
-ghost use Rattle.window.specs.Cases.{talliedBy, countedOf, calmOf, grownOf, fastOf, incBy, risenOf, factorOf, cutOf, caseOf};
+ghost use Rattle.window.specs.Sound.{SoundWindow};
+ghost use Rattle.window.specs.Cases.{addToTallyOf, countNewlyOf, leaveFastModeOf, raiseCwndOf, isNear, fastIncreaseOf};
+ghost use Rattle.window.specs.Cases.{addIncBytesOf, proportionalIncreaseOf, fairIncreaseOf};
+ghost use Rattle.window.specs.Cases.{factorOf, mayDecrease, multiplicativeDecreaseOf, respondOf};
 
 // A tally and n bytes more, stopping at 2^40.
-pub(crate) fn tallied(x: u64, n: u64) -> u64
+pub(crate) fn add_to_tally(x: u64, n: u64) -> u64
     requires { ⌜ (x ≤ tallyStop) × (n < newlyEnd) ⌝ }
-    ensures { λ r. ⌜ r ≡ talliedBy x n ⌝ }
+    ensures { λ r. ⌜ r ≡ addToTallyOf x n ⌝ }
 {
     least(x + n, crate::TALLY_STOP)
 }
 
-// newly is added to ignored, received and achieved.
-pub(crate) fn counted(newly: u64, w: Window) -> Window
-    requires { ⌜ (w .ignored ≤ tallyStop) × (w .received ≤ tallyStop) × (w .achieved ≤ tallyStop) × (newly < newlyEnd) ⌝ }
-    ensures { λ r. ⌜ r ≡ countedOf newly w ⌝ }
+// ignored, received and achieved += newly. UET 3.6.13.5, the start of OnACK.
+pub(crate) fn count_newly(newly: u64, w: Window) -> Window
+    requires { ⌜
+        (w .ignored ≤ tallyStop) × (w .received ≤ tallyStop) × (w .achieved ≤ tallyStop) × (newly < newlyEnd)
+        ⌝ }
+    ensures { λ r. ⌜ r ≡ countNewlyOf newly w ⌝ }
 {
     let mut n = w;
-    n.ignored = tallied(w.ignored, newly);
-    n.received = tallied(w.received, newly);
-    n.achieved = tallied(w.achieved, newly);
+    n.ignored = add_to_tally(w.ignored, newly);
+    n.received = add_to_tally(w.received, newly);
+    n.achieved = add_to_tally(w.achieved, newly);
     n
 }
 
 // Fast mode off, fi_count 0.
-fn calm(w: Window) -> Window
-    ensures { λ r. ⌜ r ≡ calmOf w ⌝ }
+fn leave_fast_mode(w: Window) -> Window
+    ensures { λ r. ⌜ r ≡ leaveFastModeOf w ⌝ }
 {
     let mut n = w;
     n.fast = false;
@@ -42,48 +46,57 @@ fn calm(w: Window) -> Window
     n
 }
 
-// cwnd and newly more, up to the ceiling.
-fn grown(s: Settings, newly: u64, w: Window) -> Window
+// cwnd += newly, up to max_wnd.
+fn raise_cwnd(s: Settings, newly: u64, w: Window) -> Window
     requires { ⌜ InRange s ⌝ }
     requires { ⌜ (w .cwnd ≤ windowMost) × (newly < newlyEnd) × (w .base ≤ s .«config_base_rtt») ⌝ }
-    ensures { λ r. ⌜ r ≡ grownOf s newly w ⌝ }
+    ensures { λ r. ⌜ r ≡ raiseCwndOf s newly w ⌝ }
 {
     let cwnd = w.cwnd;
     let mut n = w;
-    n.cwnd = least(cwnd + newly, ceiling(s, w.base));
+    n.cwnd = least(cwnd + newly, max_wnd(s, w.base));
     n
 }
 
-// Fast increase, near the base or not.
-fn fast(s: Settings, newly: u64, delay: u64, w: Window) -> Window
-    requires { ⌜ InRange s ⌝ }
-    requires { ⌜ (w .cwnd ≤ windowMost) × (newly < newlyEnd) × (w .«fi_count» ≤ tallyStop) × (w .base ≤ s .«config_base_rtt») ⌝ }
-    ensures { λ r. ⌜ r ≡ fastOf s newly delay w ⌝ }
+// delay ≤ base/8.
+fn is_near(delay: u64, base: u64) -> bool
+    ensures { λ r. ⌜ r ≡ isNear delay base ⌝ }
 {
-    let base = w.base;
-    if base / 8 < delay {
-        return calm(w);
-    }
-    if w.fast {
-        return grown(s, newly, w);
-    }
-    let more = tallied(w.fi_count, newly);
-    let cwnd = w.cwnd;
-    if cwnd < more {
-        let mut n = grown(s, newly, w);
+    delay <= base / crate::NEAR_PART
+}
+
+// Near and fast mode on: cwnd += newly. Near and off: fi_count += newly; if above cwnd, mode on and cwnd += newly.
+// Not near: mode off, fi_count 0. UET 3.6.13.6, fast_increase.
+fn fast_increase(s: Settings, newly: u64, delay: u64, w: Window) -> Window
+    requires { ⌜ InRange s ⌝ }
+    requires { ⌜
+        (w .cwnd ≤ windowMost) × (newly < newlyEnd) × (w .«fi_count» ≤ tallyStop) × (w .base ≤ s .«config_base_rtt»)
+        ⌝ }
+    ensures { λ r. ⌜ r ≡ fastIncreaseOf s newly delay w ⌝ }
+{
+    if is_near(delay, w.base) {
+        if w.fast {
+            return raise_cwnd(s, newly, w);
+        }
+        let more = add_to_tally(w.fi_count, newly);
+        let cwnd = w.cwnd;
+        if more > cwnd {
+            let mut n = raise_cwnd(s, newly, w);
+            n.fi_count = more;
+            n.fast = true;
+            return n;
+        }
+        let mut n = w;
         n.fi_count = more;
-        n.fast = true;
         return n;
     }
-    let mut n = w;
-    n.fi_count = more;
-    n
+    leave_fast_mode(w)
 }
 
-// inc_bytes and n more, stopping at 2^60.
-fn inc(n: u64, w: Window) -> Window
+// inc_bytes += n, stopping at 2^60.
+fn add_inc_bytes(n: u64, w: Window) -> Window
     requires { ⌜ (w .«inc_bytes» ≤ incStop) × (n ≤ incStop) ⌝ }
-    ensures { λ r. ⌜ r ≡ incBy n w ⌝ }
+    ensures { λ r. ⌜ r ≡ addIncBytesOf n w ⌝ }
 {
     let inc_bytes = w.inc_bytes;
     let mut v = w;
@@ -91,20 +104,36 @@ fn inc(n: u64, w: Window) -> Window
     v
 }
 
-// The proportional increase, where fast mode is off.
-fn risen(s: Settings, newly: u64, delay: u64, w: Window) -> Window
-    requires { ⌜ (w .«inc_bytes» ≤ incStop) × (s .alpha ≤ alphaMost) × (newly < newlyEnd) × (s .«target_qdelay» ≤ delayMost) × (delay ≤ s .«target_qdelay») ⌝ }
-    ensures { λ r. ⌜ r ≡ risenOf s newly delay w ⌝ }
+// Fast increase; then, where the mode is off, inc_bytes += alpha·newly·(target - delay).
+// UET 3.6.13.6, proportional_increase.
+fn proportional_increase(s: Settings, newly: u64, delay: u64, w: Window) -> Window
+    requires { ⌜ InRange s ⌝ }
+    requires { ⌜
+        (w .cwnd ≤ windowMost) × (newly < newlyEnd) × (w .«fi_count» ≤ tallyStop) × (w .base ≤ s .«config_base_rtt»)
+        × (w .«inc_bytes» ≤ incStop) × (delay < s .«target_qdelay»)
+        ⌝ }
+    ensures { λ r. ⌜ r ≡ proportionalIncreaseOf s newly delay w ⌝ }
 {
-    if w.fast {
-        return w;
+    let v = fast_increase(s, newly, delay, w);
+    if v.fast {
+        return v;
     }
     let alpha = s.alpha;
     let target = s.target_qdelay;
-    inc(alpha * newly * (target - delay), w)
+    add_inc_bytes(alpha * newly * (target - delay), v)
 }
 
-// How many parts of 1,024 a cut leaves of the window.
+// Mode off, fi_count 0; inc_bytes += fi·newly. UET 3.6.13.6, fair_increase.
+fn fair_increase(s: Settings, newly: u64, w: Window) -> Window
+    requires { ⌜ InRange s ⌝ }
+    requires { ⌜ (w .«inc_bytes» ≤ incStop) × (newly < newlyEnd) ⌝ }
+    ensures { λ r. ⌜ r ≡ fairIncreaseOf s newly w ⌝ }
+{
+    let fi = s.fi;
+    add_inc_bytes(fi * newly, leave_fast_mode(w))
+}
+
+// max(1,024 - gamma·(avg - target)/avg, max_md_jump): how many parts of 1,024 a cut leaves of the window.
 fn factor(s: Settings, avg: u64) -> u64
     requires { ⌜ (s .gamma ≤ parts) × (s .«target_qdelay» < avg) × (avg ≤ avgMost) ⌝ }
     ensures { λ r. ⌜ r ≡ factorOf s avg ⌝ }
@@ -114,36 +143,37 @@ fn factor(s: Settings, avg: u64) -> u64
     most(crate::PARTS - gamma * (avg - target) / avg, s.max_md_jump)
 }
 
-// The multiplicative decrease.
-fn cut(s: Settings, time: u64, w: Window) -> Window
-    requires { ⌜ InRange s ⌝ }
-    requires { ⌜ Held s time w ⌝ }
-    ensures { λ r. ⌜ r ≡ cutOf s time w ⌝ }
+// Not ignored < bytes_to_ignore, and avg > target, and now - last_dec > base.
+fn may_decrease(s: Settings, time: u64, w: Window) -> bool
+    requires { ⌜ w .«last_dec» ≤ time ⌝ }
+    ensures { λ r. ⌜ r ≡ mayDecrease s time w ⌝ }
 {
     let ignored = w.ignored;
     let bytes_to_ignore = w.bytes_to_ignore;
-    if ignored < bytes_to_ignore {
-        return w;
-    }
-    let avg = average(w.avg);
-    let target = s.target_qdelay;
-    if avg <= target {
-        return w;
-    }
     let last_dec = w.last_dec;
     let base = w.base;
-    if time - last_dec <= base {
-        return w;
+    !(ignored < bytes_to_ignore) & (avg_delay(w.avg) > s.target_qdelay) & (time - last_dec > base)
+}
+
+// Mode off, fi_count 0; then, if the window may decrease, cwnd = max(cwnd·factor/1,024, MTU), last_dec = now.
+// UET 3.6.13.6, multiplicative_decrease.
+fn multiplicative_decrease(s: Settings, time: u64, w: Window) -> Window
+    requires { ⌜ InRange s ⌝ }
+    requires { ⌜ SoundWindow s time w ⌝ }
+    ensures { λ r. ⌜ r ≡ multiplicativeDecreaseOf s time w ⌝ }
+{
+    let mut n = leave_fast_mode(w);
+    if may_decrease(s, time, w) {
+        let cwnd = w.cwnd;
+        let left = factor(s, avg_delay(w.avg));
+        n.cwnd = most(cwnd * left / crate::PARTS, s.mtu);
+        n.last_dec = time;
+        return n;
     }
-    let cwnd = w.cwnd;
-    let left = factor(s, avg);
-    let mut n = w;
-    n.cwnd = most(cwnd * left / crate::PARTS, s.mtu);
-    n.last_dec = time;
     n
 }
 
-// The four cases.
+// The four cases: M clear, and M set; in each delay < target, and delay ≥ target. UET 3.6.13.5, OnACK.
 pub(crate) fn respond(
     s: Settings,
     time: u64,
@@ -153,20 +183,19 @@ pub(crate) fn respond(
     w: Window,
 ) -> Window
     requires { ⌜ InRange s ⌝ }
-    requires { ⌜ Held s time w ⌝ }
+    requires { ⌜ SoundWindow s time w ⌝ }
     requires { ⌜ newly < newlyEnd ⌝ }
-    ensures { λ r. ⌜ r ≡ caseOf s time newly marked delay w ⌝ }
+    ensures { λ r. ⌜ r ≡ respondOf s time newly marked delay w ⌝ }
 {
     let target = s.target_qdelay;
-    if marked {
+    if !marked {
         if delay < target {
-            return calm(w);
+            return proportional_increase(s, newly, delay, w);
         }
-        return cut(s, time, calm(w));
+        return fair_increase(s, newly, w);
     }
     if delay < target {
-        return risen(s, newly, delay, fast(s, newly, delay, w));
+        return leave_fast_mode(w);
     }
-    let fi = s.fi;
-    inc(fi * newly, calm(w))
+    multiplicative_decrease(s, time, w)
 }

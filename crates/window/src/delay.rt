@@ -1,16 +1,17 @@
-// Samples and delay.
+// Samples and delay. The rules bear their names in UET 3.6.13.6.
 use crate::Delayed;
 use crate::Sample;
 use crate::Sampling;
 use crate::Settings;
 use crate::Window;
-use crate::bounds::ceiling;
+use crate::bounds::max_wnd;
 use rules::least;
 ghost use mathlib.Core.Path.{_≡_};
 ghost use Prim.Native.Nat.{_≤_};
 ghost use Rattle.window.specs.Limits.{delayMost, sampleMost, avgMost};
 ghost use Rattle.window.specs.Range.{InRange};
-ghost use Rattle.window.specs.Delays.{oneSend, cutOf, samplingOf, sampleIn, averageOf, fedBy, feedOf, loweredOf, measuredOf, Sampled};
+ghost use Rattle.window.specs.Delays.{oneSend, takeSampleOf, samplingOf, sampleIn, Sampled};
+ghost use Rattle.window.specs.Delays.{avgDelayOf, updateDelayOf, feedOf, updateBaseRttOf, measureOf};
 
 // Whether a resend count and a retx flag tell which copy of the packet an answer is to.
 fn one_send(resent: u64, retx: bool) -> bool
@@ -22,9 +23,9 @@ fn one_send(resent: u64, retx: bool) -> bool
     resent == 0
 }
 
-// A sample of so many ticks, cut where it is above 2^20.
-fn cut(ticks: u64) -> Sampling
-    ensures { λ r. ⌜ r ≡ cutOf ticks ⌝ }
+// A sample of so many ticks, cut to 2^20 where it is above.
+fn take_sample(ticks: u64) -> Sampling
+    ensures { λ r. ⌜ r ≡ takeSampleOf ticks ⌝ }
 {
     if crate::SAMPLE_MOST < ticks {
         return Sampling::Cut;
@@ -32,7 +33,8 @@ fn cut(ticks: u64) -> Sampling
     Sampling::Taken(ticks)
 }
 
-// The round-trip sample of an ACK, or of a NACK with service 0, or why there is none. `outstanding`: the packet is flying or marked.
+// now - sent - service, the round-trip sample of an ACK, or of a NACK with service 0; or why there is none.
+// `outstanding`: the packet is flying or marked. UET 3.6.13.6, calculate_rtt.
 pub fn sampling(
     outstanding: bool,
     resent: u64,
@@ -55,7 +57,7 @@ pub fn sampling(
     if time - sent <= service {
         return Sampling::NotPositive;
     }
-    cut(time - sent - service)
+    take_sample(time - sent - service)
 }
 
 // What the window's rules use of it.
@@ -71,43 +73,37 @@ pub fn sample_in(sampling: Sampling) -> Sample
     }
 }
 
-// The average in whole ticks.
-pub(crate) fn average(avg: u64) -> u64
-    ensures { λ r. ⌜ r ≡ averageOf avg ⌝ }
+// avg/1,024, the average in whole ticks. UET 3.6.13.6, get_avg_delay.
+pub(crate) fn avg_delay(avg: u64) -> u64
+    ensures { λ r. ⌜ r ≡ avgDelayOf avg ⌝ }
 {
     avg / crate::PARTS
 }
 
-// One step of the filter.
-pub(crate) fn fed(avg: u64, x: u64) -> u64
+// avg = (79·avg + 1,024·x)/80, one step of the filter. UET 3.6.13.6, update_delay.
+pub(crate) fn update_delay(avg: u64, x: u64) -> u64
     requires { ⌜ (avg ≤ avgMost) × (x ≤ sampleMost) ⌝ }
-    ensures { λ r. ⌜ r ≡ fedBy avg x ⌝ }
+    ensures { λ r. ⌜ r ≡ updateDelayOf avg x ⌝ }
 {
-    (79 * avg + 1024 * x) / 80
+    (crate::AVG_KEEPS * avg + crate::PARTS * x) / crate::AVG_SHARES
 }
 
-// What the filter is fed of an ACK's delay.
+// x = delay, but x = base/4 when unmarked and target < delay ≤ 5·base: what the filter is fed of an ACK.
 fn feed(target: u64, base: u64, marked: bool, delay: u64) -> u64
     requires { ⌜ base ≤ delayMost ⌝ }
     ensures { λ r. ⌜ r ≡ feedOf target base marked delay ⌝ }
 {
-    if marked {
-        return delay;
+    if !marked & (target < delay) & (delay <= crate::FEED_REACH * base) {
+        return base / crate::FEED_PART;
     }
-    if delay <= target {
-        return delay;
-    }
-    if 5 * base < delay {
-        return delay;
-    }
-    base / 4
+    delay
 }
 
-// The base once a sample is taken, and cwnd under the ceiling of that base.
-pub(crate) fn lowered(s: Settings, sample: Sample, w: Window) -> Window
+// base = min(base, sample), and cwnd = min(cwnd, max_wnd) at that base. UET 3.6.13.6, update_base_rtt.
+pub(crate) fn update_base_rtt(s: Settings, sample: Sample, w: Window) -> Window
     requires { ⌜ InRange s ⌝ }
     requires { ⌜ w .base ≤ s .«config_base_rtt» ⌝ }
-    ensures { λ r. ⌜ r ≡ loweredOf s sample w ⌝ }
+    ensures { λ r. ⌜ r ≡ updateBaseRttOf s sample w ⌝ }
 {
     let Sample::Ticks(t) = sample else {
         return w;
@@ -115,27 +111,28 @@ pub(crate) fn lowered(s: Settings, sample: Sample, w: Window) -> Window
     let base = least(w.base, t);
     let mut n = w;
     n.base = base;
-    n.cwnd = least(w.cwnd, ceiling(s, base));
+    n.cwnd = least(w.cwnd, max_wnd(s, base));
     n
 }
 
-// Sample and filter of an ACK. Without a sample the delay is the average, and the filter is not fed.
-pub(crate) fn measured(s: Settings, marked: bool, sample: Sample, w: Window) -> Delayed
+// Sample and filter of an ACK: delay = sample - base. Without a sample the delay is the average, and the filter is not fed (H).
+// UET 3.6.13.5, OnACK.
+pub(crate) fn measure(s: Settings, marked: bool, sample: Sample, w: Window) -> Delayed
     requires { ⌜ InRange s ⌝ }
     requires { ⌜ Sampled sample ⌝ }
     requires { ⌜ (w .base ≤ s .«config_base_rtt») × (w .avg ≤ avgMost) ⌝ }
-    ensures { λ r. ⌜ r ≡ measuredOf s marked sample w ⌝ }
+    ensures { λ r. ⌜ r ≡ measureOf s marked sample w ⌝ }
 {
     let Sample::Ticks(t) = sample else {
         return Delayed {
             window: w,
-            delay: average(w.avg),
+            delay: avg_delay(w.avg),
         };
     };
-    let v = lowered(s, sample, w);
+    let v = update_base_rtt(s, sample, w);
     let base = v.base;
     let delay = t - base;
-    let avg = fed(w.avg, feed(s.target_qdelay, base, marked, delay));
+    let avg = update_delay(w.avg, feed(s.target_qdelay, base, marked, delay));
     let mut n = v;
     n.avg = avg;
     Delayed { window: n, delay }

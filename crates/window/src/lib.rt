@@ -1,4 +1,4 @@
-// The NSCC window: document 01, "Samples and delay" and "The window, in order".
+// The NSCC window: document 01, "Samples and delay" and "The window, in order". A rule bears its name in UET 3.6.13.6.
 // Everything goes by value. The ledger's step comes first and is not here: it hands in what it found (newly, in-flight).
 pub mod adjust;
 pub mod bounds;
@@ -40,6 +40,22 @@ pub const TALLY_STOP: u64 = 1 << 40;
 
 // "inc_bytes stops at 2^60."
 pub const INC_STOP: u64 = 1 << 60;
+
+// "NACK reasons: 0 trimmed, 1 trimmed at the last hop, 2 other."
+pub const TRIMMED_LAST_HOP: u64 = 1;
+
+// "Near means delay ≤ base/8."
+pub const NEAR_PART: u64 = 8;
+
+// "Fed x: avg = (79·avg + 1,024·x) / 80": of 80 shares the old average keeps 79.
+pub const AVG_KEEPS: u64 = 79;
+
+pub const AVG_SHARES: u64 = 80;
+
+// "x = base/4 when unmarked and target < delay ≤ 5·base."
+pub const FEED_PART: u64 = 4;
+
+pub const FEED_REACH: u64 = 5;
 
 // The settings, in document 01's order.
 pub struct Settings {

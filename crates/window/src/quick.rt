@@ -1,4 +1,4 @@
-// Quick adapt.
+// Quick adapt, as this house has it (H). UET 3.6.13.6, quick_adapt.
 use crate::Adapted;
 use crate::Settings;
 use crate::Window;
@@ -6,7 +6,7 @@ use rules::most;
 ghost use mathlib.Core.Path.{_≡_};
 ghost use Prim.Native.Nat.{_≤_, _<_};
 ghost use Rattle.window.specs.Limits.{delayMost, timeEnd};
-ghost use Rattle.window.specs.Quick.{aboveZero, firesOf, firedOf, restartedOf, adaptedOf};
+ghost use Rattle.window.specs.Quick.{aboveZero, firesOf, fireOf, restartOf, quickAdaptOf};
 
 // max(in-flight, 0).
 fn above_zero(in_flight: i64) -> u64
@@ -18,16 +18,16 @@ fn above_zero(in_flight: i64) -> u64
     in_flight as u64
 }
 
-// Whether quick adapt fires at its end.
+// end ≠ 0, M set, trigger or loss or delay > qa_threshold, and achieved < cwnd.
 fn fires(s: Settings, loss: bool, marked: bool, delay: u64, w: Window) -> bool
     ensures { λ r. ⌜ r ≡ firesOf s loss marked delay w ⌝ }
 {
-    (w.qa_end != 0) & marked & (w.trigger | loss | (s.qa_threshold < delay)) & (w.achieved < w.cwnd)
+    (w.qa_end != 0) & marked & (w.trigger | loss | (delay > s.qa_threshold)) & (w.achieved < w.cwnd)
 }
 
-// What firing does.
-fn fired(s: Settings, in_flight: i64, w: Window) -> Window
-    ensures { λ r. ⌜ r ≡ firedOf s «in_flight» w ⌝ }
+// cwnd = max(achieved, MTU), bytes_to_ignore = max(in-flight, 0), ignored 0, trigger off, mode off, fi_count 0.
+fn fire(s: Settings, in_flight: i64, w: Window) -> Window
+    ensures { λ r. ⌜ r ≡ fireOf s «in_flight» w ⌝ }
 {
     let mut n = w;
     n.cwnd = most(w.achieved, s.mtu);
@@ -39,10 +39,10 @@ fn fired(s: Settings, in_flight: i64, w: Window) -> Window
     n
 }
 
-// The next round of quick adapt.
-fn restarted(s: Settings, time: u64, w: Window) -> Window
+// achieved 0, end = now + base + target: the next round.
+fn restart(s: Settings, time: u64, w: Window) -> Window
     requires { ⌜ (time < timeEnd) × (w .base ≤ delayMost) × (s .«target_qdelay» ≤ delayMost) ⌝ }
-    ensures { λ r. ⌜ r ≡ restartedOf s time w ⌝ }
+    ensures { λ r. ⌜ r ≡ restartOf s time w ⌝ }
 {
     let base = w.base;
     let mut n = w;
@@ -51,8 +51,8 @@ fn restarted(s: Settings, time: u64, w: Window) -> Window
     n
 }
 
-// Quick adapt at a time, on a loss or not, with the M flag and the delay.
-pub(crate) fn adapted(
+// Nothing if disabled or now < end; else it fires or not, and starts its next round. On a loss or not, with the M flag and the delay.
+pub(crate) fn quick_adapt(
     s: Settings,
     time: u64,
     loss: bool,
@@ -62,16 +62,9 @@ pub(crate) fn adapted(
     w: Window,
 ) -> Adapted
     requires { ⌜ (time < timeEnd) × (w .base ≤ delayMost) × (s .«target_qdelay» ≤ delayMost) ⌝ }
-    ensures { λ r. ⌜ r ≡ adaptedOf s time loss marked delay «in_flight» w ⌝ }
+    ensures { λ r. ⌜ r ≡ quickAdaptOf s time loss marked delay «in_flight» w ⌝ }
 {
-    if s.quick_adapt_off {
-        return Adapted {
-            window: w,
-            fired: false,
-        };
-    }
-    let qa_end = w.qa_end;
-    if time < qa_end {
+    if s.quick_adapt_off | (time < w.qa_end) {
         return Adapted {
             window: w,
             fired: false,
@@ -79,12 +72,12 @@ pub(crate) fn adapted(
     }
     if fires(s, loss, marked, delay, w) {
         return Adapted {
-            window: restarted(s, time, fired(s, in_flight, w)),
+            window: restart(s, time, fire(s, in_flight, w)),
             fired: true,
         };
     }
     Adapted {
-        window: restarted(s, time, w),
+        window: restart(s, time, w),
         fired: false,
     }
 }

@@ -22,13 +22,13 @@ in-range-requires c κs = search needs
 returns : tie.Need-returns
 returns c = not-range (given (c .before)) _ (c .before .in-range .ensures) (c .if1 .taken)
 
-is-held-requires : tie.Need-is-held-requires
-is-held-requires c κs = range-facts _ (sym (c .before .in-range .ensures) ∙ not-false _ (c .if1 .left))
+is-sound-requires : tie.Need-is-sound-requires
+is-sound-requires c κs = range-facts _ (sym (c .before .in-range .ensures) ∙ not-false _ (c .if1 .left))
 
 returns-2 : tie.Need-returns-2
 returns-2 c =
     let r = c .before .before in
-    not-held (given (r .before)) _ (r .before .in-range .ensures) (r .if1 .left) _ (c .before .is-held .ensures) (c .if2 .taken)
+    not-held (given (r .before)) _ (r .before .in-range .ensures) (r .if1 .left) _ (c .before .is-sound .ensures) (c .if2 .taken)
 
 is-coherent-requires : tie.Need-is-coherent-requires
 is-coherent-requires c κs = search needs
@@ -37,7 +37,7 @@ returns-3 : tie.Need-returns-3
 returns-3 c =
     let h = c .before .before in
     let r = h .before .before in
-    not-coherent (given (r .before)) _ (r .before .in-range .ensures) (r .if1 .left) _ (h .before .is-held .ensures) (h .if2 .left) _
+    not-coherent (given (r .before)) _ (r .before .in-range .ensures) (r .if1 .left) _ (h .before .is-sound .ensures) (h .if2 .left) _
     (c .before .is-coherent .ensures) (c .if3 .taken)
 
 times-ok-requires : tie.Need-times-ok-requires
@@ -55,7 +55,7 @@ phase-of-requires c κs =
     let h = l .before .before in
     let r = h .before .before in
     let B =
-    tests-bounded (given (r .before)) _ (r .before .in-range .ensures) (r .if1 .left) _ (h .before .is-held .ensures) (h .if2 .left) _
+    tests-bounded (given (r .before)) _ (r .before .in-range .ensures) (r .if1 .left) _ (h .before .is-sound .ensures) (h .if2 .left) _
     (l .before .is-coherent .ensures) (l .if3 .left) in
     (B .flown, (B .mtu-high, B .cwnd-high))
 
@@ -67,7 +67,7 @@ returns-4 c =
     let l = c .before .before .before .before .before .before .before .before in
     let h = l .before .before in
     let r = h .before .before in
-    tests-left (given (r .before)) _ (r .before .in-range .ensures) (r .if1 .left) _ (h .before .is-held .ensures) (h .if2 .left) _
+    tests-left (given (r .before)) _ (r .before .in-range .ensures) (r .if1 .left) _ (h .before .is-sound .ensures) (h .if2 .left) _
     (l .before .is-coherent .ensures) (l .if3 .left) _ _ _ _ (c .before .before .before .before .before .times-ok .ensures) (c .before .before .phase-number .ensures)
     (c .phase-number2 .ensures) (c .before .phase-of .ensures)
 
@@ -77,7 +77,7 @@ is-sound-spec =
     (tie.spec
     in-range-requires
     returns
-    is-held-requires
+    is-sound-requires
     returns-2
     is-coherent-requires
     returns-3

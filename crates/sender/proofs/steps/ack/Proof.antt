@@ -64,13 +64,13 @@ avoid-requires : tie.Need-avoid-requires
 avoid-requires c κs =
     let s = c .before .before .before .before .before .before .before .before .before .before .before .before .before .before .before .before .before .before .before .before .before .before .before .before .before .before .before .before .before .before .before .before .before .before .before .before in
     let asks = avoid-asks (facts s) (accepted s .timely) (accepted s .ev-ok) in
-    (asks .0, asks .1, omega (arith, asks .2, facts s .range .rtt-high, c .before .ack2 .ensures .held .base-high))
+    (asks .0, asks .1, omega (arith, asks .2, facts s .range .rtt-high, c .before .ack2 .ensures .sound .base-high))
 
 state-of-requires : tie.Need-state-of-requires
 state-of-requires c κs =
     let R = after (c .before .before .before .before .before .before .before .before .before .before .before .before .before .before .before .before) in
     let old = state-asks R (R .held) in
-    let new = state-asks R (c .before .before .before .before .ack2 .ensures .held) in
+    let new = state-asks R (c .before .before .before .before .ack2 .ensures .sound) in
     (new .0, (new .1 .0, omega (arith, old .1 .1, new .1 .1)))
 
 same-length : tie.Need-same-length

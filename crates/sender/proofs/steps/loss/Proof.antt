@@ -55,7 +55,7 @@ avoid-requires : tie.Need-avoid-requires
 avoid-requires c κs = let s = c .before .before .before .before .before .before .before .before .before .before .before .before .before .before .before .before .before .before .before .before .before in avoid-asks (facts s) (accepted s .timely) (accepted s .ev-ok)
 
 state-of-requires : tie.Need-state-of-requires
-state-of-requires c κs = state-asks (after (c .before .before .before .before .before .before .before .before .before .before .before)) (c .before .before .before .before .loss .ensures .held)
+state-of-requires c κs = state-asks (after (c .before .before .before .before .before .before .before .before .before .before .before)) (c .before .before .before .before .loss .ensures .sound)
 
 same-length : tie.Need-same-length
 same-length c = c .before .before .before .before .before .before .before .before .before .before .before .before .mark .kept .1 .1 .0

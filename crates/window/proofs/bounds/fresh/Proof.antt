@@ -1,6 +1,6 @@
 -- `fresh` answers the window of a fresh state, by its definition.
 use mathlib.Core.Path.{refl}
-use Rattle.window.specs.Held.{freshOf}
+use Rattle.window.specs.Sound.{freshOf}
 use Rattle.window.proofs.bounds.fresh.Statement.{statement}
 use Rattle.window.proofs.bounds.fresh.Tie as tie
 

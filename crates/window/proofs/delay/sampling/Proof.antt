@@ -38,14 +38,14 @@ returns-4 c =
     simp (← k .one-send .ensures)
     (search (branches, late, c .before .before .if2 .left, k .before .if1 .left) depth 12)
 
-sub-cut : tie.Need-sub-cut
-sub-cut c = search needs
+sub-take-sample : tie.Need-sub-take-sample
+sub-take-sample c = search needs
 
-sub-cut-2 : tie.Need-sub-cut-2
-sub-cut-2 c = search needs
+sub-take-sample-2 : tie.Need-sub-take-sample-2
+sub-take-sample-2 c = search needs
 
-cut-requires : tie.Need-cut-requires
-cut-requires c κs = search needs
+take-sample-requires : tie.Need-take-sample-requires
+take-sample-requires c κs = search needs
 
 returns-5 : tie.Need-returns-5
 unfolding samplingOf
@@ -55,7 +55,7 @@ returns-5 c =
     let spent = k .before .before .args .sent + k .before .before .args .service in
     let more : spent < time = omega arith in
     let ticks : time - k .before .before .args .sent - k .before .before .args .service ≡ time - spent = omega arith in
-    simp (← k .one-send .ensures, ← ticks, ← c .cut .ensures)
+    simp (← k .one-send .ensures, ← ticks, ← c .take-sample .ensures)
     (search (branches, more, c .before .before .before .if2 .left, k .before .if1 .left) depth 12)
 
 pub sampling-spec : {M : Type 1} → statement M
@@ -68,7 +68,7 @@ sampling-spec =
     returns-3
     sub-if4
     returns-4
-    sub-cut
-    sub-cut-2
-    cut-requires
+    sub-take-sample
+    sub-take-sample-2
+    take-sample-requires
     returns-5)
