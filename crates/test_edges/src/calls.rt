@@ -1,4 +1,8 @@
-// Calls with what a case does not vary filled in: all at the world's clock.
+// The calls by their words and numbers.
+use crate::fields::narrow;
+use crate::make;
+use crate::phrase::Numbers;
+use crate::words;
 use crate::worlds;
 use crate::worlds::World;
 use sender::Ack;
@@ -6,19 +10,12 @@ use sender::Loss;
 use sender::Nack;
 use sender::Send;
 
-fn clock_of(w: World) -> u64 {
-    let state = w.state;
-    state.clock
-}
-
-pub(crate) fn fresh_send(w: World, psn: u32, size: u32) -> World {
-    let resend = false;
-    worlds::send(w, clock_of(w), Send { psn, size, resend })
-}
-
-pub(crate) fn resend(w: World, psn: u32, size: u32) -> World {
-    let resend = true;
-    worlds::send(w, clock_of(w), Send { psn, size, resend })
+fn a_send(n: Numbers, resend: bool) -> Send {
+    Send {
+        psn: narrow(n[0]),
+        size: narrow(n[1]),
+        resend,
+    }
 }
 
 // An ACK by its cum and map, with a trigger and a count.
@@ -35,8 +32,13 @@ pub(crate) fn plain_ack(cum: u32, map: u64, trigger: u32, count: u32) -> Ack {
     }
 }
 
-pub(crate) fn ack(w: World, cum: u32, map: u64, trigger: u32, count: u32) -> World {
-    worlds::ack(w, clock_of(w), plain_ack(cum, map, trigger, count))
+// Cum, map, trigger and count; where a case has more, the EV, the M flag and the service time.
+fn an_ack(n: Numbers) -> Ack {
+    let mut a = plain_ack(narrow(n[0]), n[1], narrow(n[2]), narrow(n[3]));
+    a.ev = narrow(n[4]);
+    a.marked = n[5] != 0;
+    a.service = narrow(n[6]);
+    a
 }
 
 pub(crate) fn plain_nack(psn: u32, ev: u32, reason: u32) -> Nack {
@@ -49,10 +51,32 @@ pub(crate) fn plain_nack(psn: u32, ev: u32, reason: u32) -> Nack {
     }
 }
 
-pub(crate) fn nack(w: World, psn: u32, ev: u32, reason: u32) -> World {
-    worlds::nack(w, clock_of(w), plain_nack(psn, ev, reason))
+fn a_nack(n: Numbers) -> Nack {
+    plain_nack(narrow(n[0]), narrow(n[1]), narrow(n[2]))
 }
 
-pub(crate) fn loss(w: World, psn: u32, ev: u32) -> World {
-    worlds::loss(w, clock_of(w), Loss { psn, ev })
+fn a_loss(n: Numbers) -> Loss {
+    Loss {
+        psn: narrow(n[0]),
+        ev: narrow(n[1]),
+    }
+}
+
+// The world's settings, on memory that holds whatever it held.
+fn set_up(w: World) -> World {
+    let state = w.state;
+    worlds::set_up(make::unset(), state.settings)
+}
+
+pub(crate) fn call(w: World, time: u64, word: u32, n: Numbers) -> World {
+    match word {
+        words::NEW_DATA => worlds::new_data(w, time, n[0]),
+        words::SEND => worlds::send(w, time, a_send(n, false)),
+        words::RESEND => worlds::send(w, time, a_send(n, true)),
+        words::ACK => worlds::ack(w, time, an_ack(n)),
+        words::NACK => worlds::nack(w, time, a_nack(n)),
+        words::LOSS => worlds::loss(w, time, a_loss(n)),
+        words::PATH => worlds::path(w, time),
+        _ => set_up(w),
+    }
 }

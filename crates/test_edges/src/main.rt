@@ -1,24 +1,21 @@
-// Calls every entry point of the sender at every edge of document 01 and writes what it is answered, one case a line. The cases' names are its standard input, a line
-// each, in the order of the cases.
+// Makes the calls that its standard input asks for, at every edge of document 01, and writes what each is answered. A line is a case: its
+// name, a refusal's number first, and in parentheses the call in words and numbers (`words`). Output is that line, a colon and the answer.
+mod bench;
 mod calls;
-mod example;
+mod cases;
+mod events;
+mod fields;
 mod make;
-mod order;
-mod rows;
+mod phrase;
+mod read;
+mod report;
 mod same;
 mod say;
-mod sees;
-mod six;
-mod spoil;
-mod start;
+mod words;
 mod worlds;
 
 fn main() {
-    example::run();
-    start::settings();
-    start::unbounded();
-    rows::run();
-    order::run();
-    spoil::run();
-    sees::run();
+    let mut buffer = io::large_buffer();
+    let n = io::read_full(libc::STDIN_FILENO, &mut buffer);
+    cases::run(&buffer[..n]);
 }

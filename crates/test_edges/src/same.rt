@@ -31,7 +31,8 @@ fn same_64<'a>(a: &'a [u64], b: &'a [u64]) -> bool {
     true
 }
 
-// Two states are the same where their words are: that words hold every field is proved in crates/c_state, but in-flight is cut to its range there.
+// Two states are the same where their words are: that words hold every field is proved in crates/c_state, but in-flight is cut to its
+// range there.
 fn same_state(a: Controller, b: Controller) -> bool {
     let a_totals = a.totals;
     let b_totals = b.totals;

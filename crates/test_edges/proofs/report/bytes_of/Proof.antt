@@ -2,8 +2,8 @@
 use mir.Facts.{toZ-ofZ}
 use borrow.Author.Needs.{needs}
 use Rattle.window.proofs.Signs.{cast-fits}
-use Rattle.test_edges.proofs.example.bytes_of.Statement.{statement}
-use Rattle.test_edges.proofs.example.bytes_of.Tie as tie
+use Rattle.test_edges.proofs.report.bytes_of.Statement.{statement}
+use Rattle.test_edges.proofs.report.bytes_of.Tie as tie
 
 returns : tie.Need-returns
 returns c = search needs

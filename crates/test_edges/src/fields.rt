@@ -1,0 +1,208 @@
+// A world with one number changed, by its word.
+use crate::words;
+use crate::worlds::World;
+use ledger::Flow;
+use ledger::Totals;
+use sender::Controller;
+use sender::Phase;
+use window::Settings;
+use window::Window;
+
+// One past the largest number of a field of 32 bits, of a byte, and of 63 bits.
+const FIELD_END: u64 = 1 << 32;
+
+const BYTE_END: u64 = 1 << 8;
+
+const SIGNED_END: u64 = 1 << 63;
+
+// A number in a field of 32 bits, where it wraps.
+pub(crate) fn narrow(n: u64) -> u32 {
+    (n % FIELD_END) as u32
+}
+
+fn byte(n: u64) -> u8 {
+    (n % BYTE_END) as u8
+}
+
+// A number that was below zero before it wrapped.
+fn signed(n: u64) -> i64 {
+    if n < SIGNED_END {
+        return n as i64;
+    }
+    !((u64::MAX - n) as i64)
+}
+
+// What a field holds after a word: the word's number where it is the field's own.
+fn pick(word: u32, field: u32, n: u64, held: u64) -> u64 {
+    if word == field {
+        return n;
+    }
+    held
+}
+
+fn pick_32(word: u32, field: u32, n: u64, held: u32) -> u32 {
+    if word == field {
+        return narrow(n);
+    }
+    held
+}
+
+fn pick_flag(word: u32, field: u32, n: u64, held: bool) -> bool {
+    if word == field {
+        return n != 0;
+    }
+    held
+}
+
+fn pick_signed(word: u32, field: u32, n: u64, held: i64) -> i64 {
+    if word == field {
+        return signed(n);
+    }
+    held
+}
+
+fn settings_with(s: Settings, word: u32, n: u64) -> Settings {
+    Settings {
+        mtu: pick(word, words::MTU, n, s.mtu),
+        maxwnd: pick(word, words::MAXWND, n, s.maxwnd),
+        config_base_rtt: pick(word, words::CONFIG_BASE_RTT, n, s.config_base_rtt),
+        target_qdelay: pick(word, words::TARGET_QDELAY, n, s.target_qdelay),
+        fi: pick(word, words::FI, n, s.fi),
+        eta: pick(word, words::ETA, n, s.eta),
+        alpha: pick(word, words::ALPHA, n, s.alpha),
+        gamma: pick(word, words::GAMMA, n, s.gamma),
+        max_md_jump: pick(word, words::MAX_MD_JUMP, n, s.max_md_jump),
+        adjust_period: pick(word, words::ADJUST_PERIOD, n, s.adjust_period),
+        adjust_bytes: pick(word, words::ADJUST_BYTES, n, s.adjust_bytes),
+        qa_threshold: pick(word, words::QA_THRESHOLD, n, s.qa_threshold),
+        first_psn: pick_32(word, words::FIRST_PSN, n, s.first_psn),
+        quick_adapt_off: pick_flag(word, words::QUICK_ADAPT_OFF, n, s.quick_adapt_off),
+        ev_count: pick(word, words::EV_COUNT, n, s.ev_count),
+    }
+}
+
+fn flow_with(f: Flow, word: u32, n: u64) -> Flow {
+    Flow {
+        low: pick_32(word, words::LOW, n, f.low),
+        next: pick_32(word, words::NEXT, n, f.next),
+        held: pick_32(word, words::HELD, n, f.held),
+        backlog: pick(word, words::BACKLOG, n, f.backlog),
+    }
+}
+
+fn totals_with(t: Totals, word: u32, n: u64) -> Totals {
+    Totals {
+        flying: pick_32(word, words::FLYING, n, t.flying),
+        marked: pick_32(word, words::MARKED, n, t.marked),
+        marked_bytes: pick(word, words::MARKED_BYTES, n, t.marked_bytes),
+        in_flight: pick_signed(word, words::IN_FLIGHT, n, t.in_flight),
+    }
+}
+
+fn window_with(w: Window, word: u32, n: u64) -> Window {
+    Window {
+        cwnd: pick(word, words::CWND, n, w.cwnd),
+        base: pick(word, words::BASE, n, w.base),
+        avg: pick(word, words::AVERAGE, n, w.avg),
+        inc_bytes: pick(word, words::INC_BYTES, n, w.inc_bytes),
+        received: pick(word, words::RECEIVED, n, w.received),
+        achieved: pick(word, words::ACHIEVED, n, w.achieved),
+        ignored: pick(word, words::IGNORED, n, w.ignored),
+        bytes_to_ignore: pick(word, words::BYTES_TO_IGNORE, n, w.bytes_to_ignore),
+        fi_count: pick(word, words::FI_COUNT, n, w.fi_count),
+        fast: pick_flag(word, words::FAST_MODE, n, w.fast),
+        trigger: pick_flag(word, words::TRIGGER, n, w.trigger),
+        qa_end: pick(word, words::QUICK_ADAPT_END, n, w.qa_end),
+        last_adjust: pick(word, words::LAST_ADJUST, n, w.last_adjust),
+        last_dec: pick(word, words::LAST_DECREASE, n, w.last_dec),
+    }
+}
+
+// A state's name is a word by itself.
+fn phase_with(held: Phase, word: u32) -> Phase {
+    match word {
+        words::IDLE => Phase::Idle,
+        words::PENDING => Phase::Pending,
+        words::READY => Phase::Ready,
+        words::ACTIVE => Phase::Active,
+        _ => held,
+    }
+}
+
+fn state_with(c: Controller, word: u32, n: u64) -> Controller {
+    let phase = c.phase;
+    Controller {
+        settings: settings_with(c.settings, word, n),
+        flow: flow_with(c.flow, word, n),
+        totals: totals_with(c.totals, word, n),
+        window: window_with(c.window, word, n),
+        clock: pick(word, words::CLOCK, n, c.clock),
+        cursor: pick_32(word, words::CURSOR, n, c.cursor),
+        phase: phase_with(phase, word),
+    }
+}
+
+// A number of the state, or its name.
+pub(crate) fn with_number(w: World, word: u32, n: u64) -> World {
+    let state = state_with(w.state, word, n);
+    let mut v = w;
+    v.state = state;
+    v
+}
+
+// The time of a call: as the word says, and the clock's where the clock is set.
+pub(crate) fn time_with(time: u64, word: u32, n: u64) -> u64 {
+    pick(word, words::TIME, n, pick(word, words::CLOCK, n, time))
+}
+
+fn with_status(w: World, slot: usize, n: u64) -> World {
+    let mut v = w;
+    if slot < 64 {
+        v.status[slot] = byte(n);
+    }
+    v
+}
+
+fn with_size(w: World, slot: usize, n: u64) -> World {
+    let mut v = w;
+    if slot < 64 {
+        v.size[slot] = narrow(n);
+    }
+    v
+}
+
+fn with_sent(w: World, slot: usize, n: u64) -> World {
+    let mut v = w;
+    if slot < 64 {
+        v.sent[slot] = n;
+    }
+    v
+}
+
+fn with_resent(w: World, slot: usize, n: u64) -> World {
+    let mut v = w;
+    if slot < 64 {
+        v.resent[slot] = byte(n);
+    }
+    v
+}
+
+fn with_ev_time(w: World, ev: usize, n: u64) -> World {
+    let mut v = w;
+    if ev < 256 {
+        v.evs[ev] = n;
+    }
+    v
+}
+
+// A number of a slot, or an EV's time.
+pub(crate) fn with_slot(w: World, word: u32, slot: u64, n: u64) -> World {
+    let k = slot as usize;
+    match word {
+        words::STATUS => with_status(w, k, n),
+        words::SIZE => with_size(w, k, n),
+        words::SENT => with_sent(w, k, n),
+        words::RESENT => with_resent(w, k, n),
+        _ => with_ev_time(w, k, n),
+    }
+}
