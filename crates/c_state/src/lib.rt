@@ -57,7 +57,7 @@ fn in_flight_word(z: i64) -> u64
     if z < -IN_FLIGHT_ADDED {
         return 0;
     }
-    if IN_FLIGHT_MOST < z {
+    if z > IN_FLIGHT_MOST {
         return (IN_FLIGHT_MOST + IN_FLIGHT_ADDED) as u64;
     }
     (z + IN_FLIGHT_ADDED) as u64
