@@ -20,7 +20,7 @@ use Rattle.sender.specs.Events.{decided, onNewData, onSend, onNack, onLoss, onP
 use Rattle.sender.specs.declared.Send.{Send}
 use Rattle.sender.specs.declared.Nack.{Nack}
 use Rattle.sender.specs.declared.Loss.{Loss}
-use Rattle.sender.proofs.Sounds.{sound-facts, sound-coheres}
+use Rattle.sender.proofs.Sounds.{sound-facts, sound-to-ledger}
 use Rattle.sender.proofs.Stepping.{Markable, nack-facts, loss-facts, mark-flies}
 use Rattle.c_state.specs.Layout.{stateFrom, wordsOk}
 use Rattle.c_api.specs.Calls.{Called, pathBeside, nackBeside, onWords, onBesideWords}
@@ -55,7 +55,7 @@ module _ (w : World) (e : sound w ≡ true) (time psn ev : ℕ) (fits : psn < ps
   marked-fields =
       let l = ledgerOf w in
       let x = packetOf (l .flow) (l .slots) psn in
-      let is = mark-is l (sound-coheres w e) psn (mark-flies (sound-facts w e) m) x refl fits _ (l .totals .«in_flight» -ℤ pos (x .size)) refl refl in
+      let is = mark-is l (sound-to-ledger w e) psn (mark-flies (sound-facts w e) m) x refl fits _ (l .totals .«in_flight» -ℤ pos (x .size)) refl refl in
       record {
         size-same = sym (ap (λ (y : Ledger). y .slots .size) is);
         sent-same = sym (ap (λ (y : Ledger). y .slots .sent) is);

@@ -11,16 +11,16 @@ use lib.ListN.{length}
 use lib.Seq.{ext-getD}
 use Rattle.rules.specs.Branch.{ifEq}
 use Rattle.ledger.specs.Ring.{tabulate}
-use Rattle.ledger.proofs.Signs.{coheres-flown}
+use Rattle.ledger.proofs.Signs.{sound-ledger-flown}
 use Rattle.ledger.proofs.Walks.{length-tabulate, getD-tabulate}
-use Rattle.ledger.proofs.Facts.{coheres-facts}
+use Rattle.ledger.proofs.Facts.{sound-ledger-facts}
 use Rattle.sender.specs.Named.{phaseNumber}
 use Rattle.sender.specs.Sound.{sound}
 use Rattle.sender.specs.World.{World}
 use Rattle.sender.specs.declared.Controller.{Controller}
 use Rattle.sender.specs.declared.Phase.{Phase}
 use Rattle.sender.specs.declared.Phase.the-variants.{Idle, Pending, Ready, Active}
-use Rattle.sender.proofs.Sounds.{sound-facts, sound-coheres, sound-bounded}
+use Rattle.sender.proofs.Sounds.{sound-facts, sound-to-ledger, sound-bounded}
 use Rattle.c_state.specs.Places as place
 use Rattle.c_state.specs.Layout.{wordCount, flagEnd, phaseEnd, bit, stateWords, word}
 use Rattle.c_state.specs.Layout.{settingsFrom, flowFrom, totalsFrom, windowFrom, phaseFrom, stateFrom, wordsOk}
@@ -133,8 +133,8 @@ module _ (c : Controller) (M : Machine c) where
 -- A STATE THAT PASSES NUMBER 2 is one that the machine can hold
 pub sound-machine : (w : World) → sound w ≡ true → Machine (w .state)
 sound-machine w e =
-    let C = sound-coheres w e in
-    let F = coheres-facts C in
+    let C = sound-to-ledger w e in
+    let F = sound-ledger-facts C in
     record {
       first-psn = sound-facts w e .range .psn-high;
       low = F .low-psn;
@@ -143,5 +143,5 @@ sound-machine w e =
       flying = omega (arith, C .flying-most);
       marked = omega (arith, C .marked-most);
       cursor = omega (arith, sound-facts w e .cursor-ok, sound-bounded w e .evs-high);
-      flown = coheres-flown C;
+      flown = sound-ledger-flown C;
     }

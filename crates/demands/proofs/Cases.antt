@@ -20,7 +20,7 @@ use Rattle.paths.specs.Path.{avoids, avoided, firstFree, steps, landed, choice}
 use Rattle.ledger.specs.Packets.{isFlying, isDone, isOut, flyingOne, markedOne, markedSize, sumOf, coverOne, coverAll, doneRun}
 use Rattle.ledger.specs.Bounds.{inBounds, sinks}
 use Rattle.ledger.specs.Ring.{packetAt, tabulate, placeOf, ageOf, lay, laid, queueOf, longOf, packets, offsetOf, packetOf}
-use Rattle.ledger.specs.Coherent.{allTo, isCapacity, isRing, isLive, isZero, slotOk, headOk, stands, tallies, coherent}
+use Rattle.ledger.specs.Sound.{allTo, isCapacity, isRing, isLive, isZero, slotOk, headOk, stands, tallies, soundLedger}
 use Rattle.ledger.specs.Steps.{heldOf, newlyOf, ackedOf}
 use Rattle.sender.specs.Named.{hasRoom, phaseOf, phaseNumber}
 use Rattle.sender.specs.Sound.{timesOk, namedOk, sound}
@@ -36,6 +36,6 @@ unfolding agree same cases settingsE windowOf ticksOf measuredBy worldOf deliver
     proportionalIncreaseOf factorOf mayDecrease multiplicativeDecreaseOf respondOf enoughReceived periodPassed fulfillAdjustmentOf adjustOf
     avoids avoided firstFree steps landed choice isFlying isDone isOut flyingOne markedOne markedSize sumOf coverOne coverAll doneRun
     inBounds sinks packetAt tabulate placeOf ageOf lay laid queueOf longOf packets offsetOf packetOf allTo isCapacity isRing isLive isZero
-    slotOk headOk stands tallies coherent heldOf newlyOf ackedOf hasRoom phaseOf phaseNumber timesOk namedOk sound stateOf settled ackStep
+    slotOk headOk stands tallies soundLedger heldOf newlyOf ackedOf hasRoom phaseOf phaseNumber timesOk namedOk sound stateOf settled ackStep
     pathState pathStep decided onSend onAck onPath
 cases-hold = refl

@@ -32,7 +32,7 @@ use Rattle.window.specs.declared.Settings.{Settings}
 use Rattle.ledger.specs.Packets.{isFlying, isMarked, isDone, isOut, flyingOne, markedOne, markedSize, sumOf, coverOne, coverAll, coveredSum, doneRun}
 use Rattle.ledger.specs.Bounds.{inBounds, sinks}
 use Rattle.ledger.specs.Ring.{Ring, ring, Ledger, packetAt, tabulate, placeOf, ageOf, lay, laid, queueOf, longOf, packets, offsetOf, packetOf}
-use Rattle.ledger.specs.Coherent.{allTo, isCapacity, isRing, isLive, isZero, slotOk, headOk, stands, tallies, coherent}
+use Rattle.ledger.specs.Sound.{allTo, isCapacity, isRing, isLive, isZero, slotOk, headOk, stands, tallies, soundLedger}
 use Rattle.ledger.specs.Steps.{changed, suppliedOf, pushedOf, resentOf, markedOf, heldOf, newlyOf, ackedOf}
 use Rattle.ledger.specs.declared.Packet.{Packet}
 use Rattle.sender.specs.World.{World, world, Answered, ledgerOf}
@@ -102,7 +102,7 @@ unfolding fresh freshState settingsE sum remember sentBy reportedBy lostBy ifSo 
     fastIncreaseOf addIncBytesOf proportionalIncreaseOf fairIncreaseOf factorOf mayDecrease multiplicativeDecreaseOf respondOf
     enoughReceived periodPassed fulfillAdjustmentOf adjustOf goOnOf reactOf window.ackOf shrinkOf lossOf isFlying isMarked isDone isOut
     flyingOne markedOne markedSize sumOf coverOne coverAll coveredSum doneRun inBounds sinks packetAt tabulate placeOf ageOf lay laid
-    queueOf longOf packets offsetOf packetOf allTo isCapacity isRing isLive isZero slotOk headOk stands tallies coherent changed suppliedOf
+    queueOf longOf packets offsetOf packetOf allTo isCapacity isRing isLive isZero slotOk headOk stands tallies soundLedger changed suppliedOf
     pushedOf resentOf markedOf heldOf newlyOf ackedOf hasRoom phaseOf phaseNumber timesOk namedOk sound stateOf settled avoidedIn
     newDataState newDataStep sendStep ackSample ackStep lossStep decided onNewData onSend onAck onLoss
 worked-sums = (refl, refl, refl, refl)
@@ -123,7 +123,7 @@ start =
     (replicate 256 0)
 
 start-sound : sound start ≡ true
-unfolding start settingsE sound isEvCount inRange inside soundWindow maxWndOf freshOf coherent stands isRing isCapacity longOf minus allTo
+unfolding start settingsE sound isEvCount inRange inside soundWindow maxWndOf freshOf soundLedger stands isRing isCapacity longOf minus allTo
     slotOk ifLt ifSo ifEq isLive isZero headOk tallies sumOf flyingOne markedOne markedSize inBounds packets queueOf tabulate packetAt
     placeOf plus ageOf lay laid isDone timesOk namedOk phaseOf phaseNumber hasRoom stateOf
 start-sound = refl

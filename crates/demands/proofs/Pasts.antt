@@ -20,7 +20,7 @@ use Rattle.serial.proofs.Cover.{plus-plus, plus-minus, minus-plus}
 use Rattle.window.specs.declared.Settings.{Settings}
 use Rattle.ledger.specs.Packets.{none, markedStatus, doneStatus, withStatus, isOut, coverOne, coverAll}
 use Rattle.ledger.specs.Ring.{Ring, Ledger, ledger, capOf, laid, longOf, packets, offsetOf, packetOf}
-use Rattle.ledger.specs.Coherent.{isCapacity}
+use Rattle.ledger.specs.Sound.{isCapacity}
 use Rattle.ledger.specs.Steps.{changed, newPacket, resentPacket, suppliedOf, pushedOf, resentOf, markedOf, ackedOf, heldOf}
 use Rattle.ledger.specs.declared.Flow.{Flow}
 use Rattle.ledger.specs.declared.Totals.{Totals}

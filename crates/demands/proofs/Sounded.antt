@@ -9,7 +9,7 @@ use Rattle.rules.specs.Rows.{firstOf}
 use Rattle.window.specs.declared.Settings.{Settings}
 use Rattle.ledger.specs.Ring.{Ring}
 use Rattle.ledger.proofs.Facts.{Facts}
-use Rattle.ledger.proofs.Sends.{coherent-facts}
+use Rattle.ledger.proofs.Sends.{sound-ledger-tells}
 use Rattle.sender.specs.World.{World, ledgerOf}
 use Rattle.sender.specs.Sound.{sound}
 use Rattle.sender.proofs.Sounds.{sound-facts}
@@ -34,7 +34,7 @@ use Rattle.demands.proofs.Runs.{rowsOf}
 
 -- the ledger of a sound world, fact by fact
 pub ledger-facts : (w : World) → sound w ≡ true → Facts (w .state .settings .mtu) (w .state .clock) (w .state .flow) (w .slots)
-ledger-facts w h = coherent-facts _ _ _ (ledgerOf w) (sound-facts w h .coheres) .0
+ledger-facts w h = sound-ledger-tells _ _ _ (ledgerOf w) (sound-facts w h .sound-ledger) .0
 
 -- ---- an accepted event
 

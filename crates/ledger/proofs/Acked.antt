@@ -20,7 +20,7 @@ use Rattle.serial.proofs.Cover.{plus-lt, minus-step, sent-facts, beyond}
 use Rattle.ledger.specs.Packets.{doneStatus, none, withStatus, isOut, flyingOne, markedOne, markedSize, sumOf, coverOne, coverAll, coveredSum, doneRun}
 use Rattle.ledger.specs.Bounds.{Flown}
 use Rattle.ledger.specs.Ring.{Ring, Ledger, ledger, capOf, laid, queueOf, longOf, packets}
-use Rattle.ledger.specs.Coherent.{Coheres, isCapacity, stands, coherent}
+use Rattle.ledger.specs.Sound.{SoundLedger, isCapacity, stands, soundLedger}
 use Rattle.ledger.specs.Steps.{heldOf, newlyOf, ackedOf}
 use Rattle.ledger.specs.Rows.{ackRows}
 use Rattle.ledger.specs.Delivery.{Laid, Cover, Covered, Retired}
@@ -28,9 +28,9 @@ use Rattle.ledger.specs.declared.Flow.{Flow}
 use Rattle.ledger.specs.declared.Totals.{Totals}
 use Rattle.ledger.specs.declared.Packet.{Packet}
 use Rattle.ledger.proofs.Geometry.{cap-facts, laid-cap, laid-even, queue-laid}
-use Rattle.ledger.proofs.Facts.{Live, live-later, Facts, packets-long, stands-facts, stands-laid, packets-laid, tallies-facts, tallies-test, coherent-parts, coherent-whole, coheres-facts}
+use Rattle.ledger.proofs.Facts.{Live, live-later, Facts, packets-long, stands-facts, stands-laid, packets-laid, tallies-facts, tallies-test, sound-ledger-parts, sound-ledger-whole, sound-ledger-facts}
 use Rattle.ledger.proofs.Queues.{OfOut, flying-out, marked-out, bytes-out, cover-long, cover-each, cover-sum, run-adds, run-le, run-next}
-use Rattle.ledger.proofs.Signs.{word, flown-word, flown-less, coheres-flown}
+use Rattle.ledger.proofs.Signs.{word, flown-word, flown-less, sound-ledger-flown}
 use Rattle.ledger.proofs.Judging.{ack-facts}
 
 -- covering keeps the number of packets
@@ -54,9 +54,9 @@ laid-so cap low xs n ok e fit =
     }
 
 -- n is the number of packets that the code computes
-module _ {l : Ledger} {n : ℕ} (K : Coheres l) (is-long : n ≡ longOf (l .flow)) where
+module _ {l : Ledger} {n : ℕ} (K : SoundLedger l) (is-long : n ≡ longOf (l .flow)) where
   F : Facts (K .mtu) (K .clock) (l .flow) (l .slots)
-  F = coheres-facts K
+  F = sound-ledger-facts K
 
   few : n ≤ 4096
   few = omega (arith, F .fits, F .even .few)
@@ -106,7 +106,7 @@ module _ {l : Ledger} {n : ℕ} (K : Coheres l) (is-long : n ≡ longOf (l .flow
 
     -- in-flight, as the machine's word reads, is in its bounds
     flown : Flown (2 ^ 26) (t .«in_flight»)
-    flown = rw (D .in-flight) (coheres-flown K)
+    flown = rw (D .in-flight) (sound-ledger-flown K)
 
     pub less-asks : Flown (2 ^ 26) (toZ w64 (ofZ w64 (t .«in_flight»)))
     less-asks = flown-word (t .«in_flight») flown
@@ -200,16 +200,16 @@ module _ (cum map count mtu clock : ℕ) (l : Ledger) (e : stands mtu clock (l .
       (omega (arith, run-adds adds z ys, cover-sum adds z (covered cum map) (l .flow .low) xs))
 
 -- the whole ledger
-pub ack-keeps : (cum map count mtu maxwnd clock time : ℕ) (l : Ledger) → coherent mtu maxwnd clock l ≡ true
+pub ack-keeps : (cum map count mtu maxwnd clock time : ℕ) (l : Ledger) → soundLedger mtu maxwnd clock l ≡ true
     → count < counts → firstOf (ackRows (l .flow) (l .totals .«in_flight») cum map count) ≡ 0 → clock ≤ time
-    → coherent mtu maxwnd time (ackedOf cum map count l) ≡ true
+    → soundLedger mtu maxwnd time (ackedOf cum map count l) ≡ true
 unfolding ackedOf
 ack-keeps cum map count mtu maxwnd clock time l co hc none-refuses ht =
-    let p = coherent-parts mtu maxwnd clock l co in
+    let p = sound-ledger-parts mtu maxwnd clock l co in
     let T = tallies-facts maxwnd (l .totals) (packets (l .flow) (l .slots)) (p .1) in
     let left = acked-sum cum map count mtu clock l (p .0) in
     let m = ackedOf cum map count l in
-    coherent-whole mtu maxwnd time m (acked-stands cum map count mtu clock l (p .0) time hc ht)
+    sound-ledger-whole mtu maxwnd time m (acked-stands cum map count mtu clock l (p .0) time hc ht)
     (tallies-test maxwnd (m .totals) (packets (m .flow) (m .slots))
     (omega (arith, T .0, left flyingOne flying-out))
     (omega (arith, T .1, left markedOne marked-out))

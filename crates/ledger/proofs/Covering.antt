@@ -17,7 +17,7 @@ use Rattle.rules.specs.Test.{both}
 use Rattle.serial.specs.Psn.{psns, plus, covered}
 use Rattle.ledger.specs.Packets.{flyingStatus, markedStatus, doneStatus, none, withStatus, isFlying, isMarked, isOut, flyingOne, markedOne, markedSize, sumOf, coverOne, coverAll, coveredSum}
 use Rattle.ledger.specs.Ring.{Ring, Ledger, ring, ledger, capOf, packetAt, placeOf, laid, queueOf, longOf, packets}
-use Rattle.ledger.specs.Coherent.{isCapacity}
+use Rattle.ledger.specs.Sound.{isCapacity}
 use Rattle.ledger.specs.Delivery.{Laid, Cover, Covered}
 use Rattle.ledger.specs.declared.Packet.{Packet}
 use Rattle.ledger.specs.declared.Totals.{Totals}

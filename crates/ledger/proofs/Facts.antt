@@ -1,4 +1,4 @@
--- What coherence says, fact by fact, and the way back: a queue of live packets, laid out, with a flow that counts it, holds together (`stands-laid`).
+-- What a sound ledger tells, fact by fact, and the way back: a queue of live packets, laid out, with a flow that counts it, holds together (`stands-laid`).
 -- By the laws of walks and the ring's geometry.
 -- Assumes nothing.
 use mathlib.Core.Path.{_≡_, refl, sym, ap, _∙_, subst, fun-ext}
@@ -20,7 +20,7 @@ use Rattle.serial.specs.Count.{counts}
 use Rattle.ledger.specs.Packets.{flyingStatus, doneStatus, none, isDone, flyingOne, markedOne, markedSize, sumOf}
 use Rattle.ledger.specs.Bounds.{sizeLeast, resentMost, backlogMost, inBounds, Flown}
 use Rattle.ledger.specs.Ring.{Ring, Ledger, ledger, tabulate, capOf, packetAt, placeOf, longOf, laid, queueOf, packets, offsetOf, packetOf}
-use Rattle.ledger.specs.Coherent.{allTo, isCapacity, isRing, isLive, isZero, slotOk, headOk, stands, tallies, coherent, Even, Coheres, Tallied}
+use Rattle.ledger.specs.Sound.{allTo, isCapacity, isRing, isLive, isZero, slotOk, headOk, stands, tallies, soundLedger, Even, SoundLedger, Tallied}
 use Rattle.ledger.specs.declared.Flow.{Flow}
 use Rattle.ledger.specs.declared.Totals.{Totals}
 use Rattle.ledger.specs.declared.Packet.{Packet}
@@ -333,15 +333,15 @@ module _ (maxwnd : ℕ) (t : Totals) (xs : List Packet) where
 -- ---- the ledger
 
 module _ (mtu maxwnd clock : ℕ) (l : Ledger) where
-  pub coherent-parts : coherent mtu maxwnd clock l ≡ true
+  pub sound-ledger-parts : soundLedger mtu maxwnd clock l ≡ true
       → (stands mtu clock (l .flow) (l .slots) ≡ true) × (tallies maxwnd (l .totals) (packets (l .flow) (l .slots)) ≡ true)
-  unfolding coherent
-  coherent-parts e = both (stands mtu clock (l .flow) (l .slots)) (tallies maxwnd (l .totals) (packets (l .flow) (l .slots))) e
+  unfolding soundLedger
+  sound-ledger-parts e = both (stands mtu clock (l .flow) (l .slots)) (tallies maxwnd (l .totals) (packets (l .flow) (l .slots))) e
 
-  pub coherent-whole : stands mtu clock (l .flow) (l .slots) ≡ true → tallies maxwnd (l .totals) (packets (l .flow) (l .slots)) ≡ true
-      → coherent mtu maxwnd clock l ≡ true
-  unfolding coherent
-  coherent-whole e f = whole e f
+  pub sound-ledger-whole : stands mtu clock (l .flow) (l .slots) ≡ true → tallies maxwnd (l .totals) (packets (l .flow) (l .slots)) ≡ true
+      → soundLedger mtu maxwnd clock l ≡ true
+  unfolding soundLedger
+  sound-ledger-whole e f = whole e f
 
   -- at most 4,096 packets, each of at most 2^14 bytes
   few-sum : (adds : Packet → ℕ) (b : ℕ) → Facts mtu clock (l .flow) (l .slots) → ((x : Packet) → x .size ≤ mtu → adds x ≤ b)
@@ -352,10 +352,10 @@ module _ (mtu maxwnd clock : ℕ) (l : Ledger) where
       let m : length (packets (l .flow) (l .slots)) ≤ 4096 = omega (arith, F .fits, F .even .few) in
       omega (arith, s, mul-le-mul m (le-refl b))
 
-  pub coherent-coheres : mtu ≤ 2 ^ 14 → maxwnd ≤ 2 ^ 26 → coherent mtu maxwnd clock l ≡ true → Coheres l
+  pub sound-ledger-is : mtu ≤ 2 ^ 14 → maxwnd ≤ 2 ^ 26 → soundLedger mtu maxwnd clock l ≡ true → SoundLedger l
   unfolding flyingOne markedOne markedSize
-  coherent-coheres hm hw e =
-      let p = coherent-parts e in
+  sound-ledger-is hm hw e =
+      let p = sound-ledger-parts e in
       let F = stands-facts mtu clock (l .flow) (l .slots) (p .0) in
       let T = tallies-facts maxwnd (l .totals) (packets (l .flow) (l .slots)) (p .1) in
       record {
@@ -375,8 +375,8 @@ module _ (mtu maxwnd clock : ℕ) (l : Ledger) where
         flown = T .3;
       }
 
-pub coheres-facts : {l : Ledger} (c : Coheres l) → Facts (c .mtu) (c .clock) (l .flow) (l .slots)
-coheres-facts {l} c = stands-facts (c .mtu) (c .clock) (l .flow) (l .slots) (c .stands-so)
+pub sound-ledger-facts : {l : Ledger} (c : SoundLedger l) → Facts (c .mtu) (c .clock) (l .flow) (l .slots)
+sound-ledger-facts {l} c = stands-facts (c .mtu) (c .clock) (l .flow) (l .slots) (c .stands-so)
 
 -- ---- the walks of the test
 
@@ -444,12 +444,12 @@ regroup true a b c d = refl
 regroup false a b c d = refl
 
 module _ (mtu maxwnd clock : ℕ) (f : Flow) (t : Totals) (r : Ring) (n : ℕ) (e : n ≡ longOf f) where
-  pub not-ring : isRing r ≡ false → false ≡ coherent mtu maxwnd clock (ledger f t r)
-  unfolding coherent stands
+  pub not-ring : isRing r ≡ false → false ≡ soundLedger mtu maxwnd clock (ledger f t r)
+  unfolding soundLedger stands
   not-ring h = simp h
 
-  pub too-long : isRing r ≡ true → capOf r < n → false ≡ coherent mtu maxwnd clock (ledger f t r)
-  unfolding coherent stands
+  pub too-long : isRing r ≡ true → capOf r < n → false ≡ soundLedger mtu maxwnd clock (ledger f t r)
+  unfolding soundLedger stands
   too-long h l = simp (h, lt-leb (longOf f) (capOf r) (rw e at l))
 
   -- low and next are machine words: their tests hold
@@ -457,8 +457,8 @@ module _ (mtu maxwnd clock : ℕ) (f : Flow) (t : Totals) (r : Ring) (n : ℕ) (
       → a ≡ allTo (slotOk mtu clock r (f .low) n) (capOf r) → h ≡ headOk r (f .low) n → b ≡ inBounds maxwnd (t .«in_flight»)
       → f .low < psns → f .next < psns
       → (a && h && ltb (f .held) counts && leb (f .backlog) backlogMost && eqb (t .flying) x && eqb (t .marked) y && eqb (t .«marked_bytes») z && b)
-      ≡ coherent mtu maxwnd clock (ledger f t r)
-  unfolding coherent stands tallies packets
+      ≡ soundLedger mtu maxwnd clock (ledger f t r)
+  unfolding soundLedger stands tallies packets
   all-tests ok l s a h b x y z T ea eh eb low next =
       rw (ea, eh, eb, T .flying-is, T .marked-is, T .bytes-is, e, ok, le-leb (longOf f) (capOf r) (rw e at l))
       (simp (lt-ltb (f .low) psns low, lt-ltb (f .next) psns next, and-true)

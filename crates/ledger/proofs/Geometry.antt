@@ -19,7 +19,7 @@ use Rattle.serial.specs.Psn.{psns, plus}
 use Rattle.serial.proofs.Cover.{plus-plus, plus-minus}
 use Rattle.ledger.specs.Packets.{none, withStatus}
 use Rattle.ledger.specs.Ring.{Ring, ring, packetAt, putAt, placeOf, ageOf, lay, laid, queueOf, capOf, longOf, packets, offsetOf, packetOf}
-use Rattle.ledger.specs.Coherent.{isCapacity, Even}
+use Rattle.ledger.specs.Sound.{isCapacity, Even}
 use Rattle.ledger.specs.declared.Packet.{Packet}
 use Rattle.ledger.specs.declared.Flow.{Flow}
 use Rattle.ledger.proofs.Walks.{length-tabulate, getD-tabulate, tabulate-more, tabulate-join}

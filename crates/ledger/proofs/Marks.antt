@@ -11,13 +11,13 @@ use Rattle.serial.specs.Psn.{psns}
 use Rattle.ledger.specs.declared.Packet.{Packet}
 use Rattle.ledger.specs.Packets.{flyingStatus, markedStatus, withStatus, isFlying, isDone, flyingOne}
 use Rattle.ledger.specs.Ring.{ring, Ledger, ledger, capOf, longOf, offsetOf, packetOf}
-use Rattle.ledger.specs.Coherent.{coherent, Coheres}
+use Rattle.ledger.specs.Sound.{soundLedger, SoundLedger}
 use Rattle.ledger.specs.Steps.{markedOf}
 use Rattle.ledger.specs.Rows.{markRows}
-use Rattle.ledger.proofs.Facts.{Live, live-later, packet-live, packet-some, coheres-facts}
+use Rattle.ledger.proofs.Facts.{Live, live-later, packet-live, packet-some, sound-ledger-facts}
 use Rattle.ledger.proofs.Signs.{flown-less}
 use Rattle.ledger.proofs.Judging.{mark-facts}
-use Rattle.ledger.proofs.Sends.{flying-adds, marked-adds, flies, found-le, status-changed, coherent-facts, change-keeps}
+use Rattle.ledger.proofs.Sends.{flying-adds, marked-adds, flies, found-le, status-changed, sound-ledger-tells, change-keeps}
 
 -- a marked packet is live
 marked-live : (mtu clock : ℕ) (x : Packet) → Live mtu clock x → Live mtu clock (withStatus markedStatus x)
@@ -31,16 +31,16 @@ marked-live mtu clock x l =
       resent-most = l .resent-most;
     }
 
-pub mark-keeps : (mtu maxwnd clock time psn : ℕ) (l : Ledger) → coherent mtu maxwnd clock l ≡ true
+pub mark-keeps : (mtu maxwnd clock time psn : ℕ) (l : Ledger) → soundLedger mtu maxwnd clock l ≡ true
     → firstOf (markRows (l .flow) (l .totals .«in_flight») (l .slots) psn) ≡ 0 → clock ≤ time
-    → coherent mtu maxwnd time (markedOf psn l) ≡ true
+    → soundLedger mtu maxwnd time (markedOf psn l) ≡ true
 unfolding markedOf isDone
 mark-keeps mtu maxwnd clock time psn l co rows later =
     let f = l .flow in
     let r = l .slots in
     let x = packetOf f r psn in
     let y = withStatus markedStatus x in
-    let k = coherent-facts mtu maxwnd clock l co in
+    let k = sound-ledger-tells mtu maxwnd clock l co in
     let m = mark-facts f (l .totals .«in_flight») r psn rows in
     let w : x .status ≡ flyingStatus = flies x (m .0) in
     let h : offsetOf f psn < longOf f = packet-some f r psn (omega arith) in
@@ -56,14 +56,14 @@ pub record Markable (l : Ledger) (x : Packet) : Type 0 where
   pub one : 1 ≤ l .totals .flying
   pub small : x .size < 2 ^ 32
 
-module _ (l : Ledger) (c : Coheres l) (psn : ℕ) (m : isFlying (packetOf (l .flow) (l .slots) psn) ≡ true) (x : Packet)
+module _ (l : Ledger) (c : SoundLedger l) (psn : ℕ) (m : isFlying (packetOf (l .flow) (l .slots) psn) ≡ true) (x : Packet)
     (e : x ≡ packetOf (l .flow) (l .slots) psn) where
   there : offsetOf (l .flow) psn < longOf (l .flow)
   there = packet-some (l .flow) (l .slots) psn (omega (arith, flies (packetOf (l .flow) (l .slots) psn) m))
 
   pub mark-ready : Markable l x
   mark-ready =
-      let F = coheres-facts c in
+      let F = sound-ledger-facts c in
       let le = found-le (c .mtu) (c .clock) (l .flow) (l .slots) F psn there flyingOne in
       let a = flying-adds (packetOf (l .flow) (l .slots) psn) (flies (packetOf (l .flow) (l .slots) psn) m) in
       let live = packet-live (c .mtu) (c .clock) (l .flow) (l .slots) F psn there in
@@ -82,4 +82,4 @@ module _ (l : Ledger) (c : Coheres l) (psn : ℕ) (m : isFlying (packetOf (l .fl
       ≡ markedOf psn l
   unfolding markedOf
   mark-is fits i z ei ez =
-      rw (ez, e, status-changed (c .mtu) (c .clock) (l .flow) (l .slots) (coheres-facts c) psn there fits i ei markedStatus)
+      rw (ez, e, status-changed (c .mtu) (c .clock) (l .flow) (l .slots) (sound-ledger-facts c) psn there fits i ei markedStatus)

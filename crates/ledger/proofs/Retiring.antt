@@ -13,7 +13,7 @@ use Rattle.serial.specs.Psn.{psns, plus}
 use Rattle.serial.proofs.Cover.{plus-plus}
 use Rattle.ledger.specs.Packets.{doneStatus, none, doneRun}
 use Rattle.ledger.specs.Ring.{Ring, capOf, packetAt, putAt, placeOf, laid, queueOf}
-use Rattle.ledger.specs.Coherent.{Even}
+use Rattle.ledger.specs.Sound.{Even}
 use Rattle.ledger.specs.Delivery.{Laid, Retired}
 use Rattle.ledger.specs.declared.Packet.{Packet}
 use Rattle.ledger.proofs.Geometry.{Cap, cap-facts, place-first, place-plus, place-lt, place-next, queue-long, laid-cap, laid-even, laid-at, laid-tail}

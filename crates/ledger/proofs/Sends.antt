@@ -25,7 +25,7 @@ use Rattle.ledger.specs.declared.Packet.{Packet}
 use Rattle.ledger.specs.Packets.{flyingStatus, markedStatus, none, withStatus, isFlying, isMarked, isDone, flyingOne, markedOne, markedSize, sumOf}
 use Rattle.ledger.specs.Bounds.{sizeLeast, backlogMost, resentMost, Flown}
 use Rattle.ledger.specs.Ring.{Ring, ring, Ledger, ledger, capOf, putAt, placeOf, laid, longOf, packets, offsetOf, packetOf}
-use Rattle.ledger.specs.Coherent.{stands, coherent, Coheres}
+use Rattle.ledger.specs.Sound.{stands, soundLedger, SoundLedger}
 use Rattle.ledger.specs.Steps.{changed, suppliedOf, newPacket, pushedOf, resentPacket, resentOf}
 use Rattle.ledger.specs.Rows.{newRows, resendRows}
 use Rattle.ledger.proofs.Walks.{sum-append, sum-one, sum-set, sum-at-le}
@@ -42,9 +42,9 @@ use Rattle.ledger.proofs.Facts.{
   stands-laid,
   tallies-facts,
   tallies-test,
-  coherent-parts,
-  coherent-whole,
-  coheres-facts,
+  sound-ledger-parts,
+  sound-ledger-whole,
+  sound-ledger-facts,
 }
 use Rattle.ledger.proofs.Signs.{flown-more}
 use Rattle.ledger.proofs.Judging.{new-facts, resend-facts}
@@ -132,28 +132,28 @@ module _ (mtu clock : ℕ) (f : Flow) (r : Ring) (F : Facts mtu clock f r) (psn 
         (sym n) (F .low-psn) (F .next-psn) (F .held) (F .backlog)
 
 -- what a ledger that holds together gives a step
-pub coherent-facts : (mtu maxwnd clock : ℕ) (l : Ledger) → coherent mtu maxwnd clock l ≡ true
+pub sound-ledger-tells : (mtu maxwnd clock : ℕ) (l : Ledger) → soundLedger mtu maxwnd clock l ≡ true
     → Facts mtu clock (l .flow) (l .slots) × Flown maxwnd (l .totals .«in_flight»)
-coherent-facts mtu maxwnd clock l co =
-    let p = coherent-parts mtu maxwnd clock l co in
+sound-ledger-tells mtu maxwnd clock l co =
+    let p = sound-ledger-parts mtu maxwnd clock l co in
     (stands-facts mtu clock (l .flow) (l .slots) (p .0), tallies-facts maxwnd (l .totals) (packets (l .flow) (l .slots)) (p .1) .3)
 
 -- The totals follow where each is what the packet's change makes of it: the sum s of the changed queue, with what the packet added before,
 -- is the old total with what the packet adds now.
-pub change-keeps : (mtu maxwnd clock time psn : ℕ) (l : Ledger) → coherent mtu maxwnd clock l ≡ true → clock ≤ time
+pub change-keeps : (mtu maxwnd clock time psn : ℕ) (l : Ledger) → soundLedger mtu maxwnd clock l ≡ true → clock ≤ time
     → offsetOf (l .flow) psn < longOf (l .flow) → (y : Packet) → Live mtu time y → isDone y ≡ false → (t : Totals)
     → ((s : ℕ) → s + flyingOne (packetOf (l .flow) (l .slots) psn) ≡ l .totals .flying + flyingOne y → t .flying ≡ s)
     → ((s : ℕ) → s + markedOne (packetOf (l .flow) (l .slots) psn) ≡ l .totals .marked + markedOne y → t .marked ≡ s)
     → ((s : ℕ) → s + markedSize (packetOf (l .flow) (l .slots) psn) ≡ l .totals .«marked_bytes» + markedSize y → t .«marked_bytes» ≡ s)
-    → Flown maxwnd (t .«in_flight») → coherent mtu maxwnd time (ledger (l .flow) t (changed (l .flow) (l .slots) psn y)) ≡ true
+    → Flown maxwnd (t .«in_flight») → soundLedger mtu maxwnd time (ledger (l .flow) t (changed (l .flow) (l .slots) psn y)) ≡ true
 change-keeps mtu maxwnd clock time psn l co later h y live out t flying marked bytes flown =
     let f = l .flow in
     let r = l .slots in
-    let p = coherent-parts mtu maxwnd clock l co in
+    let p = sound-ledger-parts mtu maxwnd clock l co in
     let F = stands-facts mtu clock f r (p .0) in
     let T = tallies-facts maxwnd (l .totals) (packets f r) (p .1) in
     let sum = changed-sum mtu clock f r F psn h y in
-    coherent-whole mtu maxwnd time (ledger f t (changed f r psn y)) (changed-stands mtu clock f r F psn h y time later live out)
+    sound-ledger-whole mtu maxwnd time (ledger f t (changed f r psn y)) (changed-stands mtu clock f r F psn h y time later live out)
     (tallies-test maxwnd t (packets f (changed f r psn y))
     (flying _ (omega (arith, sum flyingOne, T .0)))
     (marked _ (omega (arith, sum markedOne, T .1)))
@@ -171,12 +171,12 @@ supply-stands mtu clock time bytes f r F later few =
     (stands-laid (capOf r) (suppliedOf bytes f) (packets f r) (F .cap) mtu time (omega (arith, F .fits))
     (λ k l. live-later later (F .live k (omega arith))) (λ l. F .head (omega arith)) (sym n) (F .low-psn) (F .next-psn) (F .held) few)
 
-pub supply-keeps : (mtu maxwnd clock time bytes : ℕ) (l : Ledger) → coherent mtu maxwnd clock l ≡ true → clock ≤ time
-    → l .flow .backlog + bytes ≤ backlogMost → coherent mtu maxwnd time (ledger (suppliedOf bytes (l .flow)) (l .totals) (l .slots)) ≡ true
+pub supply-keeps : (mtu maxwnd clock time bytes : ℕ) (l : Ledger) → soundLedger mtu maxwnd clock l ≡ true → clock ≤ time
+    → l .flow .backlog + bytes ≤ backlogMost → soundLedger mtu maxwnd time (ledger (suppliedOf bytes (l .flow)) (l .totals) (l .slots)) ≡ true
 unfolding suppliedOf longOf packets
 supply-keeps mtu maxwnd clock time bytes l co later few =
-    let p = coherent-parts mtu maxwnd clock l co in
-    coherent-whole mtu maxwnd time (ledger (suppliedOf bytes (l .flow)) (l .totals) (l .slots))
+    let p = sound-ledger-parts mtu maxwnd clock l co in
+    sound-ledger-whole mtu maxwnd time (ledger (suppliedOf bytes (l .flow)) (l .totals) (l .slots))
     (supply-stands mtu clock time bytes (l .flow) (l .slots) (stands-facts mtu clock (l .flow) (l .slots) (p .0)) later few) (p .1)
 
 -- ---- a new packet
@@ -257,15 +257,15 @@ module _ (mtu clock : ℕ) (f : Flow) (r : Ring) (F : Facts mtu clock f r) (room
           let e : j ≡ length xs = omega (arith, length-append xs (y ∷ [])) in
           rw (e, getD-append-seam xs y [] none) p)
 
-pub push-keeps : (mtu maxwnd clock time psn size : ℕ) (l : Ledger) → coherent mtu maxwnd clock l ≡ true
+pub push-keeps : (mtu maxwnd clock time psn size : ℕ) (l : Ledger) → soundLedger mtu maxwnd clock l ≡ true
     → firstOf (newRows (l .flow) (capOf (l .slots)) psn size) ≡ 0 → clock ≤ time → sizeLeast ≤ size → size ≤ mtu
     → leZ (l .totals .«in_flight» +ℤ pos mtu) (pos maxwnd) ≡ true
-    → coherent mtu maxwnd time (pushedOf time size l) ≡ true
+    → soundLedger mtu maxwnd time (pushedOf time size l) ≡ true
 unfolding pushedOf isDone
 push-keeps mtu maxwnd clock time psn size l co rows later least most under =
     let f = l .flow in
     let r = l .slots in
-    let p = coherent-parts mtu maxwnd clock l co in
+    let p = sound-ledger-parts mtu maxwnd clock l co in
     let F = stands-facts mtu clock f r (p .0) in
     let T = tallies-facts maxwnd (l .totals) (packets f r) (p .1) in
     let room = new-room mtu clock f r F psn size rows .1 in
@@ -281,7 +281,7 @@ push-keeps mtu maxwnd clock time psn size l co rows later least most under =
       resent-most = omega arith;
     } in
     let sum = push-sum mtu clock f r F room size x in
-    coherent-whole mtu maxwnd time (pushedOf time size l) (push-stands mtu clock f r F room time size x later live refl)
+    sound-ledger-whole mtu maxwnd time (pushedOf time size l) (push-stands mtu clock f r F room time size x later live refl)
     (tallies-test maxwnd (pushedOf time size l .totals) (packets (pushedOf time size l .flow) (pushedOf time size l .slots))
     (omega (arith, sum flyingOne, a .0, T .0))
     (omega (arith, sum markedOne, a .1, T .1))
@@ -302,15 +302,15 @@ resent-live mtu clock time x l =
       resent-most = omega arith;
     }
 
-pub resend-keeps : (mtu maxwnd clock time psn size : ℕ) (l : Ledger) → coherent mtu maxwnd clock l ≡ true
+pub resend-keeps : (mtu maxwnd clock time psn size : ℕ) (l : Ledger) → soundLedger mtu maxwnd clock l ≡ true
     → firstOf (resendRows (l .flow) (l .slots) psn size) ≡ 0 → clock ≤ time → leZ (l .totals .«in_flight» +ℤ pos mtu) (pos maxwnd) ≡ true
-    → coherent mtu maxwnd time (resentOf time psn l) ≡ true
+    → soundLedger mtu maxwnd time (resentOf time psn l) ≡ true
 unfolding resentOf isDone
 resend-keeps mtu maxwnd clock time psn size l co rows later under =
     let f = l .flow in
     let r = l .slots in
     let x = packetOf f r psn in
-    let k = coherent-facts mtu maxwnd clock l co in
+    let k = sound-ledger-tells mtu maxwnd clock l co in
     let w : x .status ≡ markedStatus = waits x (resend-facts f r psn size rows .0) in
     let h : offsetOf f psn < longOf f = packet-some f r psn (omega arith) in
     let live = packet-live mtu clock f r (k .0) psn h in
@@ -327,14 +327,14 @@ pub record Resendable (l : Ledger) (x : Packet) : Type 0 where
   pub bytes : x .size ≤ l .totals .«marked_bytes»
   pub small : x .size < 2 ^ 32
 
-module _ (l : Ledger) (c : Coheres l) (psn : ℕ) (m : isMarked (packetOf (l .flow) (l .slots) psn) ≡ true) (x : Packet)
+module _ (l : Ledger) (c : SoundLedger l) (psn : ℕ) (m : isMarked (packetOf (l .flow) (l .slots) psn) ≡ true) (x : Packet)
     (e : x ≡ packetOf (l .flow) (l .slots) psn) where
   there : offsetOf (l .flow) psn < longOf (l .flow)
   there = packet-some (l .flow) (l .slots) psn (omega (arith, waits (packetOf (l .flow) (l .slots) psn) m))
 
   pub resend-ready : Resendable l x
   resend-ready =
-      let F = coheres-facts c in
+      let F = sound-ledger-facts c in
       let le = found-le (c .mtu) (c .clock) (l .flow) (l .slots) F psn there in
       let a = marked-adds (packetOf (l .flow) (l .slots) psn) (waits (packetOf (l .flow) (l .slots) psn) m) in
       let live = packet-live (c .mtu) (c .clock) (l .flow) (l .slots) F psn there in
@@ -360,5 +360,5 @@ module _ (l : Ledger) (c : Coheres l) (psn : ℕ) (m : isMarked (packetOf (l .fl
       ≡ resentOf time psn l
   unfolding resentOf
   resend-is fits time i again z s ei ea ez es =
-      let p = put-changed (c .mtu) (c .clock) (l .flow) (l .slots) (coheres-facts c) psn there fits i ei (resentPacket time x) in
+      let p = put-changed (c .mtu) (c .clock) (l .flow) (l .slots) (sound-ledger-facts c) psn there fits i ei (resentPacket time x) in
       rw (ez, es, ea, p, e)

@@ -15,7 +15,7 @@ use mir.ValLaws.{toZ-ofZ, toZ-pos}
 use borrow.Author.Tests.{ltb-true, ltb-false, leb-true}
 use Rattle.ledger.specs.Bounds.{inFlightLeast, inBounds, sinks, above, below, Flown}
 use Rattle.ledger.specs.Ring.{Ledger}
-use Rattle.ledger.specs.Coherent.{Coheres}
+use Rattle.ledger.specs.Sound.{SoundLedger}
 
 -- at most one of the two is not zero
 pub one-side : (z : ℤ) → (above z ≡ 0) ⊎ (below z ≡ 0)
@@ -73,8 +73,8 @@ flown-more maxwnd mtu z n f e l =
     (one-side (z +ℤ pos n))
 
 -- a step relies on bounds that hold for any settings
-pub coheres-flown : {l : Ledger} → Coheres l → Flown (2 ^ 26) (l .totals .«in_flight»)
-coheres-flown {l} c = flown-wide (l .totals .«in_flight») (c .maxwnd-high) (c .flown)
+pub sound-ledger-flown : {l : Ledger} → SoundLedger l → Flown (2 ^ 26) (l .totals .«in_flight»)
+sound-ledger-flown {l} c = flown-wide (l .totals .«in_flight») (c .maxwnd-high) (c .flown)
 
 -- ---- the machine's signed word
 

@@ -15,7 +15,7 @@ use Rattle.rules.specs.Test.{inside}
 use Rattle.ledger.specs.Packets.{flyingStatus, markedStatus, doneStatus, flyingOne, markedOne, markedSize, sumOf}
 use Rattle.ledger.specs.Bounds.{sizeLeast, resentMost}
 use Rattle.ledger.specs.Ring.{Ring, capOf, packetAt, placeOf, queueOf, tabulate}
-use Rattle.ledger.specs.Coherent.{allTo, isLive, isZero, slotOk, Even, Tallied}
+use Rattle.ledger.specs.Sound.{allTo, isLive, isZero, slotOk, Even, Tallied}
 use Rattle.ledger.specs.Stretch.{between, sumTo, oneAt, sizeAt}
 use Rattle.ledger.specs.declared.Packet.{Packet}
 use Rattle.ledger.proofs.Walks.{all-none, all-more, all-at, sum-append, sum-one}

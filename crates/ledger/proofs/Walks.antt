@@ -12,7 +12,7 @@ use lib.ListN.{length, getD, set}
 use Rattle.rules.specs.Test.{both, whole}
 use Rattle.ledger.specs.Packets.{none, sumOf}
 use Rattle.ledger.specs.Ring.{tabulate}
-use Rattle.ledger.specs.Coherent.{allTo}
+use Rattle.ledger.specs.Sound.{allTo}
 use Rattle.ledger.specs.declared.Packet.{Packet}
 
 -- ---- a test at each of 0 .. n - 1

@@ -7,7 +7,7 @@ use lib.ListN.{length, drop, getD}
 use Rattle.serial.specs.Psn.{plus, covered}
 use Rattle.ledger.specs.Packets.{none, isOut, flyingOne, markedOne, markedSize, sumOf, coverAll, coveredSum, doneRun}
 use Rattle.ledger.specs.Ring.{Ring, Ledger, capOf, placeOf, laid, queueOf, longOf, packets}
-use Rattle.ledger.specs.Coherent.{isCapacity}
+use Rattle.ledger.specs.Sound.{isCapacity}
 use Rattle.ledger.specs.declared.Totals.{Totals}
 
 -- a ring that holds n packets from low on, and nothing else

@@ -2,7 +2,7 @@
 pub mod Packets
 pub mod Ring
 pub mod Lent
-pub mod Coherent
+pub mod Sound
 pub mod Stretch
 pub mod Steps
 pub mod Rows

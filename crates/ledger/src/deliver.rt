@@ -18,7 +18,7 @@ ghost use Rattle.serial.specs.Psn.{covered};
 ghost use Rattle.ledger.specs.Lent.{ringGiven, ringBefore, ringAfter};
 ghost use Rattle.ledger.specs.Packets.{flyingStatus, markedStatus};
 ghost use Rattle.ledger.specs.Ring.{ring, ledger};
-ghost use Rattle.ledger.specs.Coherent.{Coheres};
+ghost use Rattle.ledger.specs.Sound.{SoundLedger};
 ghost use Rattle.ledger.specs.Steps.{heldOf, ackedOf};
 ghost use Rattle.ledger.specs.Rows.{ackRows};
 ghost use Rattle.ledger.specs.Delivery.{Laid, Cover, Covered, Run, Spent, Onward, Retired};
@@ -222,7 +222,7 @@ pub fn ack<'a, 'b, 'c, 'd>(
     sent: &'c mut [u64],
     resent: &'d mut [u8],
 ) -> Books
-    requires { ⌜ Coheres (ledger (books .flow) (books .totals) (ringGiven status size sent resent)) ⌝ }
+    requires { ⌜ SoundLedger (ledger (books .flow) (books .totals) (ringGiven status size sent resent)) ⌝ }
     requires { ⌜ firstOf (ackRows (books .flow) (books .totals .«in_flight») cum map count) ≡ 0 ⌝ }
     ensures { λ r. ⌜ ledger (r .flow) (r .totals) (ringAfter status size sent resent) ≡ ackedOf cum map count (ledger (books .flow) (books .totals) (ringBefore status size sent resent)) ⌝ }
 {

@@ -12,7 +12,7 @@ ghost use Rattle.rules.specs.Rows.{firstOf};
 ghost use Rattle.rules.specs.Verdict.{numberOf};
 ghost use Rattle.ledger.specs.Lent.{ringGiven, ringBefore};
 ghost use Rattle.ledger.specs.Bounds.{sinks, Flown};
-ghost use Rattle.ledger.specs.Coherent.{Even};
+ghost use Rattle.ledger.specs.Sound.{Even};
 ghost use Rattle.ledger.specs.Steps.{newlyOf};
 ghost use Rattle.ledger.specs.Rows.{newRows, resendRows, ackRows, markRows};
 

@@ -5,8 +5,8 @@ pub mod judge;
 pub mod mark;
 pub mod send;
 pub mod slots;
+pub mod sound;
 mod stretch;
-pub mod whole;
 
 // The status of a slot.
 pub const EMPTY: u8 = 0;

@@ -9,7 +9,7 @@ ghost use mathlib.Core.Bool.{true};
 ghost use Rattle.ledger.specs.Lent.{ringGiven, ringBefore, ringAfter};
 ghost use Rattle.ledger.specs.Packets.{isFlying};
 ghost use Rattle.ledger.specs.Ring.{ledger, packetOf};
-ghost use Rattle.ledger.specs.Coherent.{Coheres};
+ghost use Rattle.ledger.specs.Sound.{SoundLedger};
 ghost use Rattle.ledger.specs.Steps.{markedOf};
 
 pub fn mark<'a, 'b>(
@@ -20,7 +20,7 @@ pub fn mark<'a, 'b>(
     sent: &'b [u64],
     resent: &'b [u8],
 ) -> Books
-    requires { ⌜ Coheres (ledger (books .flow) (books .totals) (ringGiven status size sent resent)) ⌝ }
+    requires { ⌜ SoundLedger (ledger (books .flow) (books .totals) (ringGiven status size sent resent)) ⌝ }
     requires { ⌜ isFlying (packetOf (books .flow) (ringGiven status size sent resent) psn) ≡ true ⌝ }
     ensures { λ r. ⌜ ledger (r .flow) (r .totals) (ringAfter status size sent resent) ≡ markedOf psn (ledger (books .flow) (books .totals) (ringBefore status size sent resent)) ⌝ }
 {

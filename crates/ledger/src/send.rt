@@ -13,7 +13,7 @@ ghost use Rattle.ledger.specs.Lent.{ringGiven, ringBefore, ringAfter};
 ghost use Rattle.ledger.specs.Packets.{isMarked};
 ghost use Rattle.ledger.specs.Bounds.{backlogMost, resentMost, Flown};
 ghost use Rattle.ledger.specs.Ring.{ledger, capOf, longOf, packetOf};
-ghost use Rattle.ledger.specs.Coherent.{Coheres};
+ghost use Rattle.ledger.specs.Sound.{SoundLedger};
 ghost use Rattle.ledger.specs.Steps.{suppliedOf, pushedOf, resentOf};
 
 // New data: the backlog rises.
@@ -46,7 +46,7 @@ pub fn push<'a, 'b, 'c, 'd>(
     sent: &'c mut [u64],
     resent: &'d mut [u8],
 ) -> Books
-    requires { ⌜ Coheres (ledger (books .flow) (books .totals) (ringGiven status size sent resent)) ⌝ }
+    requires { ⌜ SoundLedger (ledger (books .flow) (books .totals) (ringGiven status size sent resent)) ⌝ }
     requires { ⌜ (bytes ≤ books .flow .backlog) × (longOf (books .flow) < capOf (ringGiven status size sent resent)) ⌝ }
     ensures { λ r. ⌜ ledger (r .flow) (r .totals) (ringAfter status size sent resent) ≡ pushedOf time bytes (ledger (books .flow) (books .totals) (ringBefore status size sent resent)) ⌝ }
 {
@@ -97,7 +97,7 @@ pub fn resend<'a, 'b, 'c, 'd>(
     sent: &'c mut [u64],
     resent: &'d mut [u8],
 ) -> Books
-    requires { ⌜ Coheres (ledger (books .flow) (books .totals) (ringGiven status size sent resent)) ⌝ }
+    requires { ⌜ SoundLedger (ledger (books .flow) (books .totals) (ringGiven status size sent resent)) ⌝ }
     requires { ⌜ isMarked (packetOf (books .flow) (ringGiven status size sent resent) psn) ≡ true ⌝ }
     ensures { λ r. ⌜ ledger (r .flow) (r .totals) (ringAfter status size sent resent) ≡ resentOf time psn (ledger (books .flow) (books .totals) (ringBefore status size sent resent)) ⌝ }
 {

@@ -6,7 +6,7 @@ ghost use mathlib.Core.Bool.{true};
 ghost use Prim.Native.Nat.{_%_, _+_, _<_};
 ghost use Rattle.ledger.specs.Lent.{ringGiven, ringBefore, ringAfter};
 ghost use Rattle.ledger.specs.Ring.{ring, capOf, packetAt, putAt, longOf, packetOf};
-ghost use Rattle.ledger.specs.Coherent.{isCapacity, Even};
+ghost use Rattle.ledger.specs.Sound.{isCapacity, Even};
 
 // The slot of a PSN: "capacity a power of two", so that the remainder is a mask.
 pub(crate) fn place(cap: usize, psn: u32) -> usize

@@ -6,7 +6,7 @@ ghost use lib.ListN.{length};
 ghost use Rattle.rules.specs.Branch.{ifEq};
 ghost use Rattle.rules.specs.Test.{inside};
 ghost use Rattle.ledger.specs.Packets.{markedStatus};
-ghost use Rattle.ledger.specs.Coherent.{allTo};
+ghost use Rattle.ledger.specs.Sound.{allTo};
 ghost use Rattle.ledger.specs.Stretch.{between, sumTo, oneAt, sizeAt};
 
 // Whether every byte lies in low..high.

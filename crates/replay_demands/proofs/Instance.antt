@@ -21,7 +21,7 @@ use Rattle.window.specs.Limits.{maxWndOf}
 use Rattle.ledger.specs.Packets.{isDone, flyingOne, markedOne, markedSize, sumOf, coverOne, coverAll, doneRun, isFlying, isOut}
 use Rattle.ledger.specs.Bounds.{inBounds, sinks}
 use Rattle.ledger.specs.Ring.{ring, packetAt, putAt, tabulate, placeOf, ageOf, lay, laid, queueOf, longOf, packets}
-use Rattle.ledger.specs.Coherent.{allTo, isCapacity, isRing, isLive, isZero, slotOk, headOk, stands, tallies, coherent}
+use Rattle.ledger.specs.Sound.{allTo, isCapacity, isRing, isLive, isZero, slotOk, headOk, stands, tallies, soundLedger}
 use Rattle.ledger.specs.Steps.{changed, suppliedOf, pushedOf, heldOf, newlyOf, ackedOf}
 use Rattle.sender.specs.Named.{hasRoom, phaseOf, phaseNumber}
 use Rattle.sender.specs.Sound.{timesOk, namedOk, sound}
@@ -111,14 +111,14 @@ given = told 0 (opened settingsE lent) ∷ answers (opened settingsE lent) event
 
 given-numbers : map (λ (a : Answered). a .number) given ≡ 0 ∷ 0 ∷ 0 ∷ 8 ∷ 0 ∷ []
 unfolding lent settingsE answers onSetUp freshState freshOf firstOf inRange inside isEvCount isRing isCapacity ifSo ifEq ifLt onNewData onSend onAck
-    decided newDataStep newDataState sendStep settled stateOf suppliedOf pushedOf putAt changed sound soundWindow maxWndOf coherent stands longOf minus
+    decided newDataStep newDataState sendStep settled stateOf suppliedOf pushedOf putAt changed sound soundWindow maxWndOf soundLedger stands longOf minus
     allTo slotOk isLive isZero headOk tallies sumOf flyingOne markedOne markedSize inBounds packets queueOf tabulate packetAt placeOf plus ageOf lay
     laid isDone timesOk namedOk phaseOf phaseNumber hasRoom covered bitOf unsentOrOld backOf spanOf leadingZeros newlyOf forwardOf aheadOf isOld sinks
 given-numbers = refl
 
 given-flights : map (λ (a : Answered). a .after .state .totals .«in_flight») given ≡ pos 0 ∷ pos 0 ∷ pos 4096 ∷ pos 4096 ∷ pos 0 ∷ []
 unfolding lent settingsE answers onSetUp freshState freshOf firstOf inRange inside isEvCount isRing isCapacity ifSo ifEq ifLt onNewData onSend onAck
-    decided newDataStep newDataState sendStep settled stateOf suppliedOf pushedOf putAt changed sound soundWindow maxWndOf coherent stands longOf minus
+    decided newDataStep newDataState sendStep settled stateOf suppliedOf pushedOf putAt changed sound soundWindow maxWndOf soundLedger stands longOf minus
     allTo slotOk isLive isZero headOk tallies sumOf flyingOne markedOne markedSize inBounds packets queueOf tabulate packetAt placeOf plus ageOf lay
     laid isDone timesOk namedOk phaseOf phaseNumber hasRoom covered bitOf unsentOrOld backOf spanOf leadingZeros newlyOf forwardOf aheadOf isOld sinks
     ackStep ackedOf coverOne coverAll doneRun isFlying isOut heldOf
@@ -130,7 +130,7 @@ summed by = sum by (opened settingsE lent) noPast events
 
 given-sums : summed sentBy ∷ summed reportedBy ∷ summed lostBy ∷ [] ≡ 4096 ∷ 4096 ∷ 0 ∷ []
 unfolding lent settingsE answers onSetUp freshState freshOf firstOf inRange inside isEvCount isRing isCapacity ifSo ifEq ifLt onNewData onSend onAck
-    decided newDataStep newDataState sendStep settled stateOf suppliedOf pushedOf putAt changed sound soundWindow maxWndOf coherent stands longOf minus
+    decided newDataStep newDataState sendStep settled stateOf suppliedOf pushedOf putAt changed sound soundWindow maxWndOf soundLedger stands longOf minus
     allTo slotOk isLive isZero headOk tallies sumOf flyingOne markedOne markedSize inBounds packets queueOf tabulate packetAt placeOf plus ageOf lay
     laid isDone timesOk namedOk phaseOf phaseNumber hasRoom covered bitOf unsentOrOld backOf spanOf leadingZeros newlyOf forwardOf aheadOf isOld sinks
     sum sentBy reportedBy lostBy remember heldOf

@@ -28,7 +28,7 @@ use Rattle.window.specs.Quick.{firesOf, restartOf, quickAdaptOf}
 use Rattle.ledger.specs.Packets.{isFlying, isMarked, isDone, isOut, flyingOne, markedOne, markedSize, sumOf}
 use Rattle.ledger.specs.Bounds.{inBounds, sinks}
 use Rattle.ledger.specs.Ring.{ring, packetAt, tabulate, placeOf, ageOf, lay, laid, queueOf, longOf, packets, offsetOf, packetOf}
-use Rattle.ledger.specs.Coherent.{allTo, isCapacity, isRing, isLive, isZero, slotOk, headOk, stands, tallies, coherent}
+use Rattle.ledger.specs.Sound.{allTo, isCapacity, isRing, isLive, isZero, slotOk, headOk, stands, tallies, soundLedger}
 use Rattle.ledger.specs.Steps.{changed, suppliedOf, pushedOf, resentOf, markedOf, newlyOf}
 use Rattle.sender.specs.World.{World, world}
 use Rattle.sender.specs.Named.{hasRoom, phaseOf, phaseNumber}
@@ -192,7 +192,7 @@ unfolding resentLog onceLog lent recordBytes bytesOf littleEndian numberAt lookU
     onFound placeAfter foundIn foundFrom endFrom shownSays shownFirst onFirst onLater onEvent ifSo ifLt ifEq inside firstOf onSetUp freshState noSettings
     freshOf inRange isEvCount isRing isCapacity allTo leadingZeros minus plus bitOf covered backOf spanOf unsentOrOld aheadOf forwardOf maxWndOf soundWindow
     oneSend takeSampleOf samplingOf shrinkOf lossOf firesOf restartOf quickAdaptOf isFlying isMarked isDone isOut flyingOne markedOne markedSize sumOf inBounds
-    sinks packetAt tabulate placeOf ageOf lay laid queueOf longOf packets offsetOf packetOf isLive isZero slotOk headOk stands tallies coherent changed
+    sinks packetAt tabulate placeOf ageOf lay laid queueOf longOf packets offsetOf packetOf isLive isZero slotOk headOk stands tallies soundLedger changed
     suppliedOf pushedOf resentOf markedOf newlyOf hasRoom phaseOf phaseNumber timesOk namedOk sound stateOf settled avoidedIn newDataState newDataStep
     sendStep ackSampling lossStep decided says onNewData onSend onAck onLoss howMany kindTest isAck ackStands mayDiffer
 replayed = record { accepted = refl; ambiguous = refl; may = λ i. refl; near = refl; far = refl }

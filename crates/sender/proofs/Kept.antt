@@ -34,7 +34,7 @@ kept-of : {w : World} (S : SoundFacts w) {time : ℕ} {l : Ledger} (R : Ready (w
     → SoundWindow (w .state .settings) time v → (on : Bool) (ev : ℕ)
     → sound (settled time (w .state) l v (avoidedIn on ev time (w .state .window .base) (w .times))) ≡ true
 kept-of {w} S {time} {l} R {v} H on ev =
-    settled-sound time (w .state) l v (avoidedIn on ev time (w .state .window .base) (w .times)) (R .range) H (R .coheres) (R .early)
+    settled-sound time (w .state) l v (avoidedIn on ev time (w .state .window .base) (w .times)) (R .range) H (R .sound-ledger) (R .early)
     (omega (arith, avoided-long on ev time (w .state .window .base) (w .times), S .times-long))
     (avoided-ok on ev time (w .state .window .base) (w .times) (R .early) (omega (arith, S .held .base-high, S .range .rtt-high)) (S .times-ok))
     (S .cursor-ok)
@@ -48,7 +48,7 @@ new-data-kept time bytes w e rows =
     let N = new-data-facts time bytes c rows in
     let R = supply-ready S bytes (N .0) (N .1) in
     stated-sound (c .settings) (suppliedOf bytes (c .flow)) (c .totals) (c .window) time (c .cursor) (w .slots) (w .times)
-    (R .range) (R .held) (R .coheres) (R .early) (S .times-long) (S .times-ok) (S .cursor-ok)
+    (R .range) (R .held) (R .sound-ledger) (R .early) (S .times-long) (S .times-ok) (S .cursor-ok)
 
 pub send-kept : (time : ℕ) (a : Send) (w : World) → sound w ≡ true → firstOf (sendAllRows time a (w .state) (w .slots)) ≡ 0
     → sound (sendStep time a w) ≡ true
@@ -56,7 +56,7 @@ unfolding sendStep
 send-kept time a w e rows =
     let S = sound-facts w e in
     let R = send-ready S (send-facts time a (w .state) (w .slots) rows) in
-    settled-sound time (w .state) _ (w .state .window) (w .times) (R .range) (R .held) (R .coheres) (R .early) (S .times-long) (S .times-ok) (S .cursor-ok)
+    settled-sound time (w .state) _ (w .state .window) (w .times) (R .range) (R .held) (R .sound-ledger) (R .early) (S .times-long) (S .times-ok) (S .cursor-ok)
 
 pub ack-kept : (time : ℕ) (a : Ack) (w : World) → sound w ≡ true → firstOf (ackAllRows time a (w .state)) ≡ 0
     → sound (ackStep time a w) ≡ true
@@ -100,7 +100,7 @@ path-kept time w e rows =
     let S = sound-facts w e in
     let R = path-ready S (time-facts time c _ rows .0) in
     stated-sound (c .settings) (c .flow) (c .totals) (c .window) time (routeOf time w .cursor) (w .slots) (w .times)
-    (R .range) (R .held) (R .coheres) (R .early) (S .times-long) (S .times-ok)
+    (R .range) (R .held) (R .sound-ledger) (R .early) (S .times-long) (S .times-ok)
     (taken-inside time (c .cursor) (w .times) {x = routeOf time w} refl (S .times-long) (S .cursor-ok) .1)
 
 -- ---- whatever is answered

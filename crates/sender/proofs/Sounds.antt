@@ -23,11 +23,11 @@ use Rattle.window.proofs.Tests.{ev-count-bounds, range-facts, range-test, windo
 use Rattle.window.proofs.MaxWnd.{max-wnd-high}
 use Rattle.paths.specs.Path.{Early}
 use Rattle.ledger.specs.Ring.{Ring, Ledger, ledger}
-use Rattle.ledger.specs.Coherent.{coherent, Even, Coheres}
+use Rattle.ledger.specs.Sound.{soundLedger, Even, SoundLedger}
 use Rattle.ledger.specs.declared.Flow.{Flow}
 use Rattle.ledger.specs.declared.Totals.{Totals}
-use Rattle.ledger.proofs.Signs.{coheres-flown}
-use Rattle.ledger.proofs.Facts.{coherent-coheres, coheres-facts}
+use Rattle.ledger.proofs.Signs.{sound-ledger-flown}
+use Rattle.ledger.proofs.Facts.{sound-ledger-is, sound-ledger-facts}
 use Rattle.sender.specs.Limits.{timeEnd}
 use Rattle.sender.specs.World.{World, world, ledgerOf}
 use Rattle.sender.specs.Named.{phaseOf, phaseNumber}
@@ -125,7 +125,7 @@ module _ (on : Bool) (ev time base : ℕ) (times : List ℕ) where
 pub record SoundFacts (w : World) : Type 0 where
   pub range : InRange (w .state .settings)
   pub held : SoundWindow (w .state .settings) (w .state .clock) (w .state .window)
-  pub coheres : coherent (w .state .settings .mtu) (w .state .settings .maxwnd) (w .state .clock) (ledgerOf w) ≡ true
+  pub sound-ledger : soundLedger (w .state .settings .mtu) (w .state .settings .maxwnd) (w .state .clock) (ledgerOf w) ≡ true
   pub clock-ok : w .state .clock < timeEnd
   pub times-long : length (w .times) ≡ w .state .settings .«ev_count»
   pub times-ok : timesOk (w .times) ≡ true
@@ -149,12 +149,12 @@ sound-facts w e =
     let times = both _ (timesOk (w .times)) (cursor .0) in
     let long = both _ (eqb (length (w .times)) (c .settings .«ev_count»)) (times .0) in
     let clock = both _ (ltb (c .clock) timeEnd) (long .0) in
-    let ledger = both _ (coherent (c .settings .mtu) (c .settings .maxwnd) (c .clock) (ledgerOf w)) (clock .0) in
+    let ledger = both _ (soundLedger (c .settings .mtu) (c .settings .maxwnd) (c .clock) (ledgerOf w)) (clock .0) in
     let first = both (inRange (c .settings)) (soundWindow (c .settings) (c .clock) (c .window)) (ledger .0) in
     record {
       range = range-facts (c .settings) (first .0);
       held = window-facts (c .settings) (c .clock) (c .window) (first .1);
-      coheres = ledger .1;
+      sound-ledger = ledger .1;
       clock-ok = ltb-true (c .clock) timeEnd (clock .1);
       times-long = eqb-true (length (w .times)) (c .settings .«ev_count») (long .1);
       times-ok = times .1;
@@ -173,7 +173,7 @@ facts-sound w S =
     (whole
     (whole
     (whole (range-test (c .settings) (S .range)) (window-test (c .settings) (c .clock) (c .window) (S .held)))
-    (S .coheres))
+    (S .sound-ledger))
     (lt-ltb (c .clock) timeEnd (S .clock-ok)))
     (eq-eqb (length (w .times)) (c .settings .«ev_count») (S .times-long)))
     (S .times-ok))
@@ -184,30 +184,30 @@ facts-sound w S =
 
 -- of the first three tests alone: the last, the state's name, is taken only after them
 module _ (w : World) (R : InRange (w .state .settings))
-    (e : coherent (w .state .settings .mtu) (w .state .settings .maxwnd) (w .state .clock) (ledgerOf w) ≡ true) where
-  parts-coheres : Coheres (ledgerOf w)
-  parts-coheres =
-      coherent-coheres (w .state .settings .mtu) (w .state .settings .maxwnd) (w .state .clock) (ledgerOf w)
+    (e : soundLedger (w .state .settings .mtu) (w .state .settings .maxwnd) (w .state .clock) (ledgerOf w) ≡ true) where
+  parts-ledger : SoundLedger (ledgerOf w)
+  parts-ledger =
+      sound-ledger-is (w .state .settings .mtu) (w .state .settings .maxwnd) (w .state .clock) (ledgerOf w)
       (omega (arith, R .mtu-high)) (omega (arith, R .maxwnd-high)) e
 
   parts-bounded : SoundWindow (w .state .settings) (w .state .clock) (w .state .window) → Bounded (w .state)
   parts-bounded H =
       record {
-        flown = coheres-flown parts-coheres;
-        backlog-high = coheres-facts parts-coheres .backlog;
+        flown = sound-ledger-flown parts-ledger;
+        backlog-high = sound-ledger-facts parts-ledger .backlog;
         mtu-high = omega (arith, R .mtu-high);
         evs-high = ev-count-bounds (w .state .settings .«ev_count») (R .evs-allowed) .1;
         cwnd-high = omega (arith, H .cwnd-high, max-wnd-high R (w .state .window .base) (H .base-high), R .maxwnd-high);
       }
 
-pub sound-coheres : (w : World) → sound w ≡ true → Coheres (ledgerOf w)
-sound-coheres w e = let S = sound-facts w e in parts-coheres w (S .range) (S .coheres)
+pub sound-to-ledger : (w : World) → sound w ≡ true → SoundLedger (ledgerOf w)
+sound-to-ledger w e = let S = sound-facts w e in parts-ledger w (S .range) (S .sound-ledger)
 
 pub sound-even : (w : World) → sound w ≡ true → Even (w .slots)
-sound-even w e = coheres-facts (sound-coheres w e) .even
+sound-even w e = sound-ledger-facts (sound-to-ledger w e) .even
 
 pub sound-bounded : (w : World) → sound w ≡ true → Bounded (w .state)
-sound-bounded w e = let S = sound-facts w e in parts-bounded w (S .range) (S .coheres) (S .held)
+sound-bounded w e = let S = sound-facts w e in parts-bounded w (S .range) (S .sound-ledger) (S .held)
 
 -- ---- the tests in their order, as the code makes them
 
@@ -224,10 +224,10 @@ module _ (w : World) (range : Bool) (range-is : range ≡ inRange (w .state .set
 
     module _
         (h : not held ≡ false) (books : Bool)
-        (books-is : books ≡ coherent (w .state .settings .mtu) (w .state .settings .maxwnd) (w .state .clock) (ledgerOf w)) where
-      pub not-coherent : not books ≡ true → false ≡ sound w
+        (books-is : books ≡ soundLedger (w .state .settings .mtu) (w .state .settings .maxwnd) (w .state .clock) (ledgerOf w)) where
+      pub not-ledger : not books ≡ true → false ≡ sound w
       unfolding sound
-      not-coherent e = rw (sym range-is ∙ not-false range r, sym held-is ∙ not-false held h, sym books-is ∙ not-true books e)
+      not-ledger e = rw (sym range-is ∙ not-false range r, sym held-is ∙ not-false held h, sym books-is ∙ not-true books e)
 
       module _ (l : not books ≡ false) where
         pub tests-bounded : Bounded (w .state)
@@ -248,15 +248,15 @@ module _ (w : World) (range : Bool) (range-is : range ≡ inRange (w .state .set
 -- a state that the rule names is sound where its parts are
 pub stated-sound :
     (s : Settings) (f : Flow) (t : Totals) (v : Window) (time cursor : ℕ) (r : Ring) (times : List ℕ) →
-    InRange s → SoundWindow s time v → coherent (s .mtu) (s .maxwnd) time (ledger f t r) ≡ true → time < timeEnd →
+    InRange s → SoundWindow s time v → soundLedger (s .mtu) (s .maxwnd) time (ledger f t r) ≡ true → time < timeEnd →
     length times ≡ s .«ev_count» → timesOk times ≡ true → cursor < s .«ev_count» → sound (world (stateOf s f t v time cursor) r times) ≡ true
 unfolding stateOf
-stated-sound s f t v time cursor r times range held coheres clock long ok at =
+stated-sound s f t v time cursor r times range held sound-ledger clock long ok at =
     facts-sound (world (stateOf s f t v time cursor) r times)
     (record {
       range = range;
       held = held;
-      coheres = coheres;
+      sound-ledger = sound-ledger;
       clock-ok = clock;
       times-long = long;
       times-ok = ok;
@@ -266,7 +266,7 @@ stated-sound s f t v time cursor r times range held coheres clock long ok at =
 
 pub settled-sound :
     (time : ℕ) (c : Controller) (l : Ledger) (v : Window) (times : List ℕ) →
-    InRange (c .settings) → SoundWindow (c .settings) time v → coherent (c .settings .mtu) (c .settings .maxwnd) time l ≡ true → time < timeEnd →
+    InRange (c .settings) → SoundWindow (c .settings) time v → soundLedger (c .settings .mtu) (c .settings .maxwnd) time l ≡ true → time < timeEnd →
     length times ≡ c .settings .«ev_count» → timesOk times ≡ true → c .cursor < c .settings .«ev_count» → sound (settled time c l v times) ≡ true
 unfolding settled
 settled-sound time c l v times = stated-sound (c .settings) (l .flow) (l .totals) v time (c .cursor) (l .slots) times

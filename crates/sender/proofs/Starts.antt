@@ -22,9 +22,9 @@ use Rattle.window.specs.declared.Settings.{Settings}
 use Rattle.window.proofs.Tests.{ev-count-bounds, range-facts, fresh-window}
 use Rattle.ledger.specs.Packets.{none, sumOf}
 use Rattle.ledger.specs.Ring.{Ring, ring, ledger, capOf, packetAt, queueOf, tabulate, laid, longOf}
-use Rattle.ledger.specs.Coherent.{isCapacity, isRing, coherent, Even}
+use Rattle.ledger.specs.Sound.{isCapacity, isRing, soundLedger, Even}
 use Rattle.ledger.proofs.Geometry.{cap-facts, laid-queue}
-use Rattle.ledger.proofs.Facts.{ring-even, stands-laid, packets-laid, tallies-test, coherent-whole}
+use Rattle.ledger.proofs.Facts.{ring-even, stands-laid, packets-laid, tallies-test, sound-ledger-whole}
 use Rattle.sender.specs.World.{world, Answered, answered}
 use Rattle.sender.specs.Named.{phaseOf}
 use Rattle.sender.specs.Sound.{timesOk, sound}
@@ -108,15 +108,15 @@ ring-cap r e =
     let b = a && eqb (length (r .size)) (capOf r) in
     both a _ (both b _ (both (b && eqb (length (r .sent)) (capOf r)) _ e .0) .0) .0
 
-fresh-coherent :
-    (mtu maxwnd psn : ℕ) (r : Ring) → psn < psns → isRing r ≡ true → coherent mtu maxwnd 0 (ledger (freshFlow psn) freshTotals (clearRing r)) ≡ true
+fresh-ledger :
+    (mtu maxwnd psn : ℕ) (r : Ring) → psn < psns → isRing r ≡ true → soundLedger mtu maxwnd 0 (ledger (freshFlow psn) freshTotals (clearRing r)) ≡ true
 unfolding longOf sumOf
-fresh-coherent mtu maxwnd psn r fits e =
+fresh-ledger mtu maxwnd psn r fits e =
     let f = freshFlow psn in
     let ok = ring-cap r e in
     let n : longOf f ≡ 0 = minus-self psns psn (omega arith) in
     rw (clear-laid r psn ok (ring-even r e))
-    (coherent-whole mtu maxwnd 0 (ledger f freshTotals (laid (capOf r) psn []))
+    (sound-ledger-whole mtu maxwnd 0 (ledger f freshTotals (laid (capOf r) psn []))
     (stands-laid (capOf r) f [] ok mtu 0 (omega arith) (λ k h. absurd (let z : ⊥ = omega arith in z)) (λ h. absurd (let z : ⊥ = omega arith in z)) n
     fits fits (omega arith) (omega arith))
     (rw (packets-laid (capOf r) f [] ok n (omega arith))
@@ -137,7 +137,7 @@ module _ (s : Settings) (r : Ring) (times : List ℕ) where
       (record {
         range = R;
         held = fresh-window R;
-        coheres = fresh-coherent (s .mtu) (s .maxwnd) (s .«first_psn») r (R .psn-high) (p .0);
+        sound-ledger = fresh-ledger (s .mtu) (s .maxwnd) (s .«first_psn») r (R .psn-high) (p .0);
         clock-ok = omega arith;
         times-long = length-replicate {A = ℕ} (length times) 0 ∙ eqb-true (length times) (s .«ev_count») (p .1);
         times-ok = times-zero (length times);

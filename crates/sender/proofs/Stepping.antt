@@ -35,13 +35,13 @@ use Rattle.paths.proofs.Chosen.{choice-inside}
 use Rattle.ledger.specs.Packets.{isFlying, isMarked, isOut}
 use Rattle.ledger.specs.Bounds.{sizeLeast, backlogMost, Flown}
 use Rattle.ledger.specs.Ring.{Ring, Ledger, ledger, capOf, longOf, packets, packetOf}
-use Rattle.ledger.specs.Coherent.{coherent}
+use Rattle.ledger.specs.Sound.{soundLedger}
 use Rattle.ledger.specs.Rows.{sendRows, ackRows, markRows}
 use Rattle.ledger.specs.Steps.{suppliedOf, pushedOf, resentOf, markedOf, ackedOf, newlyOf}
 use Rattle.ledger.specs.declared.Flow.{Flow}
 use Rattle.ledger.specs.declared.Totals.{Totals}
 use Rattle.ledger.specs.declared.Packet.{Packet}
-use Rattle.ledger.proofs.Facts.{coherent-parts, coherent-whole, stands-facts, stands-later, tallies-facts, packet-live, packet-some}
+use Rattle.ledger.proofs.Facts.{sound-ledger-parts, sound-ledger-whole, stands-facts, stands-later, tallies-facts, packet-live, packet-some}
 use Rattle.ledger.proofs.Signs.{flown-wide, word}
 use Rattle.ledger.proofs.Judging.{resend-facts, mark-facts}
 use Rattle.ledger.proofs.Sends.{supply-keeps, new-room, push-keeps, resend-keeps, flies}
@@ -145,7 +145,7 @@ pub record Ready (s : Settings) (time : ℕ) (v : Window) (l : Ledger) : Type 0 
   pub range : InRange s
   pub held : SoundWindow s time v
   pub early : time < timeEnd
-  pub coheres : coherent (s .mtu) (s .maxwnd) time l ≡ true
+  pub sound-ledger : soundLedger (s .mtu) (s .maxwnd) time l ≡ true
   pub flown : Flown (s .maxwnd) (l .totals .«in_flight»)
 
 module _ {s : Settings} {time : ℕ} {v : Window} {l : Ledger} (R : Ready s time v l) where
@@ -169,15 +169,15 @@ under (negsuc a) m n e l = refl
 
 module _ {w : World} (S : SoundFacts w) where
   ready-of : {time : ℕ} (l : Ledger) → Timely time (w .state)
-      → coherent (w .state .settings .mtu) (w .state .settings .maxwnd) time l ≡ true → Ready (w .state .settings) time (w .state .window) l
+      → soundLedger (w .state .settings .mtu) (w .state .settings .maxwnd) time l ≡ true → Ready (w .state .settings) time (w .state .window) l
   ready-of {time} l t co =
       let s = w .state .settings in
-      let p = coherent-parts (s .mtu) (s .maxwnd) time l co in
+      let p = sound-ledger-parts (s .mtu) (s .maxwnd) time l co in
       record {
         range = S .range;
         held = window-later (S .held) (t .later);
         early = t .early;
-        coheres = co;
+        sound-ledger = co;
         flown = tallies-facts (s .maxwnd) (l .totals) (packets (l .flow) (l .slots)) (p .1) .3;
       }
 
@@ -197,15 +197,15 @@ module _ {w : World} (S : SoundFacts w) where
   -- new data
   pub supply-ready : {time : ℕ} (bytes : ℕ) → Timely time (w .state) → w .state .flow .backlog + bytes ≤ backlogMost
       → Ready (w .state .settings) time (w .state .window) (ledger (suppliedOf bytes (w .state .flow)) (w .state .totals) (w .slots))
-  supply-ready {time} bytes t h = ready-of _ t (supply-keeps _ _ _ time bytes (ledgerOf w) (S .coheres) (t .later) h)
+  supply-ready {time} bytes t h = ready-of _ t (supply-keeps _ _ _ time bytes (ledgerOf w) (S .sound-ledger) (t .later) h)
 
   -- a path choice
   pub path-ready : {time : ℕ} → Timely time (w .state) → Ready (w .state .settings) time (w .state .window) (ledgerOf w)
   path-ready {time} t =
       let s = w .state .settings in
-      let p = coherent-parts (s .mtu) (s .maxwnd) (w .state .clock) (ledgerOf w) (S .coheres) in
+      let p = sound-ledger-parts (s .mtu) (s .maxwnd) (w .state .clock) (ledgerOf w) (S .sound-ledger) in
       ready-of (ledgerOf w) t
-      (coherent-whole (s .mtu) (s .maxwnd) time (ledgerOf w) (stands-later (s .mtu) (w .state .clock) time _ _ (p .0) (t .later)) (p .1))
+      (sound-ledger-whole (s .mtu) (s .maxwnd) time (ledgerOf w) (stands-later (s .mtu) (w .state .clock) time _ _ (p .0) (t .later)) (p .1))
 
   -- a send
   module _ {time : ℕ} {a : Send} (A : Sendable time a (w .state) (w .slots)) where
@@ -213,7 +213,7 @@ module _ {w : World} (S : SoundFacts w) where
     push-asks e =
         let c = w .state in
         new-room (c .settings .mtu) (c .clock) (c .flow) (w .slots)
-        (stands-facts _ _ _ _ (coherent-parts _ _ _ (ledgerOf w) (S .coheres) .0)) (a .psn) (a .size) (rw e at (A .rows))
+        (stands-facts _ _ _ _ (sound-ledger-parts _ _ _ (ledgerOf w) (S .sound-ledger) .0)) (a .psn) (a .size) (rw e at (A .rows))
 
     pub resend-asks : a .resend ≡ true → isMarked (packetOf (w .state .flow) (w .slots) (a .psn)) ≡ true
     resend-asks e = resend-facts (w .state .flow) (w .slots) (a .psn) (a .size) (rw e at (A .rows)) .0
@@ -224,10 +224,10 @@ module _ {w : World} (S : SoundFacts w) where
         let s = w .state .settings in
         let under = room-under (A .room) in
         ready-of _ (A .timely)
-        (so-both (λ (l : Ledger). coherent (s .mtu) (s .maxwnd) time l ≡ true) (a .resend) _ _
-        (λ e. resend-keeps (s .mtu) (s .maxwnd) (w .state .clock) time (a .psn) (a .size) (ledgerOf w) (S .coheres) (rw e at (A .rows)) (A .timely .later) under)
+        (so-both (λ (l : Ledger). soundLedger (s .mtu) (s .maxwnd) time l ≡ true) (a .resend) _ _
+        (λ e. resend-keeps (s .mtu) (s .maxwnd) (w .state .clock) time (a .psn) (a .size) (ledgerOf w) (S .sound-ledger) (rw e at (A .rows)) (A .timely .later) under)
         (λ e.
-        push-keeps (s .mtu) (s .maxwnd) (w .state .clock) time (a .psn) (a .size) (ledgerOf w) (S .coheres) (rw e at (A .rows)) (A .timely .later)
+        push-keeps (s .mtu) (s .maxwnd) (w .state .clock) time (a .psn) (a .size) (ledgerOf w) (S .sound-ledger) (rw e at (A .rows)) (A .timely .later)
         (A .least) (A .most) under))
 
   -- an ACK
@@ -236,7 +236,7 @@ module _ {w : World} (S : SoundFacts w) where
   ack-ready {time} {a} A =
       let s = w .state .settings in
       ready-of _ (A .timely)
-      (ack-keeps (a .cum) (a .map) (a .count) (s .mtu) (s .maxwnd) (w .state .clock) time (ledgerOf w) (S .coheres) (A .count-ok) (A .rows)
+      (ack-keeps (a .cum) (a .map) (a .count) (s .mtu) (s .maxwnd) (w .state .clock) time (ledgerOf w) (S .sound-ledger) (A .count-ok) (A .rows)
       (A .timely .later))
 
   -- a NACK or a loss
@@ -247,7 +247,7 @@ module _ {w : World} (S : SoundFacts w) where
     pub mark-size : packetOf (w .state .flow) (w .slots) psn .size ≤ w .state .settings .mtu
     mark-size =
         let c = w .state in
-        let F = stands-facts (c .settings .mtu) (c .clock) (c .flow) (w .slots) (coherent-parts _ _ _ (ledgerOf w) (S .coheres) .0) in
+        let F = stands-facts (c .settings .mtu) (c .clock) (c .flow) (w .slots) (sound-ledger-parts _ _ _ (ledgerOf w) (S .sound-ledger) .0) in
         let h = packet-some (c .flow) (w .slots) psn (omega (arith, flies (packetOf (c .flow) (w .slots) psn) mark-flies)) in
         packet-live (c .settings .mtu) (c .clock) (c .flow) (w .slots) F psn h .size-most
 
@@ -255,7 +255,7 @@ module _ {w : World} (S : SoundFacts w) where
     marked-ready =
         let s = w .state .settings in
         ready-of _ (A .timely)
-        (mark-keeps (s .mtu) (s .maxwnd) (w .state .clock) time psn (ledgerOf w) (S .coheres) (A .rows) (A .timely .later))
+        (mark-keeps (s .mtu) (s .maxwnd) (w .state .clock) time psn (ledgerOf w) (S .sound-ledger) (A .rows) (A .timely .later))
 
 -- ---- what the code leaves is the definition's world
 

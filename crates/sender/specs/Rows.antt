@@ -14,7 +14,7 @@ use Rattle.window.specs.Range.{inRange}
 use Rattle.window.specs.declared.Settings.{Settings}
 use Rattle.ledger.specs.Bounds.{sizeLeast, backlogMost}
 use Rattle.ledger.specs.Ring.{Ring}
-use Rattle.ledger.specs.Coherent.{isRing}
+use Rattle.ledger.specs.Sound.{isRing}
 use Rattle.ledger.specs.Rows.{sendRows, ackRows, markRows}
 use Rattle.sender.specs.Limits.{timeEnd, reasonMost}
 use Rattle.sender.specs.World.{World}

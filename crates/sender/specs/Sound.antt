@@ -8,7 +8,7 @@ use lib.Dec.{ltb, eqb}
 use Rattle.window.specs.Limits.{laterEnd}
 use Rattle.window.specs.Range.{inRange}
 use Rattle.window.specs.Sound.{soundWindow}
-use Rattle.ledger.specs.Coherent.{coherent}
+use Rattle.ledger.specs.Sound.{soundLedger}
 use Rattle.sender.specs.Limits.{timeEnd}
 use Rattle.sender.specs.World.{World, ledgerOf}
 use Rattle.sender.specs.Named.{phaseOf, phaseNumber}
@@ -28,7 +28,7 @@ sound w =
     let c = w .state in
     inRange (c .settings)
     && soundWindow (c .settings) (c .clock) (c .window)
-    && coherent (c .settings .mtu) (c .settings .maxwnd) (c .clock) (ledgerOf w)
+    && soundLedger (c .settings .mtu) (c .settings .maxwnd) (c .clock) (ledgerOf w)
     && ltb (c .clock) timeEnd
     && eqb (length (w .times)) (c .settings .«ev_count»)
     && timesOk (w .times)

@@ -15,7 +15,7 @@ ghost use lib.Dec.{ltb, leb};
 ghost use Rattle.rules.specs.Rows.{firstOf};
 ghost use Rattle.rules.specs.Verdict.{numberOf};
 ghost use Rattle.ledger.specs.Lent.{ringGiven, ringBefore};
-ghost use Rattle.ledger.specs.Coherent.{Even};
+ghost use Rattle.ledger.specs.Sound.{Even};
 ghost use Rattle.sender.specs.Limits.{timeEnd};
 ghost use Rattle.sender.specs.Bounds.{Bounded, roomAfter};
 ghost use Rattle.sender.specs.Rows.{newDataRows, sendAllRows, ackAllRows, nackAllRows, lossAllRows, pathRows};

@@ -42,7 +42,7 @@ pub fn is_sound<'a>(
     if !window::bounds::is_sound(settings, c.clock, window) {
         return false;
     }
-    if !ledger::whole::is_coherent(
+    if !ledger::sound::is_sound(
         Books { flow, totals },
         status,
         size,

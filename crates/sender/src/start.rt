@@ -135,7 +135,7 @@ pub fn set_up<'a, 'b, 'c, 'd, 'e>(
     if !window::bounds::in_range(settings) {
         return not_set_up(Verdict::Setting);
     }
-    if !(ledger::whole::is_ring(status, size, sent, resent)
+    if !(ledger::sound::is_ring(status, size, sent, resent)
         & (evs.len() as u64 == settings.ev_count)) {
         return not_set_up(Verdict::Unsound);
     }

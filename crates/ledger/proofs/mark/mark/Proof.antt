@@ -5,8 +5,8 @@ use lib.IntN.{ℤ, pos, _-ℤ_}
 use borrow.Author.Needs.{needs}
 use Rattle.ledger.specs.Ring.{Ledger, ring, ledger, packetOf}
 use Rattle.ledger.specs.declared.Packet.{Packet}
-use Rattle.ledger.proofs.Facts.{coheres-facts}
-use Rattle.ledger.proofs.Signs.{coheres-flown, word, flown-word}
+use Rattle.ledger.proofs.Facts.{sound-ledger-facts}
+use Rattle.ledger.proofs.Signs.{sound-ledger-flown, word, flown-word}
 use Rattle.ledger.proofs.Marks.{Markable, mark-ready, mark-is}
 use Rattle.ledger.proofs.mark.mark.Statement.{statement}
 use Rattle.ledger.proofs.mark.mark.Tie as tie
@@ -22,13 +22,13 @@ ready : (s : tie.Start) (x : Packet) → x ≡ packetOf (books-in s .flow) (book
 ready s x e = mark-ready (books-in s) (s .pre .0) (s .args .psn) (s .pre .1) x e
 
 find-requires : tie.Need-find-requires
-find-requires c κs = coheres-facts (c .before .before .before .before .before .before .before .pre .0) .even
+find-requires c κs = sound-ledger-facts (c .before .before .before .before .before .before .before .pre .0) .even
 
 cast-bytes : tie.Need-cast-bytes
 cast-bytes c = search needs
 
 place-requires : tie.Need-place-requires
-place-requires c κs = coheres-facts (c .before .before .before .before .before .before .before .before .before .pre .0) .cap
+place-requires c κs = sound-ledger-facts (c .before .before .before .before .before .before .before .before .before .pre .0) .cap
 
 slice-write-status : tie.Need-slice-write-status
 slice-write-status c = search needs
@@ -48,7 +48,7 @@ less-requires : tie.Need-less-requires
 less-requires c κs =
     let f = c .before .before .before in
     let s = f .before .before .before .before .before .before .before .before in (
-      flown-word (s .args .books .totals .«in_flight») (coheres-flown (s .pre .0)),
+      flown-word (s .args .books .totals .«in_flight») (sound-ledger-flown (s .pre .0)),
       ready s (f .find .result) (f .find .ensures) .small,
     )
 
@@ -65,7 +65,7 @@ returns c =
     let x = f .find .result in
     mark-is l (s .pre .0) (a .psn) (s .pre .1) x (f .find .ensures) (omega (arith, s .fits)) (p .place .result) (c .less .result)
     (p .place .ensures .0)
-    (c .less .ensures ∙ ap (λ (z : ℤ). z -ℤ pos (x .size)) (word (l .totals .«in_flight») (coheres-flown (s .pre .0))))
+    (c .less .ensures ∙ ap (λ (z : ℤ). z -ℤ pos (x .size)) (word (l .totals .«in_flight») (sound-ledger-flown (s .pre .0))))
 
 pub mark-spec : {M : Type 1} → statement M
 mark-spec =

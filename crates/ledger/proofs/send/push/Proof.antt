@@ -4,8 +4,8 @@ use native.Mathlib.Omega.{arith}
 use lib.IntN.{ℤ, pos, _+ℤ_}
 use borrow.Author.Needs.{needs}
 use Rattle.ledger.specs.Ring.{Ledger, ring, ledger}
-use Rattle.ledger.proofs.Facts.{coheres-facts}
-use Rattle.ledger.proofs.Signs.{coheres-flown, word, flown-word}
+use Rattle.ledger.proofs.Facts.{sound-ledger-facts}
+use Rattle.ledger.proofs.Signs.{sound-ledger-flown, word, flown-word}
 use Rattle.ledger.proofs.Sends.{push-is}
 use Rattle.ledger.proofs.send.push.Statement.{statement}
 use Rattle.ledger.proofs.send.push.Tie as tie
@@ -17,10 +17,10 @@ books-in s =
     (ring (s .args .status .now) (s .args .size .now) (s .args .sent .now) (s .args .resent .now))
 
 place-requires : tie.Need-place-requires
-place-requires c κs = coheres-facts (c .before .before .before .before .before .before .pre .0) .cap
+place-requires c κs = sound-ledger-facts (c .before .before .before .before .before .before .pre .0) .cap
 
 write-requires : tie.Need-write-requires
-write-requires c κs = let p = c .before .before .before .before in (coheres-facts (p .before .before .before .before .before .before .before .pre .0) .even, p .place .ensures .1)
+write-requires c κs = let p = c .before .before .before .before in (sound-ledger-facts (p .before .before .before .before .before .before .before .pre .0) .even, p .place .ensures .1)
 
 psn-plus-requires : tie.Need-psn-plus-requires
 psn-plus-requires c κs = search needs
@@ -34,7 +34,7 @@ add-totals c = search needs
 more-requires : tie.Need-more-requires
 more-requires c κs =
     let s = c .before .before .before .before .before .before .before .before .before .before .before .before .before .before .before .before .before .before .before .before .before .before in
-    (flown-word (s .args .books .totals .«in_flight») (coheres-flown (s .pre .0)), omega (arith, s .fits))
+    (flown-word (s .args .books .totals .«in_flight») (sound-ledger-flown (s .pre .0)), omega (arith, s .fits))
 
 same-length : tie.Need-same-length
 same-length c = search needs
@@ -56,11 +56,11 @@ returns c =
     let s = p .before .before .before .before .before .before .before in
     let a = s .args in
     let l = books-in s in
-    push-is (s .pre .0 .mtu) (s .pre .0 .clock) (l .flow) (l .slots) (coheres-facts (s .pre .0)) (s .pre .1 .1)
+    push-is (s .pre .0 .mtu) (s .pre .0 .clock) (l .flow) (l .slots) (sound-ledger-facts (s .pre .0)) (s .pre .1 .1)
     (l .totals) (a .time) (a .bytes) (p .place .result) (q .psn-plus .result) (c .more .result)
     (ring (w .write .last .0) (w .write .last .1 .0) (w .write .last .1 .1 .0) (w .write .last .1 .1 .1 .0))
     (p .place .ensures .0) (q .psn-plus .ensures)
-    (c .more .ensures ∙ ap (λ (z : ℤ). z +ℤ pos (a .bytes)) (word (l .totals .«in_flight») (coheres-flown (s .pre .0))))
+    (c .more .ensures ∙ ap (λ (z : ℤ). z +ℤ pos (a .bytes)) (word (l .totals .«in_flight») (sound-ledger-flown (s .pre .0))))
     (w .write .ensures)
 
 pub push-spec : {M : Type 1} → statement M

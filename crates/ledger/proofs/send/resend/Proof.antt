@@ -5,8 +5,8 @@ use lib.IntN.{ℤ, pos, _+ℤ_}
 use borrow.Author.Needs.{needs}
 use Rattle.ledger.specs.Ring.{Ledger, ring, ledger, packetOf}
 use Rattle.ledger.specs.declared.Packet.{Packet}
-use Rattle.ledger.proofs.Facts.{coheres-facts}
-use Rattle.ledger.proofs.Signs.{coheres-flown, word, flown-word}
+use Rattle.ledger.proofs.Facts.{sound-ledger-facts}
+use Rattle.ledger.proofs.Signs.{sound-ledger-flown, word, flown-word}
 use Rattle.ledger.proofs.Sends.{Resendable, resend-ready, resend-is}
 use Rattle.ledger.proofs.send.resend.Statement.{statement}
 use Rattle.ledger.proofs.send.resend.Tie as tie
@@ -22,13 +22,13 @@ ready : (s : tie.Start) (x : Packet) → x ≡ packetOf (books-in s .flow) (book
 ready s x e = resend-ready (books-in s) (s .pre .0) (s .args .psn) (s .pre .1) x e
 
 find-requires : tie.Need-find-requires
-find-requires c κs = coheres-facts (c .before .before .before .before .before .before .before .before .before .before .pre .0) .even
+find-requires c κs = sound-ledger-facts (c .before .before .before .before .before .before .before .before .before .before .pre .0) .even
 
 cast-bytes : tie.Need-cast-bytes
 cast-bytes c = search needs
 
 place-requires : tie.Need-place-requires
-place-requires c κs = coheres-facts (c .before .before .before .before .before .before .before .before .before .before .before .before .pre .0) .cap
+place-requires c κs = sound-ledger-facts (c .before .before .before .before .before .before .before .before .before .before .before .before .pre .0) .cap
 
 once-more-requires : tie.Need-once-more-requires
 once-more-requires c κs =
@@ -36,7 +36,7 @@ once-more-requires c κs =
     ready (f .before .before .before .before .before .before .before .before .before .before .before) (f .find .result) (f .find .ensures) .resent
 
 write-requires : tie.Need-write-requires
-write-requires c κs = let p = c .before .before .before .before .before in (coheres-facts (p .before .before .before .before .before .before .before .before .before .before .before .before .before .pre .0) .even, p .place .ensures .1)
+write-requires c κs = let p = c .before .before .before .before .before in (sound-ledger-facts (p .before .before .before .before .before .before .before .before .before .before .before .before .before .pre .0) .even, p .place .ensures .1)
 
 add-totals : tie.Need-add-totals
 add-totals c = omega (arith, c .before .before .before .before .before .before .before .before .before .before .before .before .before .before .before .before .before .before .before .before .before .before .before .before .before .before .before .pre .0 .flying-most)
@@ -55,7 +55,7 @@ more-requires : tie.Need-more-requires
 more-requires c κs =
     let f = c .before .before .before .before .before .before .before .before .before .before .before .before .before .before .before .before .before in
     let s = f .before .before .before .before .before .before .before .before .before .before .before in (
-      flown-word (s .args .books .totals .«in_flight») (coheres-flown (s .pre .0)),
+      flown-word (s .args .books .totals .«in_flight») (sound-ledger-flown (s .pre .0)),
       ready s (f .find .result) (f .find .ensures) .small,
     )
 
@@ -84,7 +84,7 @@ returns c =
     resend-is l (s .pre .0) (a .psn) (s .pre .1) x (f .find .ensures) (omega (arith, s .fits)) (a .time) (p .place .result) (o .once-more .result)
     (c .more .result)
     (ring (w .write .last .0) (w .write .last .1 .0) (w .write .last .1 .1 .0) (w .write .last .1 .1 .1 .0)) (p .place .ensures .0) (o .once-more .ensures)
-    (c .more .ensures ∙ ap (λ (z : ℤ). z +ℤ pos (x .size)) (word (l .totals .«in_flight») (coheres-flown (s .pre .0))))
+    (c .more .ensures ∙ ap (λ (z : ℤ). z +ℤ pos (x .size)) (word (l .totals .«in_flight») (sound-ledger-flown (s .pre .0))))
     (w .write .ensures)
 
 pub resend-spec : {M : Type 1} → statement M

@@ -3,7 +3,7 @@ use mathlib.Core.Path.{_≡_, sym, ap, _∙_}
 use Prim.Native.Nat.{_-_, _≤_}
 use native.Mathlib.Omega.{arith}
 use borrow.Author.Needs.{needs}
-use Rattle.ledger.specs.Coherent.{allTo}
+use Rattle.ledger.specs.Sound.{allTo}
 use Rattle.ledger.specs.Stretch.{between}
 use mathlib.Core.Bool.{true}
 use Rattle.rules.specs.Test.{inside-yes}

@@ -6,7 +6,7 @@ use borrow.Author.Tests.{not-false}
 use Rattle.window.proofs.Tests.{range-facts}
 use Rattle.ledger.specs.Ring.{ring}
 use Rattle.sender.specs.World.{World, world}
-use Rattle.sender.proofs.Sounds.{not-range, not-held, not-coherent, tests-bounded, tests-left}
+use Rattle.sender.proofs.Sounds.{not-range, not-held, not-ledger, tests-bounded, tests-left}
 use Rattle.sender.proofs.sound.is_sound.Statement.{statement}
 use Rattle.sender.proofs.sound.is_sound.Tie as tie
 
@@ -30,15 +30,15 @@ returns-2 c =
     let r = c .before .before in
     not-held (given (r .before)) _ (r .before .in-range .ensures) (r .if1 .left) _ (c .before .is-sound .ensures) (c .if2 .taken)
 
-is-coherent-requires : tie.Need-is-coherent-requires
-is-coherent-requires c κs = search needs
+is-sound-requires-2 : tie.Need-is-sound-requires-2
+is-sound-requires-2 c κs = search needs
 
 returns-3 : tie.Need-returns-3
 returns-3 c =
     let h = c .before .before in
     let r = h .before .before in
-    not-coherent (given (r .before)) _ (r .before .in-range .ensures) (r .if1 .left) _ (h .before .is-sound .ensures) (h .if2 .left) _
-    (c .before .is-coherent .ensures) (c .if3 .taken)
+    not-ledger (given (r .before)) _ (r .before .in-range .ensures) (r .if1 .left) _ (h .before .is-sound .ensures) (h .if2 .left) _
+    (c .before .is-sound2 .ensures) (c .if3 .taken)
 
 times-ok-requires : tie.Need-times-ok-requires
 times-ok-requires c κs = search needs
@@ -56,7 +56,7 @@ phase-of-requires c κs =
     let r = h .before .before in
     let B =
     tests-bounded (given (r .before)) _ (r .before .in-range .ensures) (r .if1 .left) _ (h .before .is-sound .ensures) (h .if2 .left) _
-    (l .before .is-coherent .ensures) (l .if3 .left) in
+    (l .before .is-sound2 .ensures) (l .if3 .left) in
     (B .flown, (B .mtu-high, B .cwnd-high))
 
 phase-number-requires-2 : tie.Need-phase-number-requires-2
@@ -68,7 +68,7 @@ returns-4 c =
     let h = l .before .before in
     let r = h .before .before in
     tests-left (given (r .before)) _ (r .before .in-range .ensures) (r .if1 .left) _ (h .before .is-sound .ensures) (h .if2 .left) _
-    (l .before .is-coherent .ensures) (l .if3 .left) _ _ _ _ (c .before .before .before .before .before .times-ok .ensures) (c .before .before .phase-number .ensures)
+    (l .before .is-sound2 .ensures) (l .if3 .left) _ _ _ _ (c .before .before .before .before .before .times-ok .ensures) (c .before .before .phase-number .ensures)
     (c .phase-number2 .ensures) (c .before .phase-of .ensures)
 
 pub is-sound-spec : {M : Type 1} → statement M
@@ -79,7 +79,7 @@ is-sound-spec =
     returns
     is-sound-requires
     returns-2
-    is-coherent-requires
+    is-sound-requires-2
     returns-3
     times-ok-requires
     cast-result

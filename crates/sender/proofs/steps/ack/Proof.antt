@@ -4,7 +4,7 @@ use borrow.Author.Needs.{needs}
 use native.Mathlib.Omega.{arith}
 use Rattle.ledger.specs.Ring.{Ledger, ring, ledger}
 use Rattle.sender.specs.World.{World, world}
-use Rattle.sender.proofs.Sounds.{SoundFacts, sound-facts, sound-even, sound-coheres}
+use Rattle.sender.proofs.Sounds.{SoundFacts, sound-facts, sound-even, sound-to-ledger}
 use Rattle.sender.proofs.Stepping.{Ackable, ack-facts, avoid-asks, Ready, ready-above, ready-word, state-asks, ack-ready, sample-at, sampled-at, ack-is, ack-says}
 use Rattle.sender.proofs.steps.ack.Statement.{statement}
 use Rattle.sender.proofs.steps.ack.Tie as tie
@@ -49,7 +49,7 @@ sample-in-requires : tie.Need-sample-in-requires
 sample-in-requires c κs = search needs
 
 ack-requires : tie.Need-ack-requires
-ack-requires c κs = let s = c .before .before .before .before .before .before .before .before .before .before .before .before .before .before .before .before .before .before .before .before .before .before in (sound-coheres (world-in s) (s .pre .0), accepted s .rows)
+ack-requires c κs = let s = c .before .before .before .before .before .before .before .before .before .before .before .before .before .before .before .before .before .before .before .before .before .before in (sound-to-ledger (world-in s) (s .pre .0), accepted s .rows)
 
 ack-requires-2 : tie.Need-ack-requires-2
 ack-requires-2 c κs =

@@ -3,7 +3,7 @@
 use borrow.Author.Needs.{needs}
 use Rattle.ledger.specs.Ring.{Ledger, ring, ledger}
 use Rattle.sender.specs.World.{World, world}
-use Rattle.sender.proofs.Sounds.{SoundFacts, sound-facts, sound-even, sound-coheres}
+use Rattle.sender.proofs.Sounds.{SoundFacts, sound-facts, sound-even, sound-to-ledger}
 use Rattle.sender.proofs.Stepping.{Markable, loss-facts, avoid-asks, Ready, ready-above, ready-word, state-asks, mark-flies, mark-size, marked-ready, loss-is}
 use Rattle.sender.proofs.steps.loss.Statement.{statement}
 use Rattle.sender.proofs.steps.loss.Tie as tie
@@ -39,7 +39,7 @@ find-requires : tie.Need-find-requires
 find-requires c κs = let s = c .before .before .before .before .before .before .before .before .before .before in sound-even (world-in s) (s .pre .0)
 
 mark-requires : tie.Need-mark-requires
-mark-requires c κs = let s = c .before .before .before .before .before .before .before .before .before .before .before .before in (sound-coheres (world-in s) (s .pre .0), mark-flies (facts s) (accepted s))
+mark-requires c κs = let s = c .before .before .before .before .before .before .before .before .before .before .before .before in (sound-to-ledger (world-in s) (s .pre .0), mark-flies (facts s) (accepted s))
 
 cast-loss : tie.Need-cast-loss
 cast-loss c = search needs

@@ -3,7 +3,7 @@
 use borrow.Author.Needs.{needs}
 use Rattle.ledger.specs.Ring.{Ledger, ring, ledger}
 use Rattle.sender.specs.World.{World, world}
-use Rattle.sender.proofs.Sounds.{SoundFacts, sound-facts, sound-even, sound-coheres}
+use Rattle.sender.proofs.Sounds.{SoundFacts, sound-facts, sound-even, sound-to-ledger}
 use Rattle.sender.proofs.Stepping.{Markable, nack-facts, avoid-asks, Ready, ready-above, ready-word, state-asks, mark-flies, mark-size, marked-ready, sample-at, sampled-at, nack-is, nack-says}
 use Rattle.sender.proofs.steps.nack.Statement.{statement}
 use Rattle.sender.proofs.steps.nack.Tie as tie
@@ -45,7 +45,7 @@ sample-in-requires : tie.Need-sample-in-requires
 sample-in-requires c κs = search needs
 
 mark-requires : tie.Need-mark-requires
-mark-requires c κs = let s = c .before .before .before .before .before .before .before .before .before .before .before .before .before .before in (sound-coheres (world-in s) (s .pre .0), mark-flies (facts s) (accepted s))
+mark-requires c κs = let s = c .before .before .before .before .before .before .before .before .before .before .before .before .before .before in (sound-to-ledger (world-in s) (s .pre .0), mark-flies (facts s) (accepted s))
 
 cast-nack : tie.Need-cast-nack
 cast-nack c = search needs

@@ -7,7 +7,7 @@ use Rattle.ledger.specs.Ring.{Ledger, ring, ledger}
 use Rattle.ledger.specs.Steps.{pushedOf, resentOf}
 use Rattle.sender.specs.World.{World, world, ledgerOf}
 use Rattle.sender.specs.Steps.{sendStep}
-use Rattle.sender.proofs.Sounds.{SoundFacts, sound-facts, sound-coheres}
+use Rattle.sender.proofs.Sounds.{SoundFacts, sound-facts, sound-to-ledger}
 use Rattle.sender.proofs.Stepping.{Sendable, send-facts, Ready, state-asks, push-asks, resend-asks, send-ready, settles}
 use Rattle.sender.proofs.steps.send.Statement.{statement}
 use Rattle.sender.proofs.steps.send.Tie as tie
@@ -59,7 +59,7 @@ resend-requires : tie.Need-resend-requires
 resend-requires c κs =
     let t = c .before .before .before .before in
     let s = t .before .before .before .before .before .before .before .before .before .before in
-    (sound-coheres (world-in s) (s .pre .0), resend-asks (facts s) (accepted s) (t .if1 .taken))
+    (sound-to-ledger (world-in s) (s .pre .0), resend-asks (facts s) (accepted s) (t .if1 .taken))
 
 state-of-requires : tie.Need-state-of-requires
 state-of-requires c κs =
@@ -90,7 +90,7 @@ push-requires : tie.Need-push-requires
 push-requires c κs =
     let t = c .before .before .before .before in
     let s = t .before .before .before .before .before .before .before .before .before .before in
-    (sound-coheres (world-in s) (s .pre .0), push-asks (facts s) (accepted s) (t .if1 .left))
+    (sound-to-ledger (world-in s) (s .pre .0), push-asks (facts s) (accepted s) (t .if1 .left))
 
 state-of-requires-2 : tie.Need-state-of-requires-2
 state-of-requires-2 c κs =

@@ -2,8 +2,8 @@
 use mir.Syntax.{w64}
 use mir.ValLaws.{toZ-ofZ}
 use Rattle.ledger.proofs.Signs.{bounds-below, bounds-above}
-use Rattle.ledger.proofs.whole.in_bounds.Statement.{statement}
-use Rattle.ledger.proofs.whole.in_bounds.Tie as tie
+use Rattle.ledger.proofs.sound.in_bounds.Statement.{statement}
+use Rattle.ledger.proofs.sound.in_bounds.Tie as tie
 
 returns : tie.Need-returns
 returns c =

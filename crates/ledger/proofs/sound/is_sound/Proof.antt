@@ -1,4 +1,4 @@
--- `is_coherent` makes the tests of `coherent`: no ring (`not-ring`), more packets than slots (`too-long`), else all that is left (`all-tests`).
+-- `is_sound` makes the tests of `soundLedger`: no ring (`not-ring`), more packets than slots (`too-long`), else all that is left (`all-tests`).
 use mathlib.Core.Path.{_≡_, refl, sym, ap, _∙_}
 use mathlib.Core.Bool.{true}
 use mir.Syntax.{w64}
@@ -10,10 +10,10 @@ use borrow.Author.Tests.{not-true, not-false}
 use Rattle.serial.specs.Psn.{psns}
 use Rattle.ledger.specs.Bounds.{inBounds}
 use Rattle.ledger.specs.Ring.{Ring, ring}
-use Rattle.ledger.specs.Coherent.{isRing, Even}
+use Rattle.ledger.specs.Sound.{isRing, Even}
 use Rattle.ledger.proofs.Facts.{ring-cap, ring-even, not-ring, too-long, all-tests}
-use Rattle.ledger.proofs.whole.is_coherent.Statement.{statement}
-use Rattle.ledger.proofs.whole.is_coherent.Tie as tie
+use Rattle.ledger.proofs.sound.is_sound.Statement.{statement}
+use Rattle.ledger.proofs.sound.is_sound.Tie as tie
 
 is-ring-requires : tie.Need-is-ring-requires
 is-ring-requires c κs = search needs
@@ -81,8 +81,8 @@ returns-3 c =
     all-tests (a .mtu) (a .maxwnd) (a .clock) (a .books .flow) (a .books .totals) (ringAt d) _ (t .before .before .long .ensures) (ringed d)
     (t .before .if2 .left) _ _ _ _ _ _ _ (t .tally .ensures) (c .before .before .before .before .before .before .before .before .before .before .before .rest .ensures) (c .before .before .before .before .before .before .before .before .before .before .head-ok .ensures) (c .in-bounds .ensures ∙ ap (inBounds (a .maxwnd)) word) (low-fits d) (next-fits d)
 
-pub is-coherent-spec : {M : Type 1} → statement M
-is-coherent-spec =
+pub is-sound-spec : {M : Type 1} → statement M
+is-sound-spec =
     tie.close
     (tie.spec
     is-ring-requires

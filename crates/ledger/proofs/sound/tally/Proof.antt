@@ -6,8 +6,8 @@ use borrow.Author.Needs.{needs}
 use Rattle.ledger.specs.Ring.{ring, capOf}
 use Rattle.ledger.proofs.Geometry.{cap-facts, place-over}
 use Rattle.ledger.proofs.Facts.{tally-low, tally-join}
-use Rattle.ledger.proofs.whole.tally.Statement.{statement}
-use Rattle.ledger.proofs.whole.tally.Tie as tie
+use Rattle.ledger.proofs.sound.tally.Statement.{statement}
+use Rattle.ledger.proofs.sound.tally.Tie as tie
 
 place-requires : tie.Need-place-requires
 place-requires c κs = search needs

@@ -6,11 +6,11 @@ use lib.Dec.{eqb}
 use borrow.Author.Needs.{needs}
 use Rattle.ledger.specs.Packets.{doneStatus, isDone}
 use Rattle.ledger.specs.Ring.{ring, capOf, packetAt}
-use Rattle.ledger.specs.Coherent.{headOk}
+use Rattle.ledger.specs.Sound.{headOk}
 use Rattle.ledger.specs.declared.Packet.{Packet}
 use Rattle.ledger.proofs.Geometry.{place-first}
-use Rattle.ledger.proofs.whole.head_ok.Statement.{statement}
-use Rattle.ledger.proofs.whole.head_ok.Tie as tie
+use Rattle.ledger.proofs.sound.head_ok.Statement.{statement}
+use Rattle.ledger.proofs.sound.head_ok.Tie as tie
 
 place-requires : tie.Need-place-requires
 place-requires c κs = search needs

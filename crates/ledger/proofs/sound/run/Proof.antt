@@ -4,8 +4,8 @@ use native.Mathlib.Omega.{arith}
 use borrow.Author.Needs.{needs}
 use Rattle.ledger.specs.Ring.{ring}
 use Rattle.ledger.proofs.Stretches.{live-all}
-use Rattle.ledger.proofs.whole.run.Statement.{statement}
-use Rattle.ledger.proofs.whole.run.Tie as tie
+use Rattle.ledger.proofs.sound.run.Statement.{statement}
+use Rattle.ledger.proofs.sound.run.Tie as tie
 
 bytes-within-requires : tie.Need-bytes-within-requires
 bytes-within-requires c κs = search needs

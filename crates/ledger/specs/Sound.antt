@@ -80,8 +80,8 @@ tallies maxwnd t xs =
     && inBounds maxwnd (t .«in_flight»)
 
 -- the ledger holds together
-unfoldable pub coherent : ℕ → ℕ → ℕ → Ledger → Bool
-coherent mtu maxwnd clock l = stands mtu clock (l .flow) (l .slots) && tallies maxwnd (l .totals) (packets (l .flow) (l .slots))
+unfoldable pub soundLedger : ℕ → ℕ → ℕ → Ledger → Bool
+soundLedger mtu maxwnd clock l = stands mtu clock (l .flow) (l .slots) && tallies maxwnd (l .totals) (packets (l .flow) (l .slots))
 
 -- four slices of one length, which is not 0 and at most 4,096
 pub record Even (r : Ring) : Type 0 where
@@ -93,7 +93,7 @@ pub record Even (r : Ring) : Type 0 where
 
 -- What a step relies on, for some settings and clock: the flow and its ring hold together, the totals are at least those of its packets and
 -- leave room, and in-flight is in its bounds. (At least and not equal: the totals may be over other packets too.)
-pub record Coheres (l : Ledger) : Type 0 where
+pub record SoundLedger (l : Ledger) : Type 0 where
   pub mtu : ℕ
   pub maxwnd : ℕ
   pub clock : ℕ

@@ -4,8 +4,8 @@ use native.Mathlib.Omega.{arith}
 use borrow.Author.Needs.{needs}
 use Rattle.ledger.specs.Ring.{ring}
 use Rattle.ledger.proofs.Stretches.{zero-all}
-use Rattle.ledger.proofs.whole.zero_run.Statement.{statement}
-use Rattle.ledger.proofs.whole.zero_run.Tie as tie
+use Rattle.ledger.proofs.sound.zero_run.Statement.{statement}
+use Rattle.ledger.proofs.sound.zero_run.Tie as tie
 
 bytes-within-requires : tie.Need-bytes-within-requires
 bytes-within-requires c κs = search needs

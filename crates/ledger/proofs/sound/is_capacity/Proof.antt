@@ -1,8 +1,8 @@
 -- `is_capacity` is the definition's chain of comparisons.
 use mathlib.Core.Path.{refl}
-use Rattle.ledger.specs.Coherent.{isCapacity}
-use Rattle.ledger.proofs.whole.is_capacity.Statement.{statement}
-use Rattle.ledger.proofs.whole.is_capacity.Tie as tie
+use Rattle.ledger.specs.Sound.{isCapacity}
+use Rattle.ledger.proofs.sound.is_capacity.Statement.{statement}
+use Rattle.ledger.proofs.sound.is_capacity.Tie as tie
 
 returns : tie.Need-returns
 unfolding isCapacity

@@ -1,8 +1,8 @@
 -- `is_ring` is the definition's chain of comparisons, after `is_capacity`.
 use borrow.Author.Needs.{needs}
-use Rattle.ledger.specs.Coherent.{isRing}
-use Rattle.ledger.proofs.whole.is_ring.Statement.{statement}
-use Rattle.ledger.proofs.whole.is_ring.Tie as tie
+use Rattle.ledger.specs.Sound.{isRing}
+use Rattle.ledger.proofs.sound.is_ring.Statement.{statement}
+use Rattle.ledger.proofs.sound.is_ring.Tie as tie
 
 is-capacity-requires : tie.Need-is-capacity-requires
 is-capacity-requires c κs = search needs

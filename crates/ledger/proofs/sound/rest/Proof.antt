@@ -4,11 +4,11 @@ use Prim.Native.Nat.{_+_, _-_}
 use native.Mathlib.Omega.{arith}
 use borrow.Author.Needs.{needs}
 use Rattle.ledger.specs.Ring.{ring, capOf}
-use Rattle.ledger.specs.Coherent.{allTo}
+use Rattle.ledger.specs.Sound.{allTo}
 use Rattle.ledger.proofs.Geometry.{cap-facts, place-on, place-over}
 use Rattle.ledger.proofs.Facts.{rest-join}
-use Rattle.ledger.proofs.whole.rest.Statement.{statement}
-use Rattle.ledger.proofs.whole.rest.Tie as tie
+use Rattle.ledger.proofs.sound.rest.Statement.{statement}
+use Rattle.ledger.proofs.sound.rest.Tie as tie
 
 place-requires : tie.Need-place-requires
 place-requires c κs = search needs

@@ -14,7 +14,7 @@ ghost use Prim.Native.Nat.{_-_, _*_, _^_, _≤_};
 ghost use Rattle.ledger.specs.Lent.{ringGiven, ringBefore};
 ghost use Rattle.ledger.specs.Bounds.{inBounds};
 ghost use Rattle.ledger.specs.Ring.{ring, ledger, capOf};
-ghost use Rattle.ledger.specs.Coherent.{allTo, isCapacity, isRing, slotOk, headOk, coherent, Even, Tallied};
+ghost use Rattle.ledger.specs.Sound.{allTo, isCapacity, isRing, slotOk, headOk, soundLedger, Even, Tallied};
 
 // What a look over the packets finds: whether each slot is in order, and what they add up to.
 pub struct Sums {
@@ -175,7 +175,7 @@ fn in_bounds(maxwnd: u64, in_flight: i64) -> bool
 }
 
 // Whether the ledger holds together.
-pub fn is_coherent<'a>(
+pub fn is_sound<'a>(
     books: Books,
     status: &'a [u8],
     size: &'a [u32],
@@ -185,7 +185,7 @@ pub fn is_coherent<'a>(
     maxwnd: u64,
     clock: u64,
 ) -> bool
-    ensures { λ r. ⌜ r ≡ coherent mtu maxwnd clock (ledger (books .flow) (books .totals) (ringBefore status size sent resent)) ⌝ }
+    ensures { λ r. ⌜ r ≡ soundLedger mtu maxwnd clock (ledger (books .flow) (books .totals) (ringBefore status size sent resent)) ⌝ }
 {
     let flow = books.flow;
     let totals = books.totals;
