@@ -49,7 +49,7 @@ always-sound = sounded.always-sound
 
 pub cwnd-between : demand.CwndBetween
 cwnd-between s r times w es u =
-    let H = sound-facts (run w es) (sounded.always-sound s r times w es u) .held in
+    let H = sound-facts (run w es) (sounded.always-sound s r times w es u) .sound-window in
     (H .cwnd-low, H .cwnd-high)
 
 pub history : demand.History

@@ -36,7 +36,7 @@ kept-of : {w : World} (S : SoundFacts w) {time : ℕ} {l : Ledger} (R : Ready (w
 kept-of {w} S {time} {l} R {v} H on ev =
     settled-sound time (w .state) l v (avoidedIn on ev time (w .state .window .base) (w .times)) (R .range) H (R .sound-ledger) (R .early)
     (omega (arith, avoided-long on ev time (w .state .window .base) (w .times), S .times-long))
-    (avoided-ok on ev time (w .state .window .base) (w .times) (R .early) (omega (arith, S .held .base-high, S .range .rtt-high)) (S .times-ok))
+    (avoided-ok on ev time (w .state .window .base) (w .times) (R .early) (omega (arith, S .sound-window .base-high, S .range .rtt-high)) (S .times-ok))
     (S .cursor-ok)
 
 pub new-data-kept : (time bytes : ℕ) (w : World) → sound w ≡ true → firstOf (newDataRows time bytes (w .state)) ≡ 0
@@ -48,7 +48,7 @@ new-data-kept time bytes w e rows =
     let N = new-data-facts time bytes c rows in
     let R = supply-ready S bytes (N .0) (N .1) in
     stated-sound (c .settings) (suppliedOf bytes (c .flow)) (c .totals) (c .window) time (c .cursor) (w .slots) (w .times)
-    (R .range) (R .held) (R .sound-ledger) (R .early) (S .times-long) (S .times-ok) (S .cursor-ok)
+    (R .range) (R .sound-window) (R .sound-ledger) (R .early) (S .times-long) (S .times-ok) (S .cursor-ok)
 
 pub send-kept : (time : ℕ) (a : Send) (w : World) → sound w ≡ true → firstOf (sendAllRows time a (w .state) (w .slots)) ≡ 0
     → sound (sendStep time a w) ≡ true
@@ -56,7 +56,7 @@ unfolding sendStep
 send-kept time a w e rows =
     let S = sound-facts w e in
     let R = send-ready S (send-facts time a (w .state) (w .slots) rows) in
-    settled-sound time (w .state) _ (w .state .window) (w .times) (R .range) (R .held) (R .sound-ledger) (R .early) (S .times-long) (S .times-ok) (S .cursor-ok)
+    settled-sound time (w .state) _ (w .state .window) (w .times) (R .range) (R .sound-window) (R .sound-ledger) (R .early) (S .times-long) (S .times-ok) (S .cursor-ok)
 
 pub ack-kept : (time : ℕ) (a : Ack) (w : World) → sound w ≡ true → firstOf (ackAllRows time a (w .state)) ≡ 0
     → sound (ackStep time a w) ≡ true
@@ -68,7 +68,7 @@ ack-kept time a w e rows =
     let x = packetOf (c .flow) (w .slots) (a .trigger) in
     kept-of S R
     (sound-ack (R .range) _ (R .early) (R .flown .high) (newlyOf (a .count) (c .flow .held)) (a .marked)
-    (sample-bounds (isOut x) (x .resent) (a .retx) time (x .sent) (a .service)) (R .held))
+    (sample-bounds (isOut x) (x .resent) (a .retx) time (x .sent) (a .service)) (R .sound-window))
     (a .marked) (a .ev)
 
 pub nack-kept : (time : ℕ) (a : Nack) (w : World) → sound w ≡ true → firstOf (nackAllRows time a (w .state) (w .slots)) ≡ 0
@@ -81,7 +81,7 @@ nack-kept time a w e rows =
     let x = packetOf (c .flow) (w .slots) (a .psn) in
     kept-of S R
     (sound-nack (R .range) _ (R .early) (R .flown .high) (x .size) (a .reason)
-    (sample-bounds (isOut x) (x .resent) (a .retx) time (x .sent) 0) (R .held))
+    (sample-bounds (isOut x) (x .resent) (a .retx) time (x .sent) 0) (R .sound-window))
     (a .marked || eqb (a .reason) 0) (a .ev)
 
 pub loss-kept : (time : ℕ) (a : Loss) (w : World) → sound w ≡ true → firstOf (lossAllRows time a (w .state) (w .slots)) ≡ 0
@@ -91,7 +91,7 @@ loss-kept time a w e rows =
     let c = w .state in
     let S = sound-facts w e in
     let R = marked-ready S (loss-facts time a c (w .slots) rows) in
-    kept-of S R (sound-loss (R .range) _ (R .early) (R .flown .high) (packetOf (c .flow) (w .slots) (a .psn) .size) (R .held)) true (a .ev)
+    kept-of S R (sound-loss (R .range) _ (R .early) (R .flown .high) (packetOf (c .flow) (w .slots) (a .psn) .size) (R .sound-window)) true (a .ev)
 
 pub path-kept : (time : ℕ) (w : World) → sound w ≡ true → firstOf (pathRows time (w .state)) ≡ 0 → sound (pathStep time w) ≡ true
 unfolding pathStep pathState
@@ -100,7 +100,7 @@ path-kept time w e rows =
     let S = sound-facts w e in
     let R = path-ready S (time-facts time c _ rows .0) in
     stated-sound (c .settings) (c .flow) (c .totals) (c .window) time (routeOf time w .cursor) (w .slots) (w .times)
-    (R .range) (R .held) (R .sound-ledger) (R .early) (S .times-long) (S .times-ok)
+    (R .range) (R .sound-window) (R .sound-ledger) (R .early) (S .times-long) (S .times-ok)
     (taken-inside time (c .cursor) (w .times) {x = routeOf time w} refl (S .times-long) (S .cursor-ok) .1)
 
 -- ---- whatever is answered

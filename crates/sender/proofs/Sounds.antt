@@ -124,7 +124,7 @@ module _ (on : Bool) (ev time base : ℕ) (times : List ℕ) where
 -- what a sound world has
 pub record SoundFacts (w : World) : Type 0 where
   pub range : InRange (w .state .settings)
-  pub held : SoundWindow (w .state .settings) (w .state .clock) (w .state .window)
+  pub sound-window : SoundWindow (w .state .settings) (w .state .clock) (w .state .window)
   pub sound-ledger : soundLedger (w .state .settings .mtu) (w .state .settings .maxwnd) (w .state .clock) (ledgerOf w) ≡ true
   pub clock-ok : w .state .clock < timeEnd
   pub times-long : length (w .times) ≡ w .state .settings .«ev_count»
@@ -153,7 +153,7 @@ sound-facts w e =
     let first = both (inRange (c .settings)) (soundWindow (c .settings) (c .clock) (c .window)) (ledger .0) in
     record {
       range = range-facts (c .settings) (first .0);
-      held = window-facts (c .settings) (c .clock) (c .window) (first .1);
+      sound-window = window-facts (c .settings) (c .clock) (c .window) (first .1);
       sound-ledger = ledger .1;
       clock-ok = ltb-true (c .clock) timeEnd (clock .1);
       times-long = eqb-true (length (w .times)) (c .settings .«ev_count») (long .1);
@@ -172,7 +172,7 @@ facts-sound w S =
     (whole
     (whole
     (whole
-    (whole (range-test (c .settings) (S .range)) (window-test (c .settings) (c .clock) (c .window) (S .held)))
+    (whole (range-test (c .settings) (S .range)) (window-test (c .settings) (c .clock) (c .window) (S .sound-window)))
     (S .sound-ledger))
     (lt-ltb (c .clock) timeEnd (S .clock-ok)))
     (eq-eqb (length (w .times)) (c .settings .«ev_count») (S .times-long)))
@@ -207,7 +207,7 @@ pub sound-even : (w : World) → sound w ≡ true → Even (w .slots)
 sound-even w e = sound-ledger-facts (sound-to-ledger w e) .even
 
 pub sound-bounded : (w : World) → sound w ≡ true → Bounded (w .state)
-sound-bounded w e = let S = sound-facts w e in parts-bounded w (S .range) (S .sound-ledger) (S .held)
+sound-bounded w e = let S = sound-facts w e in parts-bounded w (S .range) (S .sound-ledger) (S .sound-window)
 
 -- ---- the tests in their order, as the code makes them
 
@@ -216,24 +216,24 @@ module _ (w : World) (range : Bool) (range-is : range ≡ inRange (w .state .set
   unfolding sound
   not-range e = rw (sym range-is ∙ not-true range e)
 
-  module _ (r : not range ≡ false) (held : Bool)
-      (held-is : held ≡ soundWindow (w .state .settings) (w .state .clock) (w .state .window)) where
-    pub not-held : not held ≡ true → false ≡ sound w
+  module _ (r : not range ≡ false) (window-ok : Bool)
+      (window-is : window-ok ≡ soundWindow (w .state .settings) (w .state .clock) (w .state .window)) where
+    pub not-window : not window-ok ≡ true → false ≡ sound w
     unfolding sound
-    not-held e = rw (sym range-is ∙ not-false range r, sym held-is ∙ not-true held e)
+    not-window e = rw (sym range-is ∙ not-false range r, sym window-is ∙ not-true window-ok e)
 
     module _
-        (h : not held ≡ false) (books : Bool)
+        (h : not window-ok ≡ false) (books : Bool)
         (books-is : books ≡ soundLedger (w .state .settings .mtu) (w .state .settings .maxwnd) (w .state .clock) (ledgerOf w)) where
       pub not-ledger : not books ≡ true → false ≡ sound w
       unfolding sound
-      not-ledger e = rw (sym range-is ∙ not-false range r, sym held-is ∙ not-false held h, sym books-is ∙ not-true books e)
+      not-ledger e = rw (sym range-is ∙ not-false range r, sym window-is ∙ not-false window-ok h, sym books-is ∙ not-true books e)
 
       module _ (l : not books ≡ false) where
         pub tests-bounded : Bounded (w .state)
         tests-bounded =
             parts-bounded w (range-facts (w .state .settings) (sym range-is ∙ not-false range r)) (sym books-is ∙ not-false books l)
-            (window-facts (w .state .settings) (w .state .clock) (w .state .window) (sym held-is ∙ not-false held h))
+            (window-facts (w .state .settings) (w .state .clock) (w .state .window) (sym window-is ∙ not-false window-ok h))
 
         pub tests-left :
             (ok : Bool) (m n : ℕ) (name : Phase) → ok ≡ timesOk (w .times) → m ≡ phaseNumber (w .state .phase) → n ≡ phaseNumber name →
@@ -241,7 +241,7 @@ module _ (w : World) (range : Bool) (range-is : range ≡ inRange (w .state .set
             (ltb (w .state .clock) timeEnd && eqb (length (w .times)) (w .state .settings .«ev_count») && ok && ltb (w .state .cursor) (w .state .settings .«ev_count») && eqb m n) ≡ sound w
         unfolding sound namedOk
         tests-left ok m n name t p q is =
-            rw (sym range-is ∙ not-false range r, sym held-is ∙ not-false held h, sym books-is ∙ not-false books l, t, p, q, is)
+            rw (sym range-is ∙ not-false range r, sym window-is ∙ not-false window-ok h, sym books-is ∙ not-false books l, t, p, q, is)
 
 -- ---- the way back
 
@@ -251,11 +251,11 @@ pub stated-sound :
     InRange s → SoundWindow s time v → soundLedger (s .mtu) (s .maxwnd) time (ledger f t r) ≡ true → time < timeEnd →
     length times ≡ s .«ev_count» → timesOk times ≡ true → cursor < s .«ev_count» → sound (world (stateOf s f t v time cursor) r times) ≡ true
 unfolding stateOf
-stated-sound s f t v time cursor r times range held sound-ledger clock long ok at =
+stated-sound s f t v time cursor r times range window-ok sound-ledger clock long ok at =
     facts-sound (world (stateOf s f t v time cursor) r times)
     (record {
       range = range;
-      held = held;
+      sound-window = window-ok;
       sound-ledger = sound-ledger;
       clock-ok = clock;
       times-long = long;

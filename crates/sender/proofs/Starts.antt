@@ -136,7 +136,7 @@ module _ (s : Settings) (r : Ring) (times : List ℕ) where
       facts-sound (world (freshState s) (clearRing r) (zeros times))
       (record {
         range = R;
-        held = fresh-window R;
+        sound-window = fresh-window R;
         sound-ledger = fresh-ledger (s .mtu) (s .maxwnd) (s .«first_psn») r (R .psn-high) (p .0);
         clock-ok = omega arith;
         times-long = length-replicate {A = ℕ} (length times) 0 ∙ eqb-true (length times) (s .«ev_count») (p .1);

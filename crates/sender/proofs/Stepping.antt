@@ -143,7 +143,7 @@ loss-facts time a c r e =
 
 pub record Ready (s : Settings) (time : ℕ) (v : Window) (l : Ledger) : Type 0 where
   pub range : InRange s
-  pub held : SoundWindow s time v
+  pub sound-window : SoundWindow s time v
   pub early : time < timeEnd
   pub sound-ledger : soundLedger (s .mtu) (s .maxwnd) time l ≡ true
   pub flown : Flown (s .maxwnd) (l .totals .«in_flight»)
@@ -175,7 +175,7 @@ module _ {w : World} (S : SoundFacts w) where
       let p = sound-ledger-parts (s .mtu) (s .maxwnd) time l co in
       record {
         range = S .range;
-        held = window-later (S .held) (t .later);
+        sound-window = window-later (S .sound-window) (t .later);
         early = t .early;
         sound-ledger = co;
         flown = tallies-facts (s .maxwnd) (l .totals) (packets (l .flow) (l .slots)) (p .1) .3;
@@ -187,12 +187,12 @@ module _ {w : World} (S : SoundFacts w) where
   unfolding hasRoom
   room-under e =
       under (w .state .totals .«in_flight» +ℤ pos (w .state .settings .mtu)) (w .state .window .cwnd) (w .state .settings .maxwnd) e
-      (omega (arith, S .held .cwnd-high, max-wnd-high (S .range) (w .state .window .base) (S .held .base-high)))
+      (omega (arith, S .sound-window .cwnd-high, max-wnd-high (S .range) (w .state .window .base) (S .sound-window .base-high)))
 
   -- the EV and the base of an event that changes an EV's time
   pub avoid-asks : {time ev : ℕ} → Timely time (w .state) → ev < w .state .settings .«ev_count»
       → (ev < length (w .times)) × (time < 2 ^ 48) × (w .state .window .base ≤ 2 ^ 14)
-  avoid-asks t h = (omega (arith, S .times-long), t .early, omega (arith, S .held .base-high, S .range .rtt-high))
+  avoid-asks t h = (omega (arith, S .times-long), t .early, omega (arith, S .sound-window .base-high, S .range .rtt-high))
 
   -- new data
   pub supply-ready : {time : ℕ} (bytes : ℕ) → Timely time (w .state) → w .state .flow .backlog + bytes ≤ backlogMost

@@ -6,7 +6,7 @@ use borrow.Author.Tests.{not-false}
 use Rattle.window.proofs.Tests.{range-facts}
 use Rattle.ledger.specs.Ring.{ring}
 use Rattle.sender.specs.World.{World, world}
-use Rattle.sender.proofs.Sounds.{not-range, not-held, not-ledger, tests-bounded, tests-left}
+use Rattle.sender.proofs.Sounds.{not-range, not-window, not-ledger, tests-bounded, tests-left}
 use Rattle.sender.proofs.sound.is_sound.Statement.{statement}
 use Rattle.sender.proofs.sound.is_sound.Tie as tie
 
@@ -28,7 +28,7 @@ is-sound-requires c κs = range-facts _ (sym (c .before .in-range .ensures) ∙ 
 returns-2 : tie.Need-returns-2
 returns-2 c =
     let r = c .before .before in
-    not-held (given (r .before)) _ (r .before .in-range .ensures) (r .if1 .left) _ (c .before .is-sound .ensures) (c .if2 .taken)
+    not-window (given (r .before)) _ (r .before .in-range .ensures) (r .if1 .left) _ (c .before .is-sound .ensures) (c .if2 .taken)
 
 is-sound-requires-2 : tie.Need-is-sound-requires-2
 is-sound-requires-2 c κs = search needs

@@ -56,7 +56,7 @@ ack-requires-2 c κs =
     let p = c .before .before .before .before .before .before .before .before .before .before .before in
     let m = p .before .before .before .before .before .before in
     let R = after p in
-    (R .range, (R .held, (sampled-at _ _ _ _ _ _ (p .before .before .before .before .before .sample-in .ensures) (m .sampled .ensures), (m .before .before .before .before .before .before .before .newly .ensures .1, R .early, ready-above R))))
+    (R .range, (R .sound-window, (sampled-at _ _ _ _ _ _ (p .before .before .before .before .before .sample-in .ensures) (m .sampled .ensures), (m .before .before .before .before .before .before .before .newly .ensures .1, R .early, ready-above R))))
 
 -- what the last two calls ask are bounds that the window before the ACK and the one after it both keep: a step that hands on the wrong one of the two is
 -- refused by its promise
@@ -69,7 +69,7 @@ avoid-requires c κs =
 state-of-requires : tie.Need-state-of-requires
 state-of-requires c κs =
     let R = after (c .before .before .before .before .before .before .before .before .before .before .before .before .before .before .before .before) in
-    let old = state-asks R (R .held) in
+    let old = state-asks R (R .sound-window) in
     let new = state-asks R (c .before .before .before .before .ack2 .ensures .sound) in
     (new .0, (new .1 .0, omega (arith, old .1 .1, new .1 .1)))
 

@@ -58,7 +58,7 @@ nack-requires c κs =
     let p = c .before .before .before .before .before .before .before in
     let s = entry p in
     let R = after p in
-    (R .range, (R .held, (sampled-at _ _ _ _ _ _ (p .before .before .sample-in .ensures) (p .before .before .before .sampled .ensures), (rw (found p .find .ensures) (mark-size (facts s) (accepted s)), R .early, ready-above R))))
+    (R .range, (R .sound-window, (sampled-at _ _ _ _ _ _ (p .before .before .sample-in .ensures) (p .before .before .before .sampled .ensures), (rw (found p .find .ensures) (mark-size (facts s) (accepted s)), R .early, ready-above R))))
 
 avoid-requires : tie.Need-avoid-requires
 avoid-requires c κs = let s = c .before .before .before .before .before .before .before .before .before .before .before .before .before .before .before .before .before .before .before .before .before .before .before .before .before .before in avoid-asks (facts s) (accepted s .timely) (accepted s .ev-ok)

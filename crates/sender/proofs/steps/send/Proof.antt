@@ -65,7 +65,7 @@ state-of-requires : tie.Need-state-of-requires
 state-of-requires c κs =
     let p = c .before .before .before .before .before .before .before .before in
     let s = entry-resend p in
-    state-asks {v = s .args .c .window} {l = ledger-resend p} (rw (is-resend p) (ready s)) (ready s .held)
+    state-asks {v = s .args .c .window} {l = ledger-resend p} (rw (is-resend p) (ready s)) (ready s .sound-window)
 
 same-length : tie.Need-same-length
 same-length c = search needs
@@ -96,7 +96,7 @@ state-of-requires-2 : tie.Need-state-of-requires-2
 state-of-requires-2 c κs =
     let p = c .before .before .before .before .before .before .before .before in
     let s = entry-push p in
-    state-asks {v = s .args .c .window} {l = ledger-push p} (rw (is-push p) (ready s)) (ready s .held)
+    state-asks {v = s .args .c .window} {l = ledger-push p} (rw (is-push p) (ready s)) (ready s .sound-window)
 
 same-length-5 : tie.Need-same-length-5
 same-length-5 c = search needs
