@@ -84,3 +84,13 @@ pub fn is_accepted(v: Verdict) -> bool
         _ => false,
     }
 }
+
+// Whether a log's record is malformed.
+pub fn is_malformed(v: Verdict) -> bool
+    ensures { λ r. ⌜ r ≡ eqb (numberOf v) 12 ⌝ }
+{
+    match v {
+        Verdict::Malformed => true,
+        _ => false,
+    }
+}

@@ -1,0 +1,2 @@
+-- The laws that proofs share.
+pub mod Keys
