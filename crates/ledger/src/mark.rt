@@ -12,6 +12,7 @@ ghost use Rattle.ledger.specs.Ring.{ledger, packetOf};
 ghost use Rattle.ledger.specs.Sound.{SoundLedger};
 ghost use Rattle.ledger.specs.Steps.{markedOf};
 
+// Flying becomes marked; in-flight falls by the recorded size.
 pub fn mark<'a, 'b>(
     psn: u32,
     books: Books,

@@ -114,7 +114,7 @@ pub(crate) fn unheard(state: Controller, verdict: Verdict) -> Heard
 }
 
 impl Controller {
-    // New data in the backlog. The ring and the EV times are only read, to test number 2.
+    // There is more to send. 2, 3, 20; else the backlog rises. The ring and the EV times are only read, to test number 2.
     pub fn new_data<'a>(
         self,
         status: &'a [u8],
@@ -137,7 +137,7 @@ impl Controller {
         rely::new_data(self, status, size, sent, resent, evs, time, bytes)
     }
 
-    // A new packet or a resend.
+    // A packet goes out, a new one or a marked one once more. 2, 3, 4, 8, 5, 7, 6; else it flies. The EV times are only read.
     pub fn send<'a, 'b, 'c, 'd, 'e>(
         self,
         status: &'a mut [u8],
@@ -160,7 +160,8 @@ impl Controller {
         rely::send(self, status, size, sent, resent, evs, time, a)
     }
 
-    // An ACK.
+    // An ACK came. 2, 3, 21, 23, 24, 9, 11; else what it covers is delivered and its count taken in, then come the window's rules, and the
+    // EV's time where it is marked.
     pub fn ack<'a, 'b, 'c, 'd, 'e>(
         self,
         status: &'a mut [u8],
@@ -181,7 +182,8 @@ impl Controller {
         rely::ack(self, status, size, sent, resent, evs, time, a)
     }
 
-    // A NACK.
+    // A NACK came. 2, 3, 22, 23, 10, 11; else its packet waits to be sent again, then come the window's rules, and the EV's time where it
+    // is marked or the packet was trimmed on its way.
     pub fn nack<'a, 'b, 'c>(
         self,
         status: &'a mut [u8],
@@ -202,7 +204,7 @@ impl Controller {
         rely::nack(self, status, size, sent, resent, evs, time, a)
     }
 
-    // A loss.
+    // A packet is taken for lost. 2, 3, 23, 10, 11; else it waits to be sent again, then come the window's rules, and the EV's time.
     pub fn loss<'a, 'b, 'c>(
         self,
         status: &'a mut [u8],
@@ -225,7 +227,8 @@ impl Controller {
         rely::loss(self, status, size, sent, resent, evs, time, a)
     }
 
-    // The next path. The ring and the EV times are only read.
+    // Which EV the next packet takes. 2, 3; else the first from the cursor on that is not avoided, or the cursor itself where more than
+    // half are. The ring and the EV times are only read.
     pub fn path<'a>(
         self,
         status: &'a [u8],

@@ -1,5 +1,5 @@
-// Each event for a caller who knows that state and buffers hold together: the entry point without its test of number 2. A replay tests once; what
-// an event leaves holds together again (proofs/Kept), whatever it answers.
+// Each event for a caller who knows that state and buffers hold together: the entry point without its test of number 2. A replay tests
+// once; what an event leaves holds together again (proofs/Kept), whatever it answers.
 use crate::Ack;
 use crate::Answer;
 use crate::Controller;

@@ -101,7 +101,10 @@ fn clear<'a, 'b, 'c, 'd, 'e>(
     resent: &'d mut [u8],
     evs: &'e mut [u64],
 )
-    ensures { λ _. ⌜ (ringAfter status size sent resent ≡ clearRing (ringBefore status size sent resent)) × (now (evs .exit) ≡ zeros (now (evs .entry))) ⌝ }
+    ensures { λ _. ⌜
+        (ringAfter status size sent resent ≡ clearRing (ringBefore status size sent resent))
+        × (now (evs .exit) ≡ zeros (now (evs .entry)))
+        ⌝ }
 {
     clear_8(status);
     clear_32(size);

@@ -24,7 +24,8 @@ ghost use Rattle.sender.specs.Rows.{newDataRows, sendAllRows, ackAllRows
 ghost use Rattle.paths.specs.Path.{choice};
 ghost use Rattle.sender.specs.Limits.{timeEnd};
 ghost use Rattle.sender.specs.Bounds.{Bounded};
-ghost use Rattle.sender.specs.Steps.{avoidedIn, newDataState, sendStep, ackSampling, ackStep, nackSampling, nackStep, lossStep, pathState};
+ghost use Rattle.sender.specs.Steps.{avoidedIn, newDataState, sendStep, ackSampling, ackStep, nackSampling, nackStep, lossStep};
+ghost use Rattle.sender.specs.Steps.{pathState};
 
 // A path choice: the state, and the EV.
 pub(crate) struct Stepped {
@@ -215,7 +216,10 @@ pub(crate) fn path(c: Controller, evs: &[u64], time: u64) -> Stepped
     requires { ⌜ Bounded c ⌝ }
     requires { ⌜ (length (now evs) ≡ c .settings .«ev_count») × (c .cursor < c .settings .«ev_count») ⌝ }
     requires { ⌜ (timesOk (now evs) ≡ true) × (time < timeEnd) ⌝ }
-    ensures { λ r. ⌜ (r .state ≡ pathState time (choice time (c .cursor) (now (evs .entry)) .cursor) c) × (r .ev ≡ choice time (c .cursor) (now (evs .entry)) .ev) ⌝ }
+    ensures { λ r. ⌜
+        (r .state ≡ pathState time (choice time (c .cursor) (now (evs .entry)) .cursor) c)
+        × (r .ev ≡ choice time (c .cursor) (now (evs .entry)) .ev)
+        ⌝ }
 {
     let settings = c.settings;
     let flow = c.flow;
