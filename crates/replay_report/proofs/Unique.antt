@@ -9,6 +9,7 @@ use Rattle.replay.specs.Places.{feed}
 use Rattle.replay.specs.declared.Place.{Place}
 use Rattle.replay.specs.declared.Source.{Source}
 use Rattle.rules.specs.Unique.{OneOutcome, one-outcome}
+use Rattle.rules.specs.Verdict.{numberOf, verdictOf, number-back}
 use Rattle.replay_report.specs.Tallies.{Tallying, tallying, tallyOf}
 use Rattle.replay_report.specs.declared.Tallied.{Tallied}
 
@@ -20,16 +21,17 @@ pub record Outcome : Type 0 where
 
 -- what the contract makes of it
 abbrev pub made : Outcome → Tallying
-made x = tallying (x .answer .number) (x .answer .place) (x .answer .state) (x .slots) (x .times) (x .figures)
+made x = tallying (numberOf (x .answer .verdict)) (x .answer .place) (x .answer .state) (x .slots) (x .times) (x .figures)
 
 abbrev back : Tallying → Outcome
 back t =
     record {
-      answer = record { number = t .number; place = t .place; state = t .after .state };
+      answer = record { verdict = verdictOf (t .number); place = t .place; state = t .after .state };
       slots = t .after .slots;
       times = t .after .times;
       figures = t .figures;
     }
 
 pub tally-unique : (source : Source) (p : Place) (w : World) (log figures : List ℕ) → OneOutcome made (tallyOf (feed source log) p w figures)
-tally-unique source p w log figures = one-outcome made back (λ x. refl) (tallyOf (feed source log) p w figures)
+tally-unique source p w log figures = one-outcome made back (λ x. rw (number-back (x .answer .verdict)))
+    (tallyOf (feed source log) p w figures)

@@ -2,7 +2,6 @@
 use replay::Shown;
 use replay::records::Event;
 use replay::turns::Found;
-use sender::Send;
 use report_text::places::AGAIN_AT;
 use report_text::places::AMBIGUOUS_AT;
 use report_text::places::ANSWERS;
@@ -15,12 +14,17 @@ use report_text::places::LEAST_AT;
 use report_text::places::NEW_AT;
 use report_text::places::NOT_POSITIVE_AT;
 use report_text::places::TAKEN_AT;
+use rules::verdict::Verdict;
+use rules::verdict::is_accepted;
+use rules::verdict::number_of;
+use sender::Send;
 use window::Sample;
 use window::Sampling;
 use window::delay::sample_in;
 ghost use mathlib.Core.Path.{_≡_};
 ghost use Prim.Native.Nat.{_+_, _<_};
 ghost use lib.ListN.{length};
+ghost use Rattle.rules.specs.Verdict.{numberOf};
 ghost use Rattle.replay.specs.Batches.{kindOf};
 ghost use Rattle.report_text.specs.Places.{figureCount, kindsAt};
 ghost use Rattle.replay_report.specs.Figures.{added, raised, answerCounted, bucketOf, lesser, ticksCounted, sampleCounted, sentAt, eventCounted, bytesCounted, counted};
@@ -44,10 +48,11 @@ fn add(figures: &mut [u64], at: usize, n: u64)
 }
 
 // One more record with this answer.
-fn count_answer(figures: &mut [u64], number: u32)
+fn count_answer(figures: &mut [u64], verdict: Verdict)
     requires { ⌜ length (now figures) ≡ figureCount ⌝ }
-    ensures { λ _. ⌜ now (figures .exit) ≡ answerCounted number (now (figures .entry)) ⌝ }
+    ensures { λ _. ⌜ now (figures .exit) ≡ answerCounted (numberOf verdict) (now (figures .entry)) ⌝ }
 {
+    let number = number_of(verdict);
     if number < ANSWERS {
         add(figures, number as usize, 1);
     }
@@ -125,35 +130,35 @@ fn sent_at(resend: bool) -> usize
 }
 
 // The bytes of an event that was accepted: only a send has some.
-fn count_event(figures: &mut [u64], number: u32, event: Event)
+fn count_event(figures: &mut [u64], verdict: Verdict, event: Event)
     requires { ⌜ length (now figures) ≡ figureCount ⌝ }
-    ensures { λ _. ⌜ now (figures .exit) ≡ eventCounted number event (now (figures .entry)) ⌝ }
+    ensures { λ _. ⌜ now (figures .exit) ≡ eventCounted (numberOf verdict) event (now (figures .entry)) ⌝ }
 {
     let Event::Send(_, a) = event else {
         return;
     };
-    if number == 0 {
+    if is_accepted(verdict) {
         add(figures, sent_at(a.resend), a.size as u64);
     }
 }
 
 // The bytes of a record.
-fn count_bytes(figures: &mut [u64], number: u32, stands: Found)
+fn count_bytes(figures: &mut [u64], verdict: Verdict, stands: Found)
     requires { ⌜ length (now figures) ≡ figureCount ⌝ }
-    ensures { λ _. ⌜ now (figures .exit) ≡ bytesCounted number stands (now (figures .entry)) ⌝ }
+    ensures { λ _. ⌜ now (figures .exit) ≡ bytesCounted (numberOf verdict) stands (now (figures .entry)) ⌝ }
 {
     let Found::Whole { event, .. } = stands else {
         return;
     };
-    count_event(figures, number, event);
+    count_event(figures, verdict, event);
 }
 
-// One more record: what stands in the log, its answer's number and what its line shows.
-pub(crate) fn count(figures: &mut [u64], stands: Found, number: u32, shown: Shown)
+// One more record: what stands in the log, its verdict and what its line shows.
+pub(crate) fn count(figures: &mut [u64], stands: Found, verdict: Verdict, shown: Shown)
     requires { ⌜ length (now figures) ≡ figureCount ⌝ }
-    ensures { λ _. ⌜ now (figures .exit) ≡ counted stands number shown (now (figures .entry)) ⌝ }
+    ensures { λ _. ⌜ now (figures .exit) ≡ counted stands (numberOf verdict) shown (now (figures .entry)) ⌝ }
 {
-    count_answer(figures, number);
+    count_answer(figures, verdict);
     count_sample(figures, shown);
-    count_bytes(figures, number, stands);
+    count_bytes(figures, verdict, stands);
 }

@@ -8,20 +8,22 @@ use replay::Source;
 use replay::turns::is_whole;
 use replay::turns::stands_at;
 use replay::turns::turn;
-use sender::Controller;
 use report_text::places::FIGURES;
+use rules::verdict::Verdict;
+use sender::Controller;
 ghost use mathlib.Core.Path.{_≡_};
 ghost use mathlib.Core.Bool.{true};
 ghost use lib.ListN.{length};
+ghost use Rattle.rules.specs.Verdict.{numberOf};
 ghost use Rattle.replay.specs.Places.{feed, holds};
 ghost use Rattle.report_text.specs.Places.{figureCount};
 ghost use Rattle.ledger.specs.Lent.{ringAfter};
 ghost use Rattle.sender.specs.Lent.{worldGiven, worldBefore};
 ghost use Rattle.replay_report.specs.Tallies.{tallying, tallied, tallyOf};
 
-// What a call answers: 2, or 0. The figures are lent.
+// What a call answers: 2, or accepted. The figures are lent.
 pub struct Tallied {
-    pub number: u32,
+    pub verdict: Verdict,
     pub place: Place,
     pub state: Controller,
 }
@@ -41,7 +43,9 @@ fn relied<'a, 'b, 'c, 'd, 'e, 'f, 'g>(
 ) -> Tallied
     requires { ⌜ holds place (worldGiven state status size sent resent evs) ≡ true ⌝ }
     requires { ⌜ length (now figures) ≡ figureCount ⌝ }
-    ensures { λ r. ⌜ tallying (r .number) (r .place) (r .state) (ringAfter status size sent resent) (now (evs .exit)) (now (figures .exit)) ≡ tallied (feed source (now (log .entry))) place (worldBefore state status size sent resent evs) (now (figures .entry)) ⌝ }
+    ensures { λ r. ⌜ tallying (numberOf (r .verdict)) (r .place) (r .state)
+        (ringAfter status size sent resent) (now (evs .exit)) (now (figures .exit))
+        ≡ tallied (feed source (now (log .entry))) place (worldBefore state status size sent resent evs) (now (figures .entry)) ⌝ }
 {
     let mut place = place;
     let mut state = state;
@@ -52,13 +56,14 @@ fn relied<'a, 'b, 'c, 'd, 'e, 'f, 'g>(
         state = t.state;
         if t.ended {
             return Tallied {
-                number: 0,
+                verdict: Verdict::Accepted,
                 place,
                 state,
             };
         }
         let shown = t.shown;
-        count(figures, stands_at(source, log, at), t.number, shown);
+        let verdict = t.verdict;
+        count(figures, stands_at(source, log, at), verdict, shown);
     }
 }
 
@@ -76,12 +81,14 @@ pub fn tally<'a, 'b, 'c, 'd, 'e, 'f, 'g>(
     log: &'f [u8],
     figures: &'g mut [u64],
 ) -> Tallied
-    ensures { λ r. ⌜ tallying (r .number) (r .place) (r .state) (ringAfter status size sent resent) (now (evs .exit)) (now (figures .exit)) ≡ tallyOf (feed source (now (log .entry))) place (worldBefore state status size sent resent evs) (now (figures .entry)) ⌝ }
+    ensures { λ r. ⌜ tallying (numberOf (r .verdict)) (r .place) (r .state)
+        (ringAfter status size sent resent) (now (evs .exit)) (now (figures .exit))
+        ≡ tallyOf (feed source (now (log .entry))) place (worldBefore state status size sent resent evs) (now (figures .entry)) ⌝ }
 {
     let whole = is_whole(place, state, status, size, sent, resent, evs);
     if (figures.len() != FIGURES) | !whole {
         return Tallied {
-            number: sender::UNSOUND,
+            verdict: Verdict::Unsound,
             place,
             state,
         };

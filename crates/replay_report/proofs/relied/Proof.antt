@@ -2,6 +2,7 @@
 use mathlib.Core.Path.{sym, _∙_}
 use lib.ListN.{length}
 use borrow.Author.Needs.{needs}
+use Rattle.rules.specs.Verdict.{numberOf}
 use Rattle.ledger.specs.Ring.{ring}
 use Rattle.sender.specs.World.{world}
 use Rattle.replay.specs.Places.{Turning, feed, turnsOf}
@@ -75,6 +76,7 @@ same-length-6 : tie.Need-same-length-6 Inv-loop μ-loop
 same-length-6 c = looped (at-end c) .loop .inv .0 .long ∙ sym (start (at-end c) .pre .1)
 
 returns : tie.Need-returns Inv-loop μ-loop
+unfolding numberOf
 returns c =
     let k = at-end c in
     going-ended (looped k .loop .inv .0) (taken k) (k .turn .ensures) (c .if1 .taken)

@@ -1,5 +1,6 @@
 -- `tally` tests number 2, then relies on it.
 use borrow.Author.Needs.{needs}
+use Rattle.rules.specs.Verdict.{numberOf}
 use Rattle.ledger.specs.Ring.{ring}
 use Rattle.sender.specs.World.{World, world}
 use Rattle.replay.specs.Places.{feed}
@@ -36,6 +37,7 @@ same-length-5 : tie.Need-same-length-5
 same-length-5 c = search needs
 
 returns : tie.Need-returns
+unfolding numberOf
 returns c =
     let h = c .before in
     let s = start h in
@@ -67,6 +69,7 @@ same-length-11 : tie.Need-same-length-11
 same-length-11 c = search needs
 
 returns-2 : tie.Need-returns-2
+unfolding numberOf
 returns-2 c =
     let k = c .before .before .before .before .before .before .before .before .before .before .before .before in
     let e = k .before .before .before .before .before .before .before in
