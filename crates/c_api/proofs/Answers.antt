@@ -11,7 +11,7 @@ use Rattle.rules.specs.Branch.{ifSo, so-yes, so-no, eq-yes, eq-no, so-both}
 use Rattle.window.specs.Range.{inRange}
 use Rattle.window.specs.declared.Settings.{Settings}
 use Rattle.ledger.specs.Ring.{Ring}
-use Rattle.sender.specs.Numbers.{numberOf}
+use Rattle.rules.specs.Verdict.{numberOf}
 use Rattle.sender.specs.World.{World, world, Answered, answered}
 use Rattle.sender.specs.Start.{onSetUp}
 use Rattle.sender.specs.declared.Controller.{Controller}
@@ -46,8 +46,9 @@ unpacked-state ws ok = ap (λ (u : Unpacked). u .state) (sym (so-yes (wordsOk ws
 
 -- an answer kept beside the lent words is the event's answer packed
 kept-packed :
-    (ws : List ℕ) (x : Answered) (a : Answer) (s : Ring) (u : List ℕ) → answered (numberOf (a .outcome)) (a .state) s u ≡ x → (n : ℕ) (xs : List ℕ) →
-    (n ≡ numberOf (a .outcome)) × (xs ≡ wordsAfter n ws (a .state)) → called n xs s u ≡ packed ws x
+    (ws : List ℕ) (x : Answered) (a : Answer) (s : Ring) (u : List ℕ) → answered (numberOf (a .verdict)) (a .state) s u ≡ x → (n : ℕ)
+    (xs : List ℕ) →
+    (n ≡ numberOf (a .verdict)) × (xs ≡ wordsAfter n ws (a .state)) → called n xs s u ≡ packed ws x
 kept-packed ws x a s u e n xs k = rw (k .1, k .0) (ap (packed ws) e)
 
 module _ (ws : List ℕ) (given : Unpacked) (given-is : given ≡ unpacked ws) where
@@ -110,8 +111,8 @@ module _ (ns : List ℕ) (psn : ℕ) (off : Bool) (evs : ℕ) (ws : List ℕ) (r
         wrong-words h = past-range _ (so-no _ _ _ _ (ne-eqb (length ws) wordCount h) refl)
 
         pub set-up-on :
-            length ws ≡ wordCount → (a : Answer) (s : Ring) (u : List ℕ) → answered (numberOf (a .outcome)) (a .state) s u ≡ onSetUp g r t →
-            (n : ℕ) (xs : List ℕ) → (n ≡ numberOf (a .outcome)) × (xs ≡ wordsAfter n ws (a .state)) →
+            length ws ≡ wordCount → (a : Answer) (s : Ring) (u : List ℕ) → answered (numberOf (a .verdict)) (a .state) s u ≡ onSetUp g r t →
+            (n : ℕ) (xs : List ℕ) → (n ≡ numberOf (a .verdict)) × (xs ≡ wordsAfter n ws (a .state)) →
             called n xs s u ≡ onSetUpWords ns psn off evs ws r t
         set-up-on h a s u e n xs k =
             past-range _

@@ -11,7 +11,6 @@ use Rattle.rules.specs.Rows.{Row, firstOf}
 use Rattle.rules.specs.Test.{inside}
 use Rattle.window.specs.declared.Sampling.{Sampling}
 use Rattle.ledger.specs.Ring.{Ring}
-use Rattle.sender.specs.Numbers.{inTable}
 use Rattle.sender.specs.World.{World, world, Answered, Routing}
 use Rattle.sender.specs.Sound.{sound}
 use Rattle.sender.specs.Rows.{withSound, newDataRows, sendAllRows, ackAllRows, nackAllRows, lossAllRows, pathRows}
@@ -42,7 +41,7 @@ said n w = record { word = n; after = w }
 -- ---- one event, by its rows
 
 two-more : (w : World) (xs : List Row) → numbered xs ≡ true → numbered (withSound w xs) ≡ true
-unfolding numbered inTable inside
+unfolding numbered inside
 two-more w xs e = e
 
 -- 2, and the rows of an event, whose numbers are those of 01's table
@@ -83,7 +82,7 @@ module _ (e : Event) (w : World) (xs : List Row) (after : World) where
 
 module _ (time : ℕ) (w : World) where
   pub new-data-single : (bytes : ℕ) → Single (event.NewData time bytes) w (onNewData time bytes w)
-  unfolding onNewData onLater numbered inTable inside
+  unfolding onNewData onLater numbered inside
   new-data-single bytes = single-by (event.NewData time bytes) w (newDataRows time bytes (w .state)) _ refl refl
 
   pub send-single : (a : Send) → Single (event.Send time a) w (onSend time a w)
@@ -91,7 +90,7 @@ module _ (time : ℕ) (w : World) where
   send-single a = single-by (event.Send time a) w (sendAllRows time a (w .state) (w .slots)) _ (send-all-numbered time a (w .state) (w .slots)) refl
 
   pub loss-single : (a : Loss) → Single (event.Loss time a) w (onLoss time a w)
-  unfolding onLoss onLater numbered inTable inside
+  unfolding onLoss onLater numbered inside
   loss-single a = single-by (event.Loss time a) w (lossAllRows time a (w .state) (w .slots)) _ refl refl
 
 -- ---- an event whose answer has a second number
@@ -112,7 +111,7 @@ double-said e w x f g false h =
 -- ---- a path choice
 
 pub path-most : (time : ℕ) (w : World) → onPath time w .number ≤ 24
-unfolding onPath numbered inTable inside
+unfolding onPath numbered inside
 path-most time w =
     let rows = withSound w (pathRows time (w .state)) in
     eq-both (λ (a : Routing). a .number ≤ 24) (firstOf rows) 0 _ _ (λ _. omega arith) (λ _. first-most rows refl)
@@ -179,11 +178,11 @@ module _ (e : Event) (w : World) (xs : List Row) (after : World) (sampling : Sam
 
 module _ (time : ℕ) (w : World) where
   pub ack-double : (a : Ack) → Double (event.Ack time a) w (ackBeside time a w)
-  unfolding onAck onLater numbered inTable inside
+  unfolding onAck onLater numbered inside
   ack-double a = heard-double (event.Ack time a) w (ackAllRows time a (w .state)) (ackStep time a w) (ackSampling time a w) refl refl
 
   pub nack-double : (a : Nack) → Double (event.Nack time a) w (nackBeside time a w)
-  unfolding onNack onLater numbered inTable inside
+  unfolding onNack onLater numbered inside
   nack-double a = heard-double (event.Nack time a) w (nackAllRows time a (w .state) (w .slots)) (nackStep time a w) (nackSampling time a w) refl refl
 
 -- ---- over lent words

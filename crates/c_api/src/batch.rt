@@ -1,10 +1,13 @@
 // A log's bytes in, answers out. Number 2 is tested once a call.
+use c_state::WORDS;
 use replay::Batch;
 use replay::Place;
 use replay::Source;
-use c_state::WORDS;
+use rules::verdict::Verdict;
+use rules::verdict::number_of;
 ghost use mathlib.Core.Path.{_≡_};
 ghost use lib.ListN.{length};
+ghost use Rattle.rules.specs.Verdict.{numberOf};
 ghost use Rattle.c_state.specs.Layout.{wordCount};
 ghost use Rattle.ledger.specs.Lent.{ringBefore, ringAfter};
 ghost use Rattle.c_api.specs.Batch.{placeCount, placeWords, placeFrom, lentOk, placeThen, wordsThen, replayCalled, onReplayWords};
@@ -54,10 +57,14 @@ fn keep_place(ws: &mut [u64], place: Place, count: usize)
 // Stores what a batch gave, unless it was refused, and answers its number. An inner step: the caller proves that there are the words.
 fn keep_batch<'a, 'b>(place: &'a mut [u64], state: &'b mut [u64], batch: Batch) -> u32
     requires { ⌜ (length (now place) ≡ placeCount) × (length (now state) ≡ wordCount) ⌝ }
-    ensures { λ r. ⌜ (r ≡ batch .number) × (now (place .exit) ≡ placeThen (batch .number) (batch .place) (batch .count) (now (place .entry))) × (now (state .exit) ≡ wordsThen (batch .number) (batch .place) (batch .count) (batch .state) (now (state .entry))) ⌝ }
+    ensures { λ r. ⌜ (r ≡ numberOf (batch .verdict))
+        × (now (place .exit) ≡ placeThen (numberOf (batch .verdict)) (batch .place) (batch .count) (now (place .entry)))
+        × (now (state .exit) ≡ wordsThen (numberOf (batch .verdict)) (batch .place) (batch .count) (batch .state) (now (state .entry))) ⌝ }
 {
-    if batch.number != 0 {
-        return batch.number;
+    let verdict = batch.verdict;
+    let number = number_of(verdict);
+    if number != 0 {
+        return number;
     }
     let after = batch.place;
     let count = batch.count;
@@ -67,7 +74,7 @@ fn keep_batch<'a, 'b>(place: &'a mut [u64], state: &'b mut [u64], batch: Batch) 
         let now = batch.state;
         c_state::store(state, now);
     }
-    0
+    number
 }
 
 // Replays a log from a place on, until the answers' room is full, the log ends or replay stops.
@@ -83,10 +90,13 @@ pub extern "C" fn nscc_replay(
     log: &[u8],
     answers: &mut [u64],
 ) -> u32
-    ensures { λ r. ⌜ replayCalled r (now (place .exit)) (now (state .exit)) (ringAfter status size sent resent) (now (evs .exit)) (now (answers .exit)) ≡ onReplayWords (now (log .entry)) (now (place .entry)) (now (state .entry)) (ringBefore status size sent resent) (now (evs .entry)) (now (answers .entry)) ⌝ }
+    ensures { λ r. ⌜ replayCalled r (now (place .exit)) (now (state .exit))
+        (ringAfter status size sent resent) (now (evs .exit)) (now (answers .exit))
+        ≡ onReplayWords (now (log .entry)) (now (place .entry)) (now (state .entry))
+        (ringBefore status size sent resent) (now (evs .entry)) (now (answers .entry)) ⌝ }
 {
     if !is_lent(place, state) {
-        return sender::UNSOUND;
+        return number_of(Verdict::Unsound);
     }
     let from = place_of(place);
     let given = c_state::unpack(state);

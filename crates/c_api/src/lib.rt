@@ -5,16 +5,16 @@
 pub mod batch;
 pub mod parts;
 
+use c_state::WORDS;
 use replay::ABOVE;
 use replay::records::Event;
+use rules::verdict::Verdict;
+use rules::verdict::number_of;
 use sender::Ack;
 use sender::Controller;
 use sender::Loss;
 use sender::Nack;
-use sender::SETTING;
 use sender::Send;
-use sender::UNSOUND;
-use c_state::WORDS;
 ghost use mathlib.Core.Path.{_≡_};
 ghost use lib.ListN.{length};
 ghost use Rattle.ledger.specs.Lent.{ringBefore, ringAfter};
@@ -43,11 +43,12 @@ fn take<'a, 'b, 'c, 'd, 'e, 'f>(
     resent: &'e mut [u8],
     evs: &'f mut [u64],
 ) -> u64
-    ensures { λ r. ⌜ called r (now (state .exit)) (ringAfter status size sent resent) (now (evs .exit)) ≡ onEventWords event (now (state .entry)) (ringBefore status size sent resent) (now (evs .entry)) ⌝ }
+    ensures { λ r. ⌜ called r (now (state .exit)) (ringAfter status size sent resent) (now (evs .exit))
+        ≡ onEventWords event (now (state .entry)) (ringBefore status size sent resent) (now (evs .entry)) ⌝ }
 {
     let given = c_state::unpack(state);
     if !given.good {
-        return UNSOUND as u64;
+        return number_of(Verdict::Unsound) as u64;
     }
     let before = given.state;
     let said = replay::once(event, before, status, size, sent, resent, evs);
@@ -71,22 +72,24 @@ pub extern "C" fn nscc_set_up(
     resent: &mut [u8],
     evs: &mut [u64],
 ) -> u32
-    ensures { λ r. ⌜ called r (now (state .exit)) (ringAfter status size sent resent) (now (evs .exit)) ≡ onSetUpWords (now (settings .entry)) «first_psn» «quick_adapt_off» «ev_count» (now (state .entry)) (ringBefore status size sent resent) (now (evs .entry)) ⌝ }
+    ensures { λ r. ⌜ called r (now (state .exit)) (ringAfter status size sent resent) (now (evs .exit))
+        ≡ onSetUpWords (now (settings .entry)) «first_psn» «quick_adapt_off» «ev_count» (now (state .entry))
+        (ringBefore status size sent resent) (now (evs .entry)) ⌝ }
 {
     if settings.len() != c_state::SETTINGS {
-        return UNSOUND;
+        return number_of(Verdict::Unsound);
     }
     let given = c_state::settings_of(settings, first_psn, quick_adapt_off, ev_count as u64);
     if !window::bounds::in_range(given) {
-        return SETTING;
+        return number_of(Verdict::Setting);
     }
     if state.len() != WORDS {
-        return UNSOUND;
+        return number_of(Verdict::Unsound);
     }
     let answer = sender::start::set_up(given, status, size, sent, resent, evs);
-    let outcome = answer.outcome;
+    let verdict = answer.verdict;
     let after = answer.state;
-    let number = sender::number_of(outcome);
+    let number = number_of(verdict);
     keep(state, number as u64, after);
     number
 }
@@ -103,7 +106,8 @@ pub extern "C" fn nscc_new_data(
     time: u64,
     bytes: u64,
 ) -> u32
-    ensures { λ r. ⌜ called r (now (state .exit)) (ringAfter status size sent resent) (now (evs .exit)) ≡ onWords (now (state .entry)) (ringBefore status size sent resent) (now (evs .entry)) (onNewData time bytes) ⌝ }
+    ensures { λ r. ⌜ called r (now (state .exit)) (ringAfter status size sent resent) (now (evs .exit))
+        ≡ onWords (now (state .entry)) (ringBefore status size sent resent) (now (evs .entry)) (onNewData time bytes) ⌝ }
 {
     take(
         Event::NewData(time, bytes),
@@ -130,7 +134,8 @@ pub extern "C" fn nscc_send(
     bytes: u32,
     resend: bool,
 ) -> u32
-    ensures { λ r. ⌜ called r (now (state .exit)) (ringAfter status size sent resent) (now (evs .exit)) ≡ onWords (now (state .entry)) (ringBefore status size sent resent) (now (evs .entry)) (onSend time (sendBy psn bytes resend)) ⌝ }
+    ensures { λ r. ⌜ called r (now (state .exit)) (ringAfter status size sent resent) (now (evs .exit))
+        ≡ onWords (now (state .entry)) (ringBefore status size sent resent) (now (evs .entry)) (onSend time (sendBy psn bytes resend)) ⌝ }
 {
     let a = Send {
         psn,
@@ -159,7 +164,9 @@ pub extern "C" fn nscc_ack(
     marked: bool,
     retx: bool,
 ) -> u64
-    ensures { λ r. ⌜ called r (now (state .exit)) (ringAfter status size sent resent) (now (evs .exit)) ≡ onBesideWords (now (state .entry)) (ringBefore status size sent resent) (now (evs .entry)) (ackBeside time (ackBy cum map trigger count service ev marked retx)) ⌝ }
+    ensures { λ r. ⌜ called r (now (state .exit)) (ringAfter status size sent resent) (now (evs .exit))
+        ≡ onBesideWords (now (state .entry)) (ringBefore status size sent resent) (now (evs .entry))
+        (ackBeside time (ackBy cum map trigger count service ev marked retx)) ⌝ }
 {
     let a = Ack {
         cum,
@@ -190,7 +197,9 @@ pub extern "C" fn nscc_nack(
     marked: bool,
     retx: bool,
 ) -> u64
-    ensures { λ r. ⌜ called r (now (state .exit)) (ringAfter status size sent resent) (now (evs .exit)) ≡ onBesideWords (now (state .entry)) (ringBefore status size sent resent) (now (evs .entry)) (nackBeside time (nackBy psn ev reason marked retx)) ⌝ }
+    ensures { λ r. ⌜ called r (now (state .exit)) (ringAfter status size sent resent) (now (evs .exit))
+        ≡ onBesideWords (now (state .entry)) (ringBefore status size sent resent) (now (evs .entry))
+        (nackBeside time (nackBy psn ev reason marked retx)) ⌝ }
 {
     let a = Nack {
         psn,
@@ -215,7 +224,8 @@ pub extern "C" fn nscc_loss(
     psn: u32,
     ev: u32,
 ) -> u32
-    ensures { λ r. ⌜ called r (now (state .exit)) (ringAfter status size sent resent) (now (evs .exit)) ≡ onWords (now (state .entry)) (ringBefore status size sent resent) (now (evs .entry)) (onLoss time (lossBy psn ev)) ⌝ }
+    ensures { λ r. ⌜ called r (now (state .exit)) (ringAfter status size sent resent) (now (evs .exit))
+        ≡ onWords (now (state .entry)) (ringBefore status size sent resent) (now (evs .entry)) (onLoss time (lossBy psn ev)) ⌝ }
 {
     take(
         Event::Loss(time, Loss { psn, ev }),
@@ -239,7 +249,8 @@ pub extern "C" fn nscc_path(
     evs: &mut [u64],
     time: u64,
 ) -> u64
-    ensures { λ r. ⌜ called r (now (state .exit)) (ringAfter status size sent resent) (now (evs .exit)) ≡ onBesideWords (now (state .entry)) (ringBefore status size sent resent) (now (evs .entry)) (pathBeside time) ⌝ }
+    ensures { λ r. ⌜ called r (now (state .exit)) (ringAfter status size sent resent) (now (evs .exit))
+        ≡ onBesideWords (now (state .entry)) (ringBefore status size sent resent) (now (evs .entry)) (pathBeside time) ⌝ }
 {
     take(Event::Path(time), state, status, size, sent, resent, evs)
 }

@@ -1,10 +1,13 @@
 // A log's bytes in chunks, request M-104: answers out as records become whole. Number 2 is tested once a call.
+use c_state::WORDS;
+use replay::Place;
 use replay_chunks::Held;
 use replay_chunks::Took;
-use replay::Place;
-use c_state::WORDS;
+use rules::verdict::Verdict;
+use rules::verdict::number_of;
 ghost use mathlib.Core.Path.{_≡_};
 ghost use lib.ListN.{length};
+ghost use Rattle.rules.specs.Verdict.{numberOf};
 ghost use Rattle.c_state.specs.Layout.{wordCount};
 ghost use Rattle.ledger.specs.Lent.{ringBefore, ringAfter};
 ghost use Rattle.c_api.specs.Batch.{wordsThen};
@@ -63,10 +66,15 @@ fn keep_part(ws: &mut [u64], held: Held, count: usize, taken: usize)
 // Stores what a chunk gave, unless it was refused, and answers its number. An inner step: the caller proves that there are the words.
 fn keep_took<'a, 'b>(part: &'a mut [u64], state: &'b mut [u64], took: Took) -> u32
     requires { ⌜ (length (now part) ≡ partCount) × (length (now state) ≡ wordCount) ⌝ }
-    ensures { λ r. ⌜ (r ≡ took .number) × (now (part .exit) ≡ partThen (took .number) (took .held) (took .count) (took .taken) (now (part .entry))) × (now (state .exit) ≡ wordsThen (took .number) (took .held .place) (took .count) (took .state) (now (state .entry))) ⌝ }
+    ensures { λ r. ⌜ (r ≡ numberOf (took .verdict))
+        × (now (part .exit) ≡ partThen (numberOf (took .verdict)) (took .held) (took .count) (took .taken) (now (part .entry)))
+        × (now (state .exit) ≡ wordsThen (numberOf (took .verdict)) (took .held .place) (took .count) (took .state)
+        (now (state .entry))) ⌝ }
 {
-    if took.number != 0 {
-        return took.number;
+    let verdict = took.verdict;
+    let number = number_of(verdict);
+    if number != 0 {
+        return number;
     }
     let held = took.held;
     let after = held.place;
@@ -77,7 +85,7 @@ fn keep_took<'a, 'b>(part: &'a mut [u64], state: &'b mut [u64], took: Took) -> u
         let now = took.state;
         c_state::store(state, now);
     }
-    0
+    number
 }
 
 // Replays a chunk of a log behind those before it, until the answers' room is full, no record is whole or replay stops. `ended`: the log ends with the chunk.
@@ -95,10 +103,13 @@ pub extern "C" fn nscc_chunk(
     ended: bool,
     answers: &mut [u64],
 ) -> u32
-    ensures { λ r. ⌜ chunkCalled r (now (part .exit)) (now (piece .exit)) (now (state .exit)) (ringAfter status size sent resent) (now (evs .exit)) (now (answers .exit)) ≡ onChunkWords (now (chunk .entry)) ended (now (part .entry)) (now (piece .entry)) (now (state .entry)) (ringBefore status size sent resent) (now (evs .entry)) (now (answers .entry)) ⌝ }
+    ensures { λ r. ⌜ chunkCalled r (now (part .exit)) (now (piece .exit)) (now (state .exit))
+        (ringAfter status size sent resent) (now (evs .exit)) (now (answers .exit))
+        ≡ onChunkWords (now (chunk .entry)) ended (now (part .entry)) (now (piece .entry)) (now (state .entry))
+        (ringBefore status size sent resent) (now (evs .entry)) (now (answers .entry)) ⌝ }
 {
     if !is_lent(part, state) {
-        return sender::UNSOUND;
+        return number_of(Verdict::Unsound);
     }
     let held = held_of(part);
     let given = c_state::unpack(state);

@@ -1,11 +1,22 @@
 -- `nscc_set_up` makes the tests of `onSetUpWords` in their order; then the answer is setting up's, kept.
 use borrow.Author.Needs.{needs}
+use Rattle.rules.specs.Verdict.{numberOf}
 use Rattle.c_api.proofs.Answers.{few-settings, out-of-range, wrong-words, set-up-on}
 use Rattle.c_api.proofs.nscc_set_up.Statement.{statement}
 use Rattle.c_api.proofs.nscc_set_up.Tie as tie
 
+number-of-requires : tie.Need-number-of-requires
+number-of-requires c κs = search needs
+
+number-of-requires-2 : tie.Need-number-of-requires-2
+number-of-requires-2 c κs = search needs
+
+number-of-requires-3 : tie.Need-number-of-requires-3
+number-of-requires-3 c κs = search needs
+
 returns : tie.Need-returns
-returns c = few-settings _ _ _ _ _ _ _ (c .if1 .taken)
+unfolding numberOf
+returns c = rw (c .number-of .ensures) (few-settings _ _ _ _ _ _ _ (c .before .if1 .taken))
 
 settings-of-requires : tie.Need-settings-of-requires
 settings-of-requires c κs = search needs
@@ -14,18 +25,26 @@ in-range-requires : tie.Need-in-range-requires
 in-range-requires c κs = search needs
 
 returns-2 : tie.Need-returns-2
+unfolding numberOf
 returns-2 c =
-    out-of-range _ _ _ _ _ _ _ (c .before .before .before .if1 .left) _ (c .before .before .settings-of .ensures) _ (c .before .in-range .ensures) (c .if2 .taken)
+    let i = c .before in
+    rw (c .number-of2 .ensures)
+    (out-of-range _ _ _ _ _ _ _ (i .before .before .before .if1 .left) _ (i .before .before .settings-of .ensures) _
+    (i .before .in-range .ensures) (i .if2 .taken))
 
 returns-3 : tie.Need-returns-3
+unfolding numberOf
 returns-3 c =
-    wrong-words _ _ _ _ _ _ _ (c .before .before .before .before .if1 .left) _ (c .before .before .before .settings-of .ensures) _ (c .before .before .in-range .ensures) (c .before .if2 .left) (c .if3 .taken)
+    let i = c .before in
+    rw (c .number-of3 .ensures)
+    (wrong-words _ _ _ _ _ _ _ (i .before .before .before .before .if1 .left) _ (i .before .before .before .settings-of .ensures) _
+    (i .before .before .in-range .ensures) (i .before .if2 .left) (i .if3 .taken))
 
 set-up-requires : tie.Need-set-up-requires
 set-up-requires c κs = search needs
 
-number-of-requires : tie.Need-number-of-requires
-number-of-requires c κs = search needs
+number-of-requires-4 : tie.Need-number-of-requires-4
+number-of-requires-4 c κs = search needs
 
 cast-keep : tie.Need-cast-keep
 cast-keep c = search needs
@@ -56,19 +75,22 @@ returns-4 c =
     let a = c .before .before .before .before .before .before .before .before .before .before .before .before .before .before .before .before in
     let e = a .before .before .before .before .before .before in
     set-up-on _ _ _ _ _ _ _ (e .before .before .before .before .if1 .left) _ (e .before .before .before .settings-of .ensures) _ (e .before .before .in-range .ensures) (e .before .if2 .left) (e .if3 .left)
-    _ _ _ (a .set-up .ensures) _ _ (c .before .before .before .before .number-of .ensures, c .before .before .keep .ensures)
+    _ _ _ (a .set-up .ensures) _ _ (c .before .before .before .before .number-of4 .ensures, c .before .before .keep .ensures)
 
 pub nscc-set-up-spec : {M : Type 1} → statement M
 nscc-set-up-spec =
     tie.close
     (tie.spec
+    number-of-requires
     returns
     settings-of-requires
     in-range-requires
+    number-of-requires-2
     returns-2
+    number-of-requires-3
     returns-3
     set-up-requires
-    number-of-requires
+    number-of-requires-4
     cast-keep
     keep-requires
     same-length

@@ -1,11 +1,15 @@
 -- `take`: words that are no state's are refused with 2; else the event's answer is kept.
 use borrow.Author.Needs.{needs}
+use Rattle.rules.specs.Verdict.{numberOf}
 use Rattle.c_api.proofs.Answers.{no-state, words-long, event-on}
 use Rattle.c_api.proofs.take.Statement.{statement}
 use Rattle.c_api.proofs.take.Tie as tie
 
 unpack-requires : tie.Need-unpack-requires
 unpack-requires c κs = search needs
+
+number-of-requires : tie.Need-number-of-requires
+number-of-requires c κs = search needs
 
 cast-result : tie.Need-cast-result
 cast-result c = search needs
@@ -14,7 +18,8 @@ same-length : tie.Need-same-length
 same-length c = search needs
 
 returns : tie.Need-returns
-returns c = no-state _ _ (c .before .before .unpack .ensures) (c .if1 .taken) _ _ _
+unfolding numberOf
+returns c = rw (c .number-of .ensures) (no-state _ _ (c .before .before .before .unpack .ensures) (c .before .if1 .taken) _ _ _)
 
 once-requires : tie.Need-once-requires
 once-requires c κs = search needs
@@ -53,6 +58,7 @@ take-spec =
     tie.close
     (tie.spec
     unpack-requires
+    number-of-requires
     cast-result
     same-length
     returns

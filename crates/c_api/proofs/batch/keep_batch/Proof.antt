@@ -1,14 +1,20 @@
 -- `keep_batch` stores nothing where the batch was refused; else the place, and the state where there is one.
-use mathlib.Core.Path.{refl, sym}
+use mathlib.Core.Path.{refl, sym, _∙_}
 use borrow.Author.Needs.{needs}
 use Rattle.rules.specs.Branch.{so-yes, so-no, eq-yes, eq-no}
 use Rattle.c_api.specs.Batch.{placeThen, wordsThen}
 use Rattle.c_api.proofs.batch.keep_batch.Statement.{statement}
 use Rattle.c_api.proofs.batch.keep_batch.Tie as tie
 
+number-of-requires : tie.Need-number-of-requires
+number-of-requires c κs = search needs
+
 returns : tie.Need-returns
 unfolding placeThen wordsThen
-returns c = (refl, eq-no _ _ _ _ _ (c .if1 .taken) refl, eq-no _ _ _ _ _ (c .if1 .taken) refl)
+returns c =
+    let n = c .before .number-of .ensures in
+    let refused = rw n at (c .if1 .taken) in
+    (n, eq-no _ _ _ _ _ refused refl, eq-no _ _ _ _ _ refused refl)
 
 keep-place-requires : tie.Need-keep-place-requires
 keep-place-requires c κs = search needs
@@ -26,8 +32,14 @@ returns-2 : tie.Need-returns-2
 unfolding placeThen wordsThen
 returns-2 c =
     let p = c .before .before .before .before .before .before .before .before in
-    let z = p .before .before .before .if1 .left in
-    (sym z, eq-yes _ _ _ _ _ z (p .keep-place .ensures), eq-yes _ _ _ _ _ z (so-yes _ _ _ _ (c .before .before .before .before .before .if2 .taken) (c .before .before .store .ensures)))
+    let e = p .before .before .before in
+    let n = e .before .number-of .ensures in
+    let z = sym n ∙ e .if1 .left in (
+      n,
+      eq-yes _ _ _ _ _ z (p .keep-place .ensures),
+      eq-yes _ _ _ _ _ z
+          (so-yes _ _ _ _ (c .before .before .before .before .before .if2 .taken) (c .before .before .store .ensures)),
+    )
 
 same-length-3 : tie.Need-same-length-3
 same-length-3 c = search needs
@@ -36,13 +48,16 @@ returns-3 : tie.Need-returns-3
 unfolding placeThen wordsThen
 returns-3 c =
     let p = c .before .before .before in
-    let z = p .before .before .before .if1 .left in
-    (sym z, eq-yes _ _ _ _ _ z (p .keep-place .ensures), eq-yes _ _ _ _ _ z (so-no _ _ _ _ (c .if2 .left) refl))
+    let e = p .before .before .before in
+    let n = e .before .number-of .ensures in
+    let z = sym n ∙ e .if1 .left in
+    (n, eq-yes _ _ _ _ _ z (p .keep-place .ensures), eq-yes _ _ _ _ _ z (so-no _ _ _ _ (c .if2 .left) refl))
 
 pub keep-batch-spec : {M : Type 1} → statement M
 keep-batch-spec =
     tie.close
     (tie.spec
+    number-of-requires
     returns
     keep-place-requires
     store-requires

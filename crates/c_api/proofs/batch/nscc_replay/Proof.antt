@@ -1,5 +1,6 @@
 -- `nscc_replay` tests what it was lent, replays, and stores what the batch gave.
 use borrow.Author.Needs.{needs}
+use Rattle.rules.specs.Verdict.{numberOf}
 use borrow.Author.Tests.{not-true, not-false}
 use mathlib.Core.Path.{sym, _∙_}
 use Rattle.c_api.proofs.Handing.{lent-long, lent-wrong, handed-back}
@@ -19,6 +20,9 @@ testing p = p .before .before
 is-lent-requires : tie.Need-is-lent-requires
 is-lent-requires c κs = search needs
 
+number-of-requires : tie.Need-number-of-requires
+number-of-requires c κs = search needs
+
 same-length : tie.Need-same-length
 same-length c = search needs
 
@@ -26,7 +30,10 @@ same-length-2 : tie.Need-same-length-2
 same-length-2 c = search needs
 
 returns : tie.Need-returns
-returns c = lent-wrong _ _ _ _ _ _ (sym (c .before .is-lent .ensures) ∙ not-true _ (c .if1 .taken))
+unfolding numberOf
+returns c =
+    let i = c .before in
+    rw (c .number-of .ensures) (lent-wrong _ _ _ _ _ _ (sym (i .before .is-lent .ensures) ∙ not-true _ (i .if1 .taken)))
 
 place-of-requires : tie.Need-place-of-requires
 place-of-requires c κs = lent-long _ _ (sym (c .before .before .is-lent .ensures) ∙ not-false _ (c .before .if1 .left)) .0
@@ -81,6 +88,7 @@ nscc-replay-spec =
     tie.close
     (tie.spec
     is-lent-requires
+    number-of-requires
     same-length
     same-length-2
     returns

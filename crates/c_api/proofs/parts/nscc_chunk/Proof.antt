@@ -1,5 +1,6 @@
 -- `nscc_chunk` tests what it was lent, takes the chunk, and stores what it gave.
 use borrow.Author.Needs.{needs}
+use Rattle.rules.specs.Verdict.{numberOf}
 use borrow.Author.Tests.{not-true, not-false}
 use mathlib.Core.Path.{sym, _∙_}
 use Rattle.c_api.proofs.Parting.{part-long, part-wrong, part-back}
@@ -19,6 +20,9 @@ testing p = p .before .before
 is-lent-requires : tie.Need-is-lent-requires
 is-lent-requires c κs = search needs
 
+number-of-requires : tie.Need-number-of-requires
+number-of-requires c κs = search needs
+
 same-length : tie.Need-same-length
 same-length c = search needs
 
@@ -26,7 +30,10 @@ same-length-2 : tie.Need-same-length-2
 same-length-2 c = search needs
 
 returns : tie.Need-returns
-returns c = part-wrong _ _ _ _ _ _ _ _ (sym (c .before .is-lent .ensures) ∙ not-true _ (c .if1 .taken))
+unfolding numberOf
+returns c =
+    let i = c .before in
+    rw (c .number-of .ensures) (part-wrong _ _ _ _ _ _ _ _ (sym (i .before .is-lent .ensures) ∙ not-true _ (i .if1 .taken)))
 
 held-of-requires : tie.Need-held-of-requires
 held-of-requires c κs = part-long _ _ (sym (c .before .before .is-lent .ensures) ∙ not-false _ (c .before .if1 .left)) .0
@@ -84,6 +91,7 @@ nscc-chunk-spec =
     tie.close
     (tie.spec
     is-lent-requires
+    number-of-requires
     same-length
     same-length-2
     returns
