@@ -1,5 +1,4 @@
 -- `update_base_rtt` lowers the base by a sample, and cwnd to max_wnd of that base: the two cases of the sample.
-use native.Mathlib.Omega.{arith}
 use borrow.Author.Needs.{needs}
 use Rattle.window.proofs.Steps.{update-base-rtt-none, update-base-rtt-by}
 use Rattle.window.proofs.delay.update_base_rtt.Statement.{statement}
