@@ -1,4 +1,5 @@
 // A state with the memory that is lent to it, as one value: a call takes one and answers the next, so the one before stays to compare with.
+use rules::verdict::number_of;
 use sender::Ack;
 use sender::Controller;
 use sender::Loss;
@@ -32,7 +33,7 @@ pub(crate) fn set_up(w: World, settings: Settings) -> World {
         &mut evs,
     );
     let state = answer.state;
-    let outcome = answer.outcome;
+    let verdict = answer.verdict;
     World {
         state,
         status,
@@ -40,7 +41,7 @@ pub(crate) fn set_up(w: World, settings: Settings) -> World {
         sent,
         resent,
         evs,
-        number: sender::number_of(outcome),
+        number: number_of(verdict),
     }
 }
 
@@ -53,7 +54,7 @@ pub(crate) fn new_data(w: World, time: u64, bytes: u64) -> World {
     let evs = w.evs;
     let answer = before.new_data(&status, &size, &sent, &resent, &evs, time, bytes);
     let state = answer.state;
-    let outcome = answer.outcome;
+    let verdict = answer.verdict;
     World {
         state,
         status,
@@ -61,7 +62,7 @@ pub(crate) fn new_data(w: World, time: u64, bytes: u64) -> World {
         sent,
         resent,
         evs,
-        number: sender::number_of(outcome),
+        number: number_of(verdict),
     }
 }
 
@@ -82,7 +83,7 @@ pub(crate) fn send(w: World, time: u64, a: Send) -> World {
         a,
     );
     let state = answer.state;
-    let outcome = answer.outcome;
+    let verdict = answer.verdict;
     World {
         state,
         status,
@@ -90,7 +91,7 @@ pub(crate) fn send(w: World, time: u64, a: Send) -> World {
         sent,
         resent,
         evs,
-        number: sender::number_of(outcome),
+        number: number_of(verdict),
     }
 }
 
@@ -111,7 +112,7 @@ pub(crate) fn ack(w: World, time: u64, a: Ack) -> World {
         a,
     );
     let state = answer.state;
-    let feedback = answer.feedback;
+    let verdict = answer.verdict;
     World {
         state,
         status,
@@ -119,7 +120,7 @@ pub(crate) fn ack(w: World, time: u64, a: Ack) -> World {
         sent,
         resent,
         evs,
-        number: sender::feedback_number(feedback),
+        number: number_of(verdict),
     }
 }
 
@@ -132,7 +133,7 @@ pub(crate) fn nack(w: World, time: u64, a: Nack) -> World {
     let mut evs = w.evs;
     let answer = before.nack(&mut status, &size, &sent, &resent, &mut evs, time, a);
     let state = answer.state;
-    let feedback = answer.feedback;
+    let verdict = answer.verdict;
     World {
         state,
         status,
@@ -140,7 +141,7 @@ pub(crate) fn nack(w: World, time: u64, a: Nack) -> World {
         sent,
         resent,
         evs,
-        number: sender::feedback_number(feedback),
+        number: number_of(verdict),
     }
 }
 
@@ -153,7 +154,7 @@ pub(crate) fn loss(w: World, time: u64, a: Loss) -> World {
     let mut evs = w.evs;
     let answer = before.loss(&mut status, &size, &sent, &resent, &mut evs, time, a);
     let state = answer.state;
-    let outcome = answer.outcome;
+    let verdict = answer.verdict;
     World {
         state,
         status,
@@ -161,7 +162,7 @@ pub(crate) fn loss(w: World, time: u64, a: Loss) -> World {
         sent,
         resent,
         evs,
-        number: sender::number_of(outcome),
+        number: number_of(verdict),
     }
 }
 
@@ -174,7 +175,7 @@ pub(crate) fn path(w: World, time: u64) -> World {
     let evs = w.evs;
     let routed = before.path(&status, &size, &sent, &resent, &evs, time);
     let state = routed.state;
-    let route = routed.route;
+    let verdict = routed.verdict;
     World {
         state,
         status,
@@ -182,6 +183,6 @@ pub(crate) fn path(w: World, time: u64) -> World {
         sent,
         resent,
         evs,
-        number: sender::path_number(route),
+        number: number_of(verdict),
     }
 }

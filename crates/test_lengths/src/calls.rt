@@ -1,6 +1,7 @@
 // Every entry point on lent slices of any lengths.
 use crate::make;
 use crate::make::Evs;
+use rules::verdict::number_of;
 use sender::Ack;
 use sender::Answer;
 use sender::Controller;
@@ -30,27 +31,27 @@ pub struct Got {
 
 fn of_answer(answer: Answer) -> Got {
     let state = answer.state;
-    let outcome = answer.outcome;
+    let verdict = answer.verdict;
     Got {
-        number: sender::number_of(outcome),
+        number: number_of(verdict),
         state,
     }
 }
 
 fn of_heard(heard: Heard) -> Got {
     let state = heard.state;
-    let feedback = heard.feedback;
+    let verdict = heard.verdict;
     Got {
-        number: sender::feedback_number(feedback),
+        number: number_of(verdict),
         state,
     }
 }
 
 fn of_routed(routed: Routed) -> Got {
     let state = routed.state;
-    let route = routed.route;
+    let verdict = routed.verdict;
     Got {
-        number: sender::path_number(route),
+        number: number_of(verdict),
         state,
     }
 }
