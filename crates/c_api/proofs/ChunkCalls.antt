@@ -12,30 +12,30 @@ use Rattle.replay.specs.Places.{Feed, Turning, lastPlace, lastWorld}
 use Rattle.replay.specs.declared.Place.{Place}
 use Rattle.replay_chunks.specs.Chunks.{partOf, Chunking, untouched}
 use Rattle.replay_chunks.specs.Statements.{Between, Kept, Call, answered, left, tookBy, answersBy, turnsBy, overBy, joinedLog, answersFed, turnsFed, endFed, Ends}
-use Rattle.replay_chunks.specs.declared.Held.{Held}
+use Rattle.replay_chunks.specs.declared.Carry.{Carry}
 use Rattle.replay_chunks.proofs.Calls.{One, one, left-out, taken-in, either-way}
 use Rattle.replay_chunks.proofs.Joined.{calls-joined}
-use Rattle.replay_chunks.proofs.Tests.{keeps-holds}
+use Rattle.replay_chunks.proofs.Tests.{chunk-place}
 use Rattle.c_state.specs.Layout.{wordCount, flag, unpacked}
 use Rattle.c_state.specs.Statements.{Machine}
 use Rattle.c_api.specs.Batch.{wordsThen}
-use Rattle.c_api.specs.Parts.{partWords, heldFrom, partOk, Chunked, chunkCalled, partThen, handedPart, onChunkWords}
+use Rattle.c_api.specs.Parts.{partWords, carryFrom, partOk, Chunked, chunkCalled, partThen, handedPart, onChunkWords}
 use Rattle.c_api.specs.Statements.{Lent, chunkCall, chunkLeft, partStopped, partAnswered, toldBy, chunkAnswers, chunkTook, chunkLog, chunkAll, chunkLast, ChunkEnds, sharedWords}
 use Rattle.c_api.proofs.Machines.{Going, turns-going}
 use Rattle.c_api.proofs.Parting.{part-long}
-use Rattle.c_api.proofs.Stored.{none-stored, then-long, back, twice, held-back, threeWords, three-back, part-ok}
+use Rattle.c_api.proofs.Stored.{none-stored, then-long, back, twice, carry-back, threeWords, three-back, part-ok}
 
 -- ---- nscc_chunk: what is lent, as the definitions hold it
 
 abbrev pub between : Lent → Between
-between l = record { held = heldFrom (l .part); piece = l .piece; after = world (unpacked (l .words) .state) (l .slots) (l .times) }
+between l = record { carry = carryFrom (l .part); piece = l .piece; after = world (unpacked (l .words) .state) (l .slots) (l .times) }
 
 -- what every call finds
 pub record Sound (l : Lent) : Type 0 where
   pub ok : partOk (l .part) (l .words) ≡ true
   pub good : Kept (between l)
-  pub machine : (between l .held .place .done ≡ 0 → ⊥) → Machine (between l .after .state)
-  pub first-words : take sharedWords (l .part) ≡ threeWords (between l .held .place)
+  pub machine : (between l .carry .place .done ≡ 0 → ⊥) → Machine (between l .after .state)
+  pub first-words : take sharedWords (l .part) ≡ threeWords (between l .carry .place)
 
 -- what a call hands back in words is what the chunk is answered
 pub record Matches (l : Lent) (c : Call) (x : Chunked) (r : Chunking) : Type 0 where
@@ -44,7 +44,7 @@ pub record Matches (l : Lent) (c : Call) (x : Chunked) (r : Chunking) : Type 0 w
   pub answers : chunkAnswers x ≡ answersBy r
   pub took : chunkTook c x ≡ tookBy c r
   pub next : between (chunkLeft x) ≡ left r
-  pub words : x .words ≡ wordsThen 0 (r .held .place) (r .count) (r .after .state) (l .words)
+  pub words : x .words ≡ wordsThen 0 (r .carry .place) (r .count) (r .after .state) (l .words)
   pub sound : Sound (chunkLeft x)
 
 module _ (l : Lent) (c : Call) (s : Sound l) where
@@ -58,7 +58,7 @@ module _ (l : Lent) (c : Call) (s : Sound l) where
   o = one b c (s .good)
 
   abbrev whole : Feed
-  whole = partOf (b .held) (b .piece) (c .chunk) (c .ended)
+  whole = partOf (b .carry) (b .piece) (c .chunk) (c .ended)
 
   words-few : length (l .words) ≡ wordCount
   words-few = part-long (l .part) (l .words) (s .ok) .1
@@ -69,7 +69,7 @@ module _ (l : Lent) (c : Call) (s : Sound l) where
 
   -- left out: all is as it was
   abbrev out : Chunking
-  out = untouched 28 0 (b .held) (b .after) (b .piece) (c .room)
+  out = untouched 28 0 (b .carry) (b .after) (b .piece) (c .room)
 
   left-matches : Matches l c (handedPart (l .part) (l .words) out) out
   unfolding handedPart partThen wordsThen toldBy ifEq
@@ -80,53 +80,53 @@ module _ (l : Lent) (c : Call) (s : Sound l) where
         answers = refl;
         took = refl;
         next = refl;
-        words = sym (none-stored (b .held .place) 0 (b .after .state) (l .words) refl);
+        words = sym (none-stored (b .carry .place) 0 (b .after .state) (l .words) refl);
         sound = s;
       }
 
-  -- taken in: what is held, and the state, are stored
+  -- taken in: what is carried, and the state, are stored
   abbrev ws : List ℕ
-  ws = wordsThen 0 (r .held .place) (r .count) (r .after .state) (l .words)
+  ws = wordsThen 0 (r .carry .place) (r .count) (r .after .state) (l .words)
 
   abbrev made : Chunked
-  made = chunkCalled 0 (partWords (r .held) (r .count) (r .taken)) (r .piece) ws (r .after .slots) (r .after .times) (r .room)
+  made = chunkCalled 0 (partWords (r .carry) (r .count) (r .taken)) (r .piece) ws (r .after .slots) (r .after .times) (r .room)
 
   is-made : r .number ≡ 0 → handedPart (l .part) (l .words) r ≡ made
   unfolding handedPart partThen ifEq
   is-made e =
       ap
       (λ (n : ℕ).
-      chunkCalled n (partThen n (r .held) (r .count) (r .taken) (l .part)) (r .piece) (wordsThen n (r .held .place) (r .count) (r .after .state) (l .words))
+      chunkCalled n (partThen n (r .carry) (r .count) (r .taken) (l .part)) (r .piece) (wordsThen n (r .carry .place) (r .count) (r .after .state) (l .words))
       (r .after .slots) (r .after .times) (r .room))
       e
 
-  going : Going (b .held .place) (b .after)
-  going = (keeps-holds (b .held) (b .after) (b .piece) (s .good), s .machine)
+  going : Going (b .carry .place) (b .after)
+  going = (chunk-place (b .carry) (b .after) (b .piece) (s .good), s .machine)
 
   -- by the turns
   abbrev ts : List Turning
   ts = turnsBy b c r
 
-  ws-are : ws ≡ wordsThen 0 (lastPlace (b .held .place) ts) (length ts) (lastWorld (b .after) ts .state) (l .words)
+  ws-are : ws ≡ wordsThen 0 (lastPlace (b .carry .place) ts) (length ts) (lastWorld (b .after) ts .state) (l .words)
   ws-are =
       ap (λ (q : Place). wordsThen 0 q (r .count) (r .after .state) (l .words)) (o .place)
-      ∙ (ap (λ (n : ℕ). wordsThen 0 (lastPlace (b .held .place) ts) n (r .after .state) (l .words)) (sym (o .counted))
-      ∙ ap (λ (v : World). wordsThen 0 (lastPlace (b .held .place) ts) (length ts) (v .state) (l .words)) (o .after))
+      ∙ (ap (λ (n : ℕ). wordsThen 0 (lastPlace (b .carry .place) ts) n (r .after .state) (l .words)) (sym (o .counted))
+      ∙ ap (λ (v : World). wordsThen 0 (lastPlace (b .carry .place) ts) (length ts) (v .state) (l .words)) (o .after))
 
   state-back : unpacked ws .state ≡ r .after .state
   state-back =
-      rw ws-are (back whole (r .count) (b .held .place) (b .after) going (l .words) refl ∙ sym (ap (λ (v : World). v .state) (o .after)))
+      rw ws-are (back whole (r .count) (b .carry .place) (b .after) going (l .words) refl ∙ sym (ap (λ (v : World). v .state) (o .after)))
 
   made-next : between (chunkLeft made) ≡ left r
   made-next =
-      ap (λ (h : Held). record { held = h; piece = r .piece; after = world (unpacked ws .state) (r .after .slots) (r .after .times) })
-      (held-back (r .held) (r .count) (r .taken))
-      ∙ ap (λ (d : Controller). record { held = r .held; piece = r .piece; after = world d (r .after .slots) (r .after .times) }) state-back
+      ap (λ (h : Carry). record { carry = h; piece = r .piece; after = world (unpacked ws .state) (r .after .slots) (r .after .times) })
+      (carry-back (r .carry) (r .count) (r .taken))
+      ∙ ap (λ (d : Controller). record { carry = r .carry; piece = r .piece; after = world d (r .after .slots) (r .after .times) }) state-back
 
-  made-machine : (r .held .place .done ≡ 0 → ⊥) → Machine (unpacked ws .state)
+  made-machine : (r .carry .place .done ≡ 0 → ⊥) → Machine (unpacked ws .state)
   made-machine some =
-      let done : lastPlace (b .held .place) ts .done ≡ 0 → ⊥ = λ z. some (ap (λ (q : Place). q .done) (o .place) ∙ z) in
-      let m : Machine (lastWorld (b .after) ts .state) = turns-going whole (r .count) (b .held .place) (b .after) going .1 done in
+      let done : lastPlace (b .carry .place) ts .done ≡ 0 → ⊥ = λ z. some (ap (λ (q : Place). q .done) (o .place) ∙ z) in
+      let m : Machine (lastWorld (b .after) ts .state) = turns-going whole (r .count) (b .carry .place) (b .after) going .1 done in
       rw (state-back ∙ ap (λ (v : World). v .state) (o .after)) m
 
   made-matches : r .number ≡ 0 → Matches l c made r
@@ -141,10 +141,10 @@ module _ (l : Lent) (c : Call) (s : Sound l) where
         words = refl;
         sound =
             record {
-              ok = part-ok (r .held) (r .count) (r .taken) ws (then-long (r .held .place) (r .count) (r .after .state) (l .words) words-few);
+              ok = part-ok (r .carry) (r .count) (r .taken) ws (then-long (r .carry .place) (r .count) (r .after .state) (l .words) words-few);
               good = subst Kept (sym made-next) (o .good);
               machine = made-machine;
-              first-words = three-back (r .held .place);
+              first-words = three-back (r .carry .place);
             };
       }
 
@@ -163,19 +163,19 @@ pub record Run (l : Lent) (cs : List Call) : Type 0 where
   pub last : between (chunkLast l cs) ≡ endFed (between l) cs
   pub words :
       chunkLast l cs .words
-      ≡ wordsThen 0 (endFed (between l) cs .held .place) (length (turnsFed (between l) cs)) (endFed (between l) cs .after .state) (l .words)
+      ≡ wordsThen 0 (endFed (between l) cs .carry .place) (length (turnsFed (between l) cs)) (endFed (between l) cs .after .state) (l .words)
   pub sound : Sound (chunkLast l cs)
   pub ends : ChunkEnds l cs → Ends true (between l) cs
 
 -- what is stored by a call and by those behind it is what one would store
 fed-twice : (b : Between) (cs : List Call) → Kept b → (count : ℕ) (ws : List ℕ)
     → let e = endFed b cs in let us = turnsFed b cs in
-    wordsThen 0 (e .held .place) (length us) (e .after .state) (wordsThen 0 (b .held .place) count (b .after .state) ws)
-    ≡ wordsThen 0 (e .held .place) (count + length us) (e .after .state) ws
+    wordsThen 0 (e .carry .place) (length us) (e .after .state) (wordsThen 0 (b .carry .place) count (b .after .state) ws)
+    ≡ wordsThen 0 (e .carry .place) (count + length us) (e .after .state) ws
 fed-twice b cs good count ws =
     let g = calls-joined b cs good in
-    let f = partOf (b .held) (b .piece) (joinedLog b cs) true in
-    rw (g .place, g .after) (rw (sym (g .turns)) at (twice f (length (turnsFed b cs)) (b .held .place) (b .after) count ws))
+    let f = partOf (b .carry) (b .piece) (joinedLog b cs) true in
+    rw (g .place, g .after) (rw (sym (g .turns)) at (twice f (length (turnsFed b cs)) (b .carry .place) (b .after) count ws))
 
 module _ (l : Lent) (c : Call) (m : Matches l c (chunkCall l c) (answered (between l) c)) where
   abbrev then : Lent
@@ -191,7 +191,7 @@ run l [] s =
       answers = refl;
       log = refl;
       last = refl;
-      words = sym (none-stored (between l .held .place) 0 (between l .after .state) (l .words) refl);
+      words = sym (none-stored (between l .carry .place) 0 (between l .after .state) (l .words) refl);
       sound = s;
       ends = λ e. e;
     }
@@ -202,7 +202,7 @@ run l (c ∷ cs) s =
     let o = one b c (s .good) in
     let m = matches l c s in
     let later = run (chunkLeft x) cs (m .sound) in
-    let stop : flag (x .part) partStopped ≡ r .held .place .stopped = ap (λ (d : Between). d .held .place .stopped) (m .next) in
+    let stop : flag (x .part) partStopped ≡ r .carry .place .stopped = ap (λ (d : Between). d .carry .place .stopped) (m .next) in
     let us = turnsFed (left r) cs in
     let e = endFed (left r) cs in
     let counted : r .count + length us ≡ length (turnsBy b c r ++ us)
@@ -218,9 +218,9 @@ run l (c ∷ cs) s =
       last = later .last ∙ ap (λ (d : Between). endFed d cs) (m .next);
       words =
           later .words
-          ∙ (ap (λ (d : Between). wordsThen 0 (endFed d cs .held .place) (length (turnsFed d cs)) (endFed d cs .after .state) (x .words)) (m .next)
-          ∙ (ap (λ (ws : List ℕ). wordsThen 0 (e .held .place) (length us) (e .after .state) ws) (m .words)
-          ∙ (fed-twice (left r) cs (o .good) (r .count) (l .words) ∙ ap (λ (n : ℕ). wordsThen 0 (e .held .place) n (e .after .state) (l .words)) counted)));
+          ∙ (ap (λ (d : Between). wordsThen 0 (endFed d cs .carry .place) (length (turnsFed d cs)) (endFed d cs .after .state) (x .words)) (m .next)
+          ∙ (ap (λ (ws : List ℕ). wordsThen 0 (e .carry .place) (length us) (e .after .state) ws) (m .words)
+          ∙ (fed-twice (left r) cs (o .good) (r .count) (l .words) ∙ ap (λ (n : ℕ). wordsThen 0 (e .carry .place) n (e .after .state) (l .words)) counted)));
       sound = later .sound;
       ends = ends-first l c m cs (later .ends);
     }

@@ -30,7 +30,7 @@ use Rattle.c_api.specs.Calls.{Called, pathBeside, nackBeside, onWords, o
 module _ {A : Type 0} (view : World → A) (w after : World) where
   decided-keeps : (n : ℕ) → (n ≡ 0 → view after ≡ view w) → view (decided n w after .after) ≡ view w
   unfolding decided
-  decided-keeps n keeps = eq-both (λ (a : Answered). view (a .after) ≡ view w) n 0 _ _ keeps (λ _. refl)
+  decided-keeps n soundChunk = eq-both (λ (a : Answered). view (a .after) ≡ view w) n 0 _ _ soundChunk (λ _. refl)
 
 -- where no row applies, number 2 does not
 none-sound : (w : World) (xs : List Row) → firstOf (withSound w xs) ≡ 0 → (s : Bool) → sound w ≡ s → (sound w ≡ true) × (firstOf xs ≡ 0)

@@ -12,7 +12,7 @@ use borrow.Author.Tests.{eq-eqb}
 use Rattle.ledger.specs.Ring.{Ring}
 use Rattle.sender.specs.World.{World}
 use Rattle.replay.specs.Answers.{soundAfter}
-use Rattle.replay.specs.Places.{logged, holds, Turning, turnsOf, lastPlace, lastWorld}
+use Rattle.replay.specs.Places.{logged, soundPlace, Turning, turnsOf, lastPlace, lastWorld}
 use Rattle.replay.specs.Batches.{wordsOf}
 use Rattle.replay.specs.declared.Place.{Place}
 use Rattle.replay_chunks.specs.Chunks.{Chunking}
@@ -20,7 +20,7 @@ use Rattle.replay_chunks.specs.Statements.{Between, Kept, Call, joinedLog, turn
 use Rattle.replay_chunks.proofs.Calls.{left-out, taken-in, either-way}
 use Rattle.replay_chunks.proofs.Joined.{log-begun, log-joined}
 use Rattle.replay_chunks.proofs.Joins.{words-long}
-use Rattle.replay_chunks.proofs.Tests.{keeps-yes}
+use Rattle.replay_chunks.proofs.Tests.{chunk-yes}
 use Rattle.c_state.specs.Layout.{wordCount, bit}
 use Rattle.c_api.specs.Batch.{lentOk, wordsThen}
 use Rattle.c_api.specs.Parts.{partOk}
@@ -40,18 +40,18 @@ module _ (piece ws : List ℕ) (r : Ring) (t : List ℕ) (sized : Sized piece ws
   b = between l
 
   abbrev p : Place
-  p = b .held .place
+  p = b .carry .place
 
   abbrev w : World
   w = b .after
 
   -- before record 1 there is no state to hold together
-  starts : holds p w ≡ true
-  unfolding holds soundAfter
+  starts : soundPlace p w ≡ true
+  unfolding soundPlace soundAfter
   starts = refl
 
   start-kept : Kept b
-  start-kept = keeps-yes (b .held) w piece (sized .room) (omega arith) (omega arith) starts
+  start-kept = chunk-yes (b .carry) w piece (sized .room) (omega arith) (omega arith) starts
 
   start-sound : Sound l
   unfolding partOk bit
@@ -91,7 +91,7 @@ module _ (piece ws : List ℕ) (r : Ring) (t : List ℕ) (sized : Sized piece ws
     answered-long = ap length (calls .answers ∙ log-begun b cs start-kept refl refl .answers) ∙ words-long ts
 
     finished : ChunkFinished l cs → Finished true b cs
-    finished = ⊎-elim (λ s. inl (ap (λ (d : Between). d .held .place .stopped) (sym (calls .last)) ∙ s)) (λ e. inr (calls .ends e))
+    finished = ⊎-elim (λ s. inl (ap (λ (d : Between). d .carry .place .stopped) (sym (calls .last)) ∙ s)) (λ e. inr (calls .ends e))
 
     -- the calls' turns are as many of the log's as the rooms have words
     same-turns : (rooms : List (List ℕ)) → Enough l cs rooms → ts ≡ take (roomsLong rooms) all
@@ -109,7 +109,7 @@ module _ (piece ws : List ℕ) (r : Ring) (t : List ℕ) (sized : Sized piece ws
         let us = take (roomsLong rooms) all in
         let made = replays (chunkLog l cs) a p w rooms start-stands in
         let same : ts ≡ us = same-turns rooms enough in
-        let place : endFed b cs .held .place ≡ lastPlace p us = g .place ∙ ap (lastPlace p) same in
+        let place : endFed b cs .carry .place ≡ lastPlace p us = g .place ∙ ap (lastPlace p) same in
         let after : endFed b cs .after ≡ lastWorld w us = g .after ∙ ap (lastWorld w) same in
         let world-after : between (chunkLast l cs) .after ≡ lastWorld w us = ap (λ (d : Between). d .after) (calls .last) ∙ after in
         let there = made .stands in
@@ -117,7 +117,7 @@ module _ (piece ws : List ℕ) (r : Ring) (t : List ℕ) (sized : Sized piece ws
           answers = calls .answers ∙ (g .answers ∙ (ap wordsOf same ∙ sym (made .answers)));
           place =
               calls .sound .first-words
-              ∙ (ap (λ (d : Between). threeWords (d .held .place)) (calls .last) ∙ (ap threeWords place ∙ sym (there .first-words)));
+              ∙ (ap (λ (d : Between). threeWords (d .carry .place)) (calls .last) ∙ (ap threeWords place ∙ sym (there .first-words)));
           words =
               calls .words
               ∙ (ap (λ (q : Place). wordsThen 0 q (length ts) (endFed b cs .after .state) ws) place

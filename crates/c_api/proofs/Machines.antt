@@ -21,13 +21,13 @@ use Rattle.sender.specs.Events.{onNewData, onSend, onAck, onNack, onLoss, onPat
 use Rattle.sender.proofs.Starts.{set-up-sound}
 use Rattle.sender.proofs.Kept.{new-data-lasts, send-lasts, ack-lasts, nack-lasts, loss-lasts, path-lasts}
 use Rattle.replay.specs.Answers.{soundAfter, onFirst, onLater, onEvent, Telling}
-use Rattle.replay.specs.Places.{Feed, holds, Turning, placeAfter, turnOf, turnsOf, lastPlace, lastWorld}
+use Rattle.replay.specs.Places.{Feed, soundPlace, Turning, placeAfter, turnOf, turnsOf, lastPlace, lastWorld}
 use Rattle.replay.specs.declared.Place.{Place}
 use Rattle.replay.specs.declared.Shown.{Shown}
 use Rattle.replay.specs.declared.records.Event.{Event}
 use Rattle.replay.specs.declared.records.Event.the-variants as event
 use Rattle.replay.specs.declared.turns.Found.the-variants as found
-use Rattle.replay.proofs.Progress.{turn-cases, turn-holds, held-sound}
+use Rattle.replay.proofs.Progress.{turn-cases, turn-sound-place, place-sound-after}
 use Rattle.replay.proofs.Parts.{along}
 use Rattle.c_state.specs.Statements.{Machine}
 use Rattle.c_state.proofs.Inverse.{sound-machine}
@@ -106,7 +106,7 @@ first-twelve (event.SetUp s) w e = absurd (no-twelve s w e)
 
 -- number 2 does not apply, and past record 1 the state is one that the machine can hold
 abbrev pub Going : Place → World → Type 0
-Going p w = (holds p w ≡ true) × ((p .done ≡ 0 → ⊥) → Machine (w .state))
+Going p w = (soundPlace p w ≡ true) × ((p .done ≡ 0 → ⊥) → Machine (w .state))
 
 -- a record that is refused with 12 is not done
 refused-done : (p : Place) (next number : ℕ) (shown : Shown) → number ≡ 12 → p .done ≡ placeAfter p next number shown .done
@@ -122,12 +122,12 @@ module _ (f : Feed) where
     event-machine s e next =
         eq-both (λ (t : Telling). (placeAfter p next (t .number) (t .shown) .done ≡ 0 → ⊥) → Machine (t .after .state)) (p .done) 0 (onFirst e w) (onLater e w)
         (λ z n. first-machine e w (λ is. n (sym (refused-done p next (onFirst e w .number) (onFirst e w .shown) is) ∙ z)))
-        (λ some _. later-machine e w (rw (ne-eqb (p .done) 0 some) at (held-sound p w (going .0) s)))
+        (λ some _. later-machine e w (rw (ne-eqb (p .done) 0 some) at (place-sound-after p w (going .0) s)))
 
     turn-going : Going (turnOf f p w .place) (turnOf f p w .after)
     unfolding placeAfter ifEq
     turn-going = (
-      turn-holds f p w (going .0),
+      turn-sound-place f p w (going .0),
       turn-cases f p w (λ (t : Turning). (t .place .done ≡ 0 → ⊥) → Machine (t .after .state)) (going .1)
           (λ e next s q. event-machine s e next)
           (λ s i. going .1),

@@ -1,5 +1,5 @@
 -- What a chunk over lent words hands back, from what its parts gave: 2 where what was lent is wrong (`part-wrong`), else what the chunk gave (`part-back`).
--- And the words of what is held, and the test of what was lent.
+-- And the words of what is carried, and the test of what was lent.
 -- Assumes nothing.
 use mathlib.Core.Path.{_≡_, refl, ap, _∙_}
 use mathlib.Core.Bool.{Bool, true, false, _&&_}
@@ -15,15 +15,15 @@ use Rattle.rules.specs.Test.{both}
 use Rattle.ledger.specs.Ring.{Ring}
 use Rattle.sender.specs.World.{world}
 use Rattle.replay_chunks.specs.Chunks.{Chunking, chunkOf}
-use Rattle.replay_chunks.specs.declared.Held.{Held}
+use Rattle.replay_chunks.specs.declared.Carry.{Carry}
 use Rattle.c_state.specs.Layout.{wordCount, bit, word, unpacked}
 use Rattle.c_state.specs.declared.Unpacked.{Unpacked}
 use Rattle.c_api.specs.Batch.{wordsThen}
-use Rattle.c_api.specs.Parts.{partCount, partWords, heldFrom, partOk, partThen, chunkCalled, handedPart, onChunkWords}
+use Rattle.c_api.specs.Parts.{partCount, partWords, carryFrom, partOk, partThen, chunkCalled, handedPart, onChunkWords}
 
--- the words of what is held over the six that were lent, the third a flag's
+-- the words of what is carried over the six that were lent, the third a flag's
 pub part-stored :
-    (ws : List ℕ) → length ws ≡ partCount → (h : Held) (count taken stopped : ℕ) → stopped ≡ bit (h .place .stopped) →
+    (ws : List ℕ) → length ws ≡ partCount → (h : Carry) (count taken stopped : ℕ) → stopped ≡ bit (h .place .stopped) →
     sets ws 0 (h .place .at ∷ h .place .done ∷ stopped ∷ h .length ∷ count ∷ taken ∷ []) ≡ partWords h count taken
 part-stored ws long h count taken stopped e =
     let vs = h .place .at ∷ h .place .done ∷ stopped ∷ h .length ∷ count ∷ taken ∷ [] in
@@ -51,18 +51,18 @@ module _ (chunk : List ℕ) (ended : Bool) (part piece ws : List ℕ) (r : Ring)
   part-wrong e = so-no (partOk part ws) _ _ _ e refl
 
   module _
-      (ok : partOk part ws ≡ true) (h : Held) (h-is : h ≡ heldFrom part) (given : Unpacked) (given-is : given ≡ unpacked ws)
+      (ok : partOk part ws ≡ true) (h : Carry) (h-is : h ≡ carryFrom part) (given : Unpacked) (given-is : given ≡ unpacked ws)
       (b : Chunking) (b-is : b ≡ chunkOf h (world (given .state) r t) piece chunk ended answers)
     where
-      as-defined : b ≡ chunkOf (heldFrom part) (world (unpacked ws .state) r t) piece chunk ended answers
+      as-defined : b ≡ chunkOf (carryFrom part) (world (unpacked ws .state) r t) piece chunk ended answers
       as-defined =
           b-is
-          ∙ ap (λ (x : Held). chunkOf x (world (given .state) r t) piece chunk ended answers) h-is
-          ∙ ap (λ (u : Unpacked). chunkOf (heldFrom part) (world (u .state) r t) piece chunk ended answers) given-is
+          ∙ ap (λ (x : Carry). chunkOf x (world (given .state) r t) piece chunk ended answers) h-is
+          ∙ ap (λ (u : Unpacked). chunkOf (carryFrom part) (world (u .state) r t) piece chunk ended answers) given-is
 
       pub part-back :
-          (n : ℕ) (p xs : List ℕ) → n ≡ b .number → p ≡ partThen (b .number) (b .held) (b .count) (b .taken) part →
-          xs ≡ wordsThen (b .number) (b .held .place) (b .count) (b .after .state) ws →
+          (n : ℕ) (p xs : List ℕ) → n ≡ b .number → p ≡ partThen (b .number) (b .carry) (b .count) (b .taken) part →
+          xs ≡ wordsThen (b .number) (b .carry .place) (b .count) (b .after .state) ws →
           chunkCalled n p (b .piece) xs (b .after .slots) (b .after .times) (b .room) ≡ onChunkWords chunk ended part piece ws r t answers
       unfolding onChunkWords handedPart
       part-back n p xs n-is p-is xs-are = so-yes (partOk part ws) _ _ _ ok (rw (n-is, p-is, xs-are) (ap (handedPart part ws) as-defined))

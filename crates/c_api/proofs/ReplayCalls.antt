@@ -9,8 +9,8 @@ use lib.Seq.{sets, take-add, drop-append-seam}
 use Rattle.rules.specs.Branch.{ifEq, so-yes}
 use Rattle.sender.specs.World.{World, world}
 use Rattle.sender.specs.declared.Controller.{Controller}
-use Rattle.replay.specs.Places.{Feed, logged, holds, Turning, turnsOf, lastPlace, lastWorld}
-use Rattle.replay.specs.Batches.{wordsOf, filled, batchOf}
+use Rattle.replay.specs.Places.{Feed, logged, soundPlace, Turning, turnsOf, lastPlace, lastWorld}
+use Rattle.replay.specs.Batches.{wordsOf, fillRoomOf, batchOf}
 use Rattle.replay.specs.declared.Place.{Place}
 use Rattle.replay.proofs.Progress.{turns-split, place-append, world-append}
 use Rattle.replay_chunks.proofs.Calls.{words-first}
@@ -61,8 +61,8 @@ module _ (log : List ℕ) where
     abbrev gave : Replayed
     gave = replayCalled 0 (placeWords q (length first)) stored (v .slots) (v .times) (sets room 0 (wordsOf first))
 
-    gave-filled : gave ≡ handed (a .place) (a .words) (filled f p w room)
-    unfolding handed filled placeThen ifEq
+    gave-filled : gave ≡ handed (a .place) (a .words) (fillRoomOf f p w room)
+    unfolding handed fillRoomOf placeThen ifEq
     gave-filled = refl
 
     gave-is : replayCall log a room ≡ gave
@@ -73,7 +73,7 @@ module _ (log : List ℕ) where
         (handed (a .place) (a .words) (batchOf f (placeFrom (a .place)) (world (unpacked (a .words) .state) (a .slots) (a .times)) room)) _ (s .ok)
         (gave-filled
         ∙ ap (handed (a .place) (a .words))
-        (so-yes (holds p w) (filled f p w room) (filled f p w room) _ (s .going .0) refl
+        (so-yes (soundPlace p w) (fillRoomOf f p w room) (fillRoomOf f p w room) _ (s .going .0) refl
         ∙ (ap (λ (y : Place). batchOf f y w room) (sym (s .place)) ∙ ap (λ (y : World). batchOf f (placeFrom (a .place)) y room) (sym (s .world-is))))))
 
     gave-answers : replayAnswers gave ≡ wordsOf first

@@ -15,12 +15,12 @@ use Rattle.sender.specs.World.{World}
 use Rattle.sender.specs.declared.Controller.{Controller}
 use Rattle.replay.specs.Places.{Feed, Turning, turnsOf, lastPlace, lastWorld}
 use Rattle.replay.specs.declared.Place.{Place}
-use Rattle.replay_chunks.specs.declared.Held.{Held}
+use Rattle.replay_chunks.specs.declared.Carry.{Carry}
 use Rattle.c_state.specs.Layout.{wordCount, bit, stateWords, unpacked}
 use Rattle.c_state.specs.Statements.{Machine}
 use Rattle.c_state.proofs.Inverse.{long, unpack-pack}
 use Rattle.c_api.specs.Batch.{placeWords, placeFrom, lentOk, wordsThen}
-use Rattle.c_api.specs.Parts.{partWords, heldFrom, partOk}
+use Rattle.c_api.specs.Parts.{partWords, carryFrom, partOk}
 use Rattle.c_api.proofs.Answers.{unpacked-state}
 use Rattle.c_api.proofs.Machines.{Going, turns-going, done-forward, none-changed}
 
@@ -100,7 +100,7 @@ module _ (f : Feed) (n : ℕ) (p : Place) (w : World) where
       stored there (length ts) (then .state) once some done
       ∙ sym (stored there (count + length ts) (then .state) ws (λ z. some (omega arith)) done)))
 
--- ---- what is held, and a place, as words and back
+-- ---- what is carried, and a place, as words and back
 
 flag-bit : (b : Bool) → eqb (bit b) 1 ≡ b
 unfolding bit
@@ -115,8 +115,8 @@ bit-small false = refl
 pub place-back : (p : Place) (count : ℕ) → placeFrom (placeWords p count) ≡ p
 place-back p count = ap (λ (b : Bool). record { at = p .at; done = p .done; stopped = b }) (flag-bit (p .stopped))
 
-pub held-back : (h : Held) (count taken : ℕ) → heldFrom (partWords h count taken) ≡ h
-held-back h count taken =
+pub carry-back : (h : Carry) (count taken : ℕ) → carryFrom (partWords h count taken) ≡ h
+carry-back h count taken =
     ap (λ (b : Bool). record { length = h .length; place = record { at = h .place .at; done = h .place .done; stopped = b } }) (flag-bit (h .place .stopped))
 
 -- the words of a place, which both have first
@@ -126,7 +126,7 @@ threeWords p = p .at ∷ p .done ∷ bit (p .stopped) ∷ []
 pub three-back : (p : Place) → threeWords p ≡ p .at ∷ p .done ∷ bit (eqb (bit (p .stopped)) 1) ∷ []
 three-back p = ap (λ (b : Bool). p .at ∷ p .done ∷ bit b ∷ []) (sym (flag-bit (p .stopped)))
 
-pub part-ok : (h : Held) (count taken : ℕ) (ws : List ℕ) → length ws ≡ wordCount → partOk (partWords h count taken) ws ≡ true
+pub part-ok : (h : Carry) (count taken : ℕ) (ws : List ℕ) → length ws ≡ wordCount → partOk (partWords h count taken) ws ≡ true
 unfolding partOk
 part-ok h count taken ws e = rw (eq-eqb (length ws) wordCount e, bit-small (h .place .stopped))
 

@@ -23,14 +23,14 @@ use Rattle.sender.specs.declared.Nack.{Nack}
 use Rattle.sender.specs.declared.Loss.{Loss}
 use Rattle.sender.proofs.Refusals.{new-data-same, send-same, ack-same, nack-same, loss-same, path-same, set-up-same}
 use Rattle.replay.specs.Answers.{soundAfter}
-use Rattle.replay.specs.Places.{logged, offsetMost, holds}
-use Rattle.replay.specs.Batches.{Batching, filled, batchOf}
-use Rattle.replay_chunks.specs.Chunks.{Chunking, keeps, takes, chunkOf}
+use Rattle.replay.specs.Places.{logged, offsetMost, soundPlace}
+use Rattle.replay.specs.Batches.{Batching, fillRoomOf, batchOf}
+use Rattle.replay_chunks.specs.Chunks.{Chunking, soundChunk, takes, chunkOf}
 use Rattle.c_state.specs.Layout.{word, flag, settingsFrom, stateFrom, wordsOk, unpacked}
 use Rattle.c_state.specs.declared.Unpacked.{Unpacked}
 use Rattle.c_api.specs.Calls.{Called, called, wordsAfter, Beside, pathBeside, ackBeside, nackBeside, besideWord, onWords, onBesideWords, onSetUpWords}
 use Rattle.c_api.proofs.Singles.{word-parts, path-double, ack-double, nack-double}
-use Rattle.c_api.specs.Parts.{heldFrom, partOk, Chunked, chunkCalled, partThen, handedPart, onChunkWords}
+use Rattle.c_api.specs.Parts.{carryFrom, partOk, Chunked, chunkCalled, partThen, handedPart, onChunkWords}
 use Rattle.c_api.specs.Batch.{placeFrom, lentOk, Replayed, replayCalled, placeThen, wordsThen, handed, onReplayWords}
 
 pub record Untouched (x : Called) (ws : List ℕ) (r : Ring) (t : List ℕ) : Type 0 where
@@ -159,14 +159,14 @@ module _ (log place ws : List ℕ) (r : Ring) (t answers : List ℕ) where
   batch-spared b f h = rw (ne-eqb (b .number) 0 h) (f h)
 
   pub replay-untouched : SparedReplay (onReplayWords log place ws r t answers)
-  unfolding onReplayWords batchOf filled
+  unfolding onReplayWords batchOf fillRoomOf
   replay-untouched =
       let p = placeFrom place in
       let w = world (unpacked ws .state) r t in
       so-both SparedReplay (lentOk place ws) _ _
       (λ _.
       batch-spared (batchOf (logged log) p w answers)
-      (so-both (λ (b : Batching). SparedReplay (replayCalled (b .number) place ws (b .after .slots) (b .after .times) (b .room))) (holds p w) _ _
+      (so-both (λ (b : Batching). SparedReplay (replayCalled (b .number) place ws (b .after .slots) (b .after .times) (b .room))) (soundPlace p w) _ _
       (λ _ h. absurd (h refl))
       (λ _ _. refl)))
       (λ _ _. refl)
@@ -175,15 +175,15 @@ module _ (log place ws : List ℕ) (r : Ring) (t answers : List ℕ) where
   pub replay-no-state :
       wordsOk ws ≡ false → (word place 1 ≡ 0 → ⊥) → flag place 2 ≡ false →
       onReplayWords log place ws r t answers ≡ replayCalled 2 place ws r t answers
-  unfolding onReplayWords batchOf handed placeThen wordsThen holds soundAfter unpacked ifEq
+  unfolding onReplayWords batchOf handed placeThen wordsThen soundPlace soundAfter unpacked ifEq
   replay-no-state bad done going =
       let p = placeFrom place in
       let w = world (unpacked ws .state) r t in
       let zeros : unpacked ws .state ≡ freshState noSettings = ap (λ (u : Unpacked). u .state) (sym (so-no (wordsOk ws) _ _ _ bad refl)) in
       let unsound : sound w ≡ false = ap (λ (c : Controller). sound (world c r t)) zeros ∙ zeros-unsound r t in
-      let broken : holds p w ≡ false = rw (going, ne-eqb (word place 1) 0 done, unsound) (and-no (leb (word place 1) (word place 0))) in
+      let broken : soundPlace p w ≡ false = rw (going, ne-eqb (word place 1) 0 done, unsound) (and-no (leb (word place 1) (word place 0))) in
       so-both (λ (x : Replayed). x ≡ replayCalled 2 place ws r t answers) (lentOk place ws) _ _
-      (λ _. sym (ap (handed place ws) (so-no (holds p w) _ _ _ broken refl)))
+      (λ _. sym (ap (handed place ws) (so-no (soundPlace p w) _ _ _ broken refl)))
       (λ _. refl)
 
 -- ---- a refused chunk
@@ -202,13 +202,13 @@ module _ (chunk : List ℕ) (ended : Bool) (part piece ws : List ℕ) (r : Ring)
   pub chunk-untouched : SparedChunk (onChunkWords chunk ended part piece ws r t answers)
   unfolding onChunkWords chunkOf takes
   chunk-untouched =
-      let h = heldFrom part in
+      let h = carryFrom part in
       let w = world (unpacked ws .state) r t in
       let P : Chunking → Type 0 = λ b. SparedChunk (chunkCalled (b .number) part (b .piece) ws (b .after .slots) (b .after .times) (b .room)) in
       so-both SparedChunk (partOk part ws) _ _
       (λ _.
       chunk-spared (chunkOf h w piece chunk ended answers)
-      (so-both P (keeps h w piece) _ _
+      (so-both P (soundChunk h w piece) _ _
       (λ _. so-both P (h .place .stopped) _ _ (λ _ n. absurd (n refl)) (λ _. lt-both P offsetMost _ _ _ (λ _ _. refl) (λ _ n. absurd (n refl))))
       (λ _ _. refl)))
       (λ _ _. refl)

@@ -9,7 +9,7 @@ use Rattle.rules.specs.Branch.{ifSo, ifEq}
 use Rattle.ledger.specs.Ring.{Ring}
 use Rattle.sender.specs.World.{world}
 use Rattle.replay_chunks.specs.Chunks.{Chunking, chunkOf}
-use Rattle.replay_chunks.specs.declared.Held.{Held}
+use Rattle.replay_chunks.specs.declared.Carry.{Carry}
 use Rattle.c_state.specs.Layout.{wordCount, bit, word, unpacked}
 use Rattle.c_api.specs.Batch.{placeFrom, wordsThen}
 
@@ -18,13 +18,13 @@ partCount = 6
 
 -- "the piece and its length, the records done, the offset, whether it has stopped": the offset of the next record, the records done, whether replay has stopped, the
 -- piece's length; and how many answers the last call gave, and how many bytes of its chunk it took. The piece has a room of its own
-abbrev pub partWords : Held → ℕ → ℕ → List ℕ
+abbrev pub partWords : Carry → ℕ → ℕ → List ℕ
 partWords h count taken = h .place .at ∷ h .place .done ∷ bit (h .place .stopped) ∷ h .length ∷ count ∷ taken ∷ []
 
-abbrev pub heldFrom : List ℕ → Held
-heldFrom ws = record { length = word ws 3; place = placeFrom ws }
+abbrev pub carryFrom : List ℕ → Carry
+carryFrom ws = record { length = word ws 3; place = placeFrom ws }
 
--- the lengths are right, and the third word of what is held is 0 or 1
+-- the lengths are right, and the third word of what is carried is 0 or 1
 unfoldable pub partOk : List ℕ → List ℕ → Bool
 partOk part ws = eqb (length part) partCount && eqb (length ws) wordCount && ltb (word part 2) 2
 
@@ -41,20 +41,20 @@ pub record Chunked : Type 0 where
 abbrev pub chunkCalled : ℕ → List ℕ → List ℕ → List ℕ → Ring → List ℕ → List ℕ → Chunked
 chunkCalled n p piece ws r t room = record { number = n; part = p; piece = piece; words = ws; slots = r; times = t; answers = room }
 
--- the words of what is held once a chunk was answered: where it was refused, as they were
-unfoldable pub partThen : ℕ → Held → ℕ → ℕ → List ℕ → List ℕ
+-- the words of what is carried once a chunk was answered: where it was refused, as they were
+unfoldable pub partThen : ℕ → Carry → ℕ → ℕ → List ℕ → List ℕ
 partThen number h count taken part = ifEq number 0 (partWords h count taken) part
 
 -- 2 or 28, with everything as it was; or what the chunk gives. The state's words are stored as a replay stores them
 unfoldable pub handedPart : List ℕ → List ℕ → Chunking → Chunked
 handedPart part ws b =
-    chunkCalled (b .number) (partThen (b .number) (b .held) (b .count) (b .taken) part) (b .piece)
-    (wordsThen (b .number) (b .held .place) (b .count) (b .after .state) ws)
+    chunkCalled (b .number) (partThen (b .number) (b .carry) (b .count) (b .taken) part) (b .piece)
+    (wordsThen (b .number) (b .carry .place) (b .count) (b .after .state) ws)
     (b .after .slots) (b .after .times) (b .room)
 
 -- words that are no state's are a state of zeros, which number 2 refuses past record 1
 unfoldable pub onChunkWords : List ℕ → Bool → List ℕ → List ℕ → List ℕ → Ring → List ℕ → List ℕ → Chunked
 onChunkWords chunk ended part piece ws r t answers =
     ifSo (partOk part ws)
-    (handedPart part ws (chunkOf (heldFrom part) (world (unpacked ws .state) r t) piece chunk ended answers))
+    (handedPart part ws (chunkOf (carryFrom part) (world (unpacked ws .state) r t) piece chunk ended answers))
     (chunkCalled 2 part piece ws r t answers)

@@ -1,7 +1,7 @@
 // A log's bytes in chunks, request M-104: answers out as records become whole. Number 2 is tested once a call.
 use c_state::WORDS;
 use replay::Place;
-use replay_chunks::Held;
+use replay_chunks::Carry;
 use replay_chunks::Took;
 use rules::verdict::Verdict;
 use rules::verdict::number_of;
@@ -11,16 +11,16 @@ ghost use Rattle.rules.specs.Verdict.{numberOf};
 ghost use Rattle.c_state.specs.Layout.{wordCount};
 ghost use Rattle.ledger.specs.Lent.{ringBefore, ringAfter};
 ghost use Rattle.c_api.specs.Batch.{wordsThen};
-ghost use Rattle.c_api.specs.Parts.{partCount, partWords, heldFrom, partOk, partThen, chunkCalled, onChunkWords};
+ghost use Rattle.c_api.specs.Parts.{partCount, partWords, carryFrom, partOk, partThen, chunkCalled, onChunkWords};
 
-// What is held between chunks: the offset of the next record, the records done, whether replay has stopped, the piece's length, how many answers the last call gave,
+// What is carried between chunks: the offset of the next record, the records done, whether replay has stopped, the piece's length, how many answers the last call gave,
 // and how many bytes of its chunk it took.
 pub const PART_WORDS: usize = 6;
 
 // The flag that a replay has stopped is 0 or 1.
 const FLAG_END: u64 = 2;
 
-// Whether what is held and the state have their words, and the flag is one.
+// Whether what is carried and the state have their words, and the flag is one.
 fn is_lent<'a>(part: &'a [u64], state: &'a [u64]) -> bool
     ensures { λ r. ⌜ r ≡ partOk (now (part .entry)) (now (state .entry)) ⌝ }
 {
@@ -30,10 +30,10 @@ fn is_lent<'a>(part: &'a [u64], state: &'a [u64]) -> bool
     (state.len() == WORDS) & (part[2] < FLAG_END)
 }
 
-// What is held, of its words. An inner step: the caller proves that there are six.
-fn held_of(ws: &[u64]) -> Held
+// What is carried, of its words. An inner step: the caller proves that there are six.
+fn carry_of(ws: &[u64]) -> Carry
     requires { ⌜ length (now ws) ≡ partCount ⌝ }
-    ensures { λ r. ⌜ r ≡ heldFrom (now (ws .entry)) ⌝ }
+    ensures { λ r. ⌜ r ≡ carryFrom (now (ws .entry)) ⌝ }
 {
     let stopped = ws[2];
     let place = Place {
@@ -41,24 +41,24 @@ fn held_of(ws: &[u64]) -> Held
         done: ws[1],
         stopped: stopped == 1,
     };
-    Held {
+    Carry {
         length: ws[3] as usize,
         place,
     }
 }
 
-// Stores the words of what is held. An inner step: the caller proves that there are six.
-fn keep_part(ws: &mut [u64], held: Held, count: usize, taken: usize)
+// Stores the words of what is carried. An inner step: the caller proves that there are six.
+fn keep_part(ws: &mut [u64], carry: Carry, count: usize, taken: usize)
     requires { ⌜ length (now ws) ≡ partCount ⌝ }
-    ensures { λ _. ⌜ now (ws .exit) ≡ partWords held count taken ⌝ }
+    ensures { λ _. ⌜ now (ws .exit) ≡ partWords carry count taken ⌝ }
 {
-    let place = held.place;
+    let place = carry.place;
     let at = place.at;
     let stopped = place.stopped;
     ws[0] = at as u64;
     ws[1] = place.done;
     ws[2] = if stopped { 1 } else { 0 };
-    ws[3] = held.length as u64;
+    ws[3] = carry.length as u64;
     ws[4] = count as u64;
     ws[5] = taken as u64;
 }
@@ -67,8 +67,8 @@ fn keep_part(ws: &mut [u64], held: Held, count: usize, taken: usize)
 fn keep_took<'a, 'b>(part: &'a mut [u64], state: &'b mut [u64], took: Took) -> u32
     requires { ⌜ (length (now part) ≡ partCount) × (length (now state) ≡ wordCount) ⌝ }
     ensures { λ r. ⌜ (r ≡ numberOf (took .verdict))
-        × (now (part .exit) ≡ partThen (numberOf (took .verdict)) (took .held) (took .count) (took .taken) (now (part .entry)))
-        × (now (state .exit) ≡ wordsThen (numberOf (took .verdict)) (took .held .place) (took .count) (took .state)
+        × (now (part .exit) ≡ partThen (numberOf (took .verdict)) (took .carry) (took .count) (took .taken) (now (part .entry)))
+        × (now (state .exit) ≡ wordsThen (numberOf (took .verdict)) (took .carry .place) (took .count) (took .state)
         (now (state .entry))) ⌝ }
 {
     let verdict = took.verdict;
@@ -76,11 +76,11 @@ fn keep_took<'a, 'b>(part: &'a mut [u64], state: &'b mut [u64], took: Took) -> u
     if number != 0 {
         return number;
     }
-    let held = took.held;
-    let after = held.place;
+    let carry = took.carry;
+    let after = carry.place;
     let count = took.count;
     let done = after.done;
-    keep_part(part, held, count, took.taken);
+    keep_part(part, carry, count, took.taken);
     if (count != 0) & (done != 0) {
         let now = took.state;
         c_state::store(state, now);
@@ -111,11 +111,11 @@ pub extern "C" fn nscc_chunk(
     if !is_lent(part, state) {
         return number_of(Verdict::Unsound);
     }
-    let held = held_of(part);
+    let carry = carry_of(part);
     let given = c_state::unpack(state);
     let before = given.state;
     let took = replay_chunks::chunk(
-        held,
+        carry,
         before,
         status,
         size,

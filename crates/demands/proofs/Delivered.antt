@@ -18,7 +18,7 @@ use Rattle.serial.specs.Wrap.{minus}
 use Rattle.serial.specs.Psn.{psns, plus}
 use Rattle.serial.proofs.Wraps.{minus-is, minus-lt}
 use Rattle.serial.proofs.Cover.{plus-lt, plus-plus, minus-plus}
-use Rattle.ledger.specs.Packets.{doneStatus, none, isOut, isDone, coverOne, coverAll, doneRun}
+use Rattle.ledger.specs.Packets.{doneStatus, noPacket, isOut, isDone, coverOne, coverAll, doneRun}
 use Rattle.ledger.specs.Ring.{Ledger, longOf, packets, offsetOf, packetOf}
 use Rattle.ledger.specs.declared.Packet.{Packet}
 use Rattle.ledger.proofs.Facts.{Facts, packets-long}
@@ -34,15 +34,15 @@ use Rattle.demands.proofs.Sounded.{ledger-facts}
 use Rattle.demands.proofs.Ledgers.{settledBy, left-long, settled-long, settled-packets, heldIn, inFlightIn, deliver-settles}
 
 -- every packet of the run at the front is done
-run-done : (ys : List Packet) (k : ℕ) → k < doneRun ys → isDone (getD ys k none) ≡ true
+run-done : (ys : List Packet) (k : ℕ) → k < doneRun ys → isDone (getD ys k noPacket) ≡ true
 unfolding doneRun isDone
 run-done [] k h = absurd (not-suc-le-zero h)
 run-done (y ∷ ys) k h =
-    eq-both (λ (n : ℕ). k < n → isDone (getD (y ∷ ys) k none) ≡ true) (y .status) doneStatus (suc (doneRun ys)) 0
+    eq-both (λ (n : ℕ). k < n → isDone (getD (y ∷ ys) k noPacket) ≡ true) (y .status) doneStatus (suc (doneRun ys)) 0
     (λ e. go e k (run-done ys)) (λ n l. absurd (not-suc-le-zero l)) h
   where
-    go : y .status ≡ doneStatus → (k : ℕ) → ((j : ℕ) → j < doneRun ys → isDone (getD ys j none) ≡ true) → k < suc (doneRun ys)
-        → isDone (getD (y ∷ ys) k none) ≡ true
+    go : y .status ≡ doneStatus → (k : ℕ) → ((j : ℕ) → j < doneRun ys → isDone (getD ys j noPacket) ≡ true) → k < suc (doneRun ys)
+        → isDone (getD (y ∷ ys) k noPacket) ≡ true
     go e zero ih l = eq-eqb (y .status) doneStatus e
     go e (suc j) ih l = ih j (le-of-suc-le-suc l)
 
@@ -99,23 +99,23 @@ module _ (mtu clock : ℕ) (l : Ledger) (F : Facts mtu clock (l .flow) (l .slots
       let e : plus (plus low k) (gone - k) ≡ plus low gone = plus-plus low k (gone - k) ∙ ap (plus low) (omega arith) in
       ap (λ (n : ℕ). n + (gone - k)) offset ∙ (rw e at (passed (plus low k) (gone - k) (plus-lt low k) (omega arith) (omega (arith, long, few))))
 
-  pub settled-delivers : isDelivered m (plus low k) ≡ isDone (getD ys k none)
+  pub settled-delivers : isDelivered m (plus low k) ≡ isDone (getD ys k noPacket)
   unfolding isDelivered packetOf
   settled-delivers =
       by-cases (decLe gone k)
       (λ h.
       let o = here h in
       let e : gone + (k - gone) ≡ k = omega arith in
-      let p : isDone (getD ys k none) ≡ isDone (packetOf (m .flow) (m .slots) (plus low k)) =
+      let p : isDone (getD ys k noPacket) ≡ isDone (packetOf (m .flow) (m .slots) (plus low k)) =
       ap isDone (sym (
-      ap (λ (qs : List Packet). getD qs (offsetOf (m .flow) (plus low k)) none) (settled-packets mtu clock l F c held z)
-      ∙ ap (λ (j : ℕ). getD (leftOf c low xs) j none) o
-      ∙ getD-drop gone ys (k - gone) none
-      ∙ ap (λ (j : ℕ). getD ys j none) e)) in
-      sym (lt-yes _ _ (isDone (getD ys k none)) _ true (omega (arith, long)) p))
+      ap (λ (qs : List Packet). getD qs (offsetOf (m .flow) (plus low k)) noPacket) (settled-packets mtu clock l F c held z)
+      ∙ ap (λ (j : ℕ). getD (leftOf c low xs) j noPacket) o
+      ∙ getD-drop gone ys (k - gone) noPacket
+      ∙ ap (λ (j : ℕ). getD ys j noPacket) e)) in
+      sym (lt-yes _ _ (isDone (getD ys k noPacket)) _ true (omega (arith, long)) p))
       (λ h.
       let q = past (omega arith) in
-      sym (lt-no _ _ (isDone (getD ys k none)) _ true (omega (arith, long, few)) (run-done ys k (omega arith))))
+      sym (lt-no _ _ (isDone (getD ys k noPacket)) _ true (omega (arith, long, few)) (run-done ys k (omega arith))))
 
 from-sound : (w : World) (ds : List Arrival) → sound w ≡ true → (k : ℕ) → Outstanding w k
     → isDelivered (ledgerOf (deliver w ds)) (psnOf w k) ≡ wasCovered w ds (psnOf w k)
@@ -127,7 +127,7 @@ from-sound w ds h k o =
     ap (λ (l : Ledger). isDelivered l (psnOf w k)) (deliver-settles ds w h)
     ∙ settled-delivers (w .state .settings .mtu) (w .state .clock) (ledgerOf w) F c (heldIn (deliver w ds)) (inFlightIn (deliver w ds)) k (o .within)
     ∙ ap isDone (cover-at c (f .low) k xs (F .low-psn) (omega (arith, packets-long f (w .slots), o .within)))
-    ∙ cover-done (c (psnOf w k)) (getD xs k none) (o .out)
+    ∙ cover-done (c (psnOf w k)) (getD xs k noPacket) (o .out)
 
 -- a start that does not hold together: every ACK is refused, and an outstanding packet stays so
 module _ (w : World) (h : sound w ≡ false) where
@@ -153,7 +153,7 @@ module _ (w : World) (h : sound w ≡ false) where
       let l : longOf f < psns = minus-lt psns (f .next) (f .low) (omega arith) in
       let e : minus psns (plus (f .low) k) (f .low) ≡ k = minus-plus (f .low) k (omega (arith, o .within)) in
       sym (lt-yes _ _ false _ true (omega (arith, o .within))
-      (sym (ap (λ (j : ℕ). isDone (getD xs j none)) e ∙ rw (cover-no (getD xs k none)) at (cover-done false (getD xs k none) (o .out)))))
+      (sym (ap (λ (j : ℕ). isDone (getD xs j noPacket)) e ∙ rw (cover-no (getD xs k noPacket)) at (cover-done false (getD xs k noPacket) (o .out)))))
 
 pub delivers : Delivers
 delivers w ds k o = go (sound w) refl

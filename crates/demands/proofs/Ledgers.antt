@@ -18,7 +18,7 @@ use Rattle.rules.specs.Rows.{firstOf, first-later, none-here}
 use Rattle.serial.specs.Psn.{psns, plus, covered, unsentOrOld}
 use Rattle.serial.specs.Count.{counts}
 use Rattle.serial.proofs.Cover.{plus-lt, plus-plus, minus-step}
-use Rattle.ledger.specs.Packets.{doneStatus, none, isOut, isDone, flyingOne, markedOne, markedSize, sumOf, coverOne, coverAll, coveredSum, doneRun}
+use Rattle.ledger.specs.Packets.{doneStatus, noPacket, isOut, isDone, flyingOne, markedOne, markedSize, sumOf, coverOne, coverAll, coveredSum, doneRun}
 use Rattle.ledger.specs.Bounds.{fallen, sinks}
 use Rattle.ledger.specs.Ring.{Ledger, ledger, capOf, laid, longOf, packets}
 use Rattle.ledger.specs.Steps.{heldOf, newlyOf, ackedOf}
@@ -50,7 +50,7 @@ cover-none p (y ∷ ys) = ap₂ (λ (x : Packet) (zs : List Packet). x ∷ zs) (
 
 -- only what is covered of the packets that are out matters
 pub cover-agree : (c d : ℕ → Bool) (p : ℕ) (ys : List Packet) → p < psns
-    → ((k : ℕ) → k < length ys → isOut (getD ys k none) ≡ true → c (plus p k) ≡ d (plus p k)) → coverAll c p ys ≡ coverAll d p ys
+    → ((k : ℕ) → k < length ys → isOut (getD ys k noPacket) ≡ true → c (plus p k) ≡ d (plus p k)) → coverAll c p ys ≡ coverAll d p ys
 unfolding coverAll
 cover-agree c d p [] b h = refl
 cover-agree c d p (y ∷ ys) b h =
@@ -62,11 +62,11 @@ cover-agree c d p (y ∷ ys) b h =
     one false e = cover-stays (c p) y e ∙ sym (cover-stays (d p) y e)
 
 -- nothing leaves a queue that does not begin with a done packet
-run-zero : (ys : List Packet) → (0 < length ys → isDone (getD ys 0 none) ≡ false) → doneRun ys ≡ 0
+run-zero : (ys : List Packet) → (0 < length ys → isDone (getD ys 0 noPacket) ≡ false) → doneRun ys ≡ 0
 unfolding isDone
 run-zero ys h =
     by-cases (decLt 0 (length ys))
-    (λ l. run-stop ys 0 l (eqb-false (getD ys 0 none .status) doneStatus (h l)))
+    (λ l. run-stop ys 0 l (eqb-false (getD ys 0 noPacket .status) doneStatus (h l)))
     (λ n. run-end ys 0 (omega arith))
 
 -- ---- the ledger settled: what `cov` covers is done, low moves on, the totals fall; the held count and in-flight are given

@@ -18,7 +18,7 @@ use Rattle.serial.specs.Psn.{psns, plus, covered}
 use Rattle.serial.proofs.Wraps.{minus-self, minus-turns}
 use Rattle.serial.proofs.Cover.{plus-plus, plus-minus, minus-plus}
 use Rattle.window.specs.declared.Settings.{Settings}
-use Rattle.ledger.specs.Packets.{none, markedStatus, doneStatus, withStatus, isOut, coverOne, coverAll}
+use Rattle.ledger.specs.Packets.{noPacket, markedStatus, doneStatus, withStatus, isOut, coverOne, coverAll}
 use Rattle.ledger.specs.Ring.{Ring, Ledger, ledger, capOf, laid, longOf, packets, offsetOf, packetOf}
 use Rattle.ledger.specs.Sound.{isCapacity}
 use Rattle.ledger.specs.Steps.{changed, newPacket, resentPacket, suppliedOf, pushedOf, resentOf, markedOf, ackedOf, heldOf}
@@ -44,16 +44,16 @@ use Rattle.demands.proofs.Ledgers.{settledBy, left-long, settled-long}
 
 -- every packet of a queue from low on has the size that is remembered of its PSN
 abbrev Sized : (ℕ → ℕ) → ℕ → List Packet → Type 0
-Sized bytes low xs = (k : ℕ) → k < length xs → getD xs k none .size ≡ bytes (plus low k)
+Sized bytes low xs = (k : ℕ) → k < length xs → getD xs k noPacket .size ≡ bytes (plus low k)
 
 -- one packet changed, but not its size
-sized-set : (bytes : ℕ → ℕ) (low : ℕ) (xs : List Packet) (j : ℕ) (y : Packet) → Sized bytes low xs → y .size ≡ getD xs j none .size
+sized-set : (bytes : ℕ → ℕ) (low : ℕ) (xs : List Packet) (j : ℕ) (y : Packet) → Sized bytes low xs → y .size ≡ getD xs j noPacket .size
     → Sized bytes low (set xs j y)
 sized-set bytes low xs j y S e k h =
     let l : k < length xs = omega (arith, length-set xs j y) in
     by-cases (ℕ-discrete k j)
-    (λ q. rw (q, getD-set-same xs j y none (omega arith)) (e ∙ rw q at (S k l)))
-    (λ q. rw (getD-set-other xs j k y none q) (S k l))
+    (λ q. rw (q, getD-set-same xs j y noPacket (omega arith)) (e ∙ rw q at (S k l)))
+    (λ q. rw (getD-set-other xs j k y noPacket q) (S k l))
 
 -- some of the packets done, and those at the front gone
 cover-size : (hit : Bool) (x : Packet) → coverOne hit x .size ≡ x .size
@@ -64,8 +64,8 @@ sized-drop : (bytes : ℕ → ℕ) (cov : ℕ → Bool) (low gone : ℕ) (xs : L
     → Sized bytes (plus low gone) (drop gone (coverAll cov low xs))
 sized-drop bytes cov low gone xs fits S k h =
     let l : gone + k < length xs = omega (arith, length-drop gone (coverAll cov low xs), cover-long cov low xs) in
-    rw (getD-drop gone (coverAll cov low xs) k none, cover-at cov low (gone + k) xs fits l, plus-plus low gone k)
-    (cover-size (cov (plus low (gone + k))) (getD xs (gone + k) none) ∙ S (gone + k) l)
+    rw (getD-drop gone (coverAll cov low xs) k noPacket, cover-at cov low (gone + k) xs fits l, plus-plus low gone k)
+    (cover-size (cov (plus low (gone + k))) (getD xs (gone + k) noPacket) ∙ S (gone + k) l)
 
 -- a packet behind the others, remembered with its size
 sized-more : (bytes : ℕ → ℕ) (low : ℕ) (xs : List Packet) (y : Packet) → length xs < psns → Sized bytes low xs
@@ -73,11 +73,11 @@ sized-more : (bytes : ℕ → ℕ) (low : ℕ) (xs : List Packet) (y : Packet) �
 sized-more bytes low xs y few S k h =
     by-cases (decLt k (length xs))
     (λ l.
-    rw (List·getD-append xs (y ∷ []) none k l)
+    rw (List·getD-append xs (y ∷ []) noPacket k l)
     (eq-no (plus low k) (plus low (length xs)) _ _ _ (λ e. apart k l e) (S k l)))
     (λ l.
     let e : k ≡ length xs = omega (arith, length-append xs (y ∷ [])) in
-    rw (e, getD-append-seam xs y [] none) (eq-yes (plus low (length xs)) (plus low (length xs)) _ _ _ refl refl))
+    rw (e, getD-append-seam xs y [] noPacket) (eq-yes (plus low (length xs)) (plus low (length xs)) _ _ _ refl refl))
   where
     apart : (k : ℕ) → k < length xs → plus low k ≡ plus low (length xs) → ⊥
     apart k l e =
@@ -88,7 +88,7 @@ sized-more bytes low xs y few S k h =
 
 pub record Agrees (p : Past) (l : Ledger) : Type 0 where
   pub count-is : p .count ≡ l .flow .held
-  pub sizes : (k : ℕ) → k < longOf (l .flow) → getD (packets (l .flow) (l .slots)) k none .size ≡ p .bytes (plus (l .flow .low) k)
+  pub sizes : (k : ℕ) → k < longOf (l .flow) → getD (packets (l .flow) (l .slots)) k noPacket .size ≡ p .bytes (plus (l .flow .low) k)
 
 -- a ledger that a queue is laid in, by the queue
 agrees-laid : (p : Past) (cap : ℕ) (f : Flow) (t : Totals) (xs : List Packet) → isCapacity cap ≡ true → longOf f ≡ length xs → length xs ≤ cap

@@ -11,7 +11,7 @@ use Rattle.rules.specs.Branch.{ifLt}
 use Rattle.serial.specs.Wrap.{minus}
 use Rattle.serial.specs.Psn.{plus, covered}
 use Rattle.serial.specs.Count.{counts, half}
-use Rattle.ledger.specs.Packets.{none, isOut, isDone}
+use Rattle.ledger.specs.Packets.{noPacket, isOut, isDone}
 use Rattle.ledger.specs.Ring.{Ledger, longOf, packets, packetOf, offsetOf}
 use Rattle.sender.specs.Limits.{timeEnd}
 use Rattle.sender.specs.World.{World}
@@ -36,7 +36,7 @@ Timely clock (d ∷ ds) = (clock ≤ d .time) × (d .time < timeEnd) × Timely (
 -- the packet k after low is outstanding
 pub record Outstanding (w : World) (k : ℕ) : Type 0 where
   pub within : k < longOf (w .state .flow)
-  pub out : isOut (getD (packets (w .state .flow) (w .slots)) k none) ≡ true
+  pub out : isOut (getD (packets (w .state .flow) (w .slots)) k noPacket) ≡ true
 
 -- its PSN
 abbrev pub psnOf : World → ℕ → ℕ

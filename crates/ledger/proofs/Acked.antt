@@ -17,7 +17,7 @@ use Rattle.rules.specs.Rows.{firstOf}
 use Rattle.serial.specs.Psn.{plus, covered, backOf, spanOf}
 use Rattle.serial.specs.Count.{counts, isOld}
 use Rattle.serial.proofs.Cover.{plus-lt, minus-step, sent-facts, beyond}
-use Rattle.ledger.specs.Packets.{doneStatus, none, withStatus, isOut, flyingOne, markedOne, markedSize, sumOf, coverOne, coverAll, coveredSum, doneRun}
+use Rattle.ledger.specs.Packets.{doneStatus, noPacket, withStatus, isOut, flyingOne, markedOne, markedSize, sumOf, coverOne, coverAll, coveredSum, doneRun}
 use Rattle.ledger.specs.Bounds.{Flown}
 use Rattle.ledger.specs.Ring.{Ring, Ledger, ledger, capOf, laid, queueOf, longOf, packets}
 use Rattle.ledger.specs.Sound.{SoundLedger, isCapacity, stands, soundLedger}
@@ -161,8 +161,8 @@ module _ (cum map count mtu clock : ℕ) (l : Ledger) (e : stands mtu clock (l .
   ys-long = covered-long (covered cum map) (l .flow) (l .slots)
 
   -- packet k of those left was packet gone + k
-  left-at : (k : ℕ) → getD (drop (doneRun ys) ys) k none ≡ getD ys (doneRun ys + k) none
-  left-at k = getD-drop (doneRun ys) ys k none
+  left-at : (k : ℕ) → getD (drop (doneRun ys) ys) k noPacket ≡ getD ys (doneRun ys + k) noPacket
+  left-at k = getD-drop (doneRun ys) ys k noPacket
 
   left-long : length (drop (doneRun ys) ys) + doneRun ys ≡ longOf (l .flow)
   left-long = omega (arith, length-drop (doneRun ys) ys, ys-long, run-le ys)

@@ -15,7 +15,7 @@ use borrow.Author.Tests.{eqb-true, ne-eqb}
 use Rattle.rules.specs.Branch.{ifSo, so-yes, eq-yes, eq-no}
 use Rattle.rules.specs.Test.{both}
 use Rattle.serial.specs.Psn.{psns, plus, covered}
-use Rattle.ledger.specs.Packets.{flyingStatus, markedStatus, doneStatus, none, withStatus, isFlying, isMarked, isOut, flyingOne, markedOne, markedSize, sumOf, coverOne, coverAll, coveredSum}
+use Rattle.ledger.specs.Packets.{flyingStatus, markedStatus, doneStatus, noPacket, withStatus, isFlying, isMarked, isOut, flyingOne, markedOne, markedSize, sumOf, coverOne, coverAll, coveredSum}
 use Rattle.ledger.specs.Ring.{Ring, Ledger, ring, ledger, capOf, packetAt, placeOf, laid, queueOf, longOf, packets}
 use Rattle.ledger.specs.Sound.{isCapacity}
 use Rattle.ledger.specs.Delivery.{Laid, Cover, Covered}
@@ -238,7 +238,7 @@ module _ {l : Ledger} {reach cum map k from to : ℕ} {status : List ℕ} {flyin
       (g : b ≡ ((eqb (getD status i 0) flyingStatus || eqb (getD status i 0) markedStatus) && covered cum map psn)) where
     -- the packet, and whether it is covered
     abbrev one : Packet
-    one = getD (queue l) seen none
+    one = getD (queue l) seen noPacket
 
     abbrev hit : Bool
     hit = covered cum map (plus (l .flow .low) seen)
@@ -296,7 +296,7 @@ module _ {l : Ledger} {reach cum map k from to : ℕ} {status : List ℕ} {flyin
     stored : (v : ℕ) → withStatus v one ≡ coverOne hit one → ring (set status i v) (l .slots .size) (l .slots .sent) (l .slots .resent)
         ≡ laid (capOf (l .slots)) (l .flow .low) (coverTo (covered cum map) (l .flow .low) (seen + 1) (queue l))
     stored v covers =
-        let was : getD ys seen none ≡ one = to-at (covered cum map) (l .flow .low) seen (queue l) in
+        let was : getD ys seen noPacket ≡ one = to-at (covered cum map) (l .flow .low) seen (queue l) in
         ap₂ (λ (r : Ring) (j : ℕ). ring (set (r .status) j v) (r .size) (r .sent) (r .resent)) (I .ring-is) place
         ∙ laid-status (capOf (l .slots)) (caps P) (l .flow .low) ys seen v
         (omega (arith, in-queue, to-long (covered cum map) (l .flow .low) seen (queue l)))

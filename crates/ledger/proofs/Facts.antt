@@ -17,7 +17,7 @@ use Rattle.rules.specs.Branch.{ifLt, lt-yes, lt-no, eq-both}
 use Rattle.rules.specs.Test.{inside, both, whole, inside-tells, inside-yes}
 use Rattle.serial.specs.Psn.{psns}
 use Rattle.serial.specs.Count.{counts}
-use Rattle.ledger.specs.Packets.{flyingStatus, doneStatus, none, isDone, flyingOne, markedOne, markedSize, sumOf}
+use Rattle.ledger.specs.Packets.{flyingStatus, doneStatus, noPacket, isDone, flyingOne, markedOne, markedSize, sumOf}
 use Rattle.ledger.specs.Bounds.{sizeLeast, resentMost, backlogMost, inBounds, Flown}
 use Rattle.ledger.specs.Ring.{Ring, Ledger, ledger, tabulate, capOf, packetAt, placeOf, longOf, laid, queueOf, packets, offsetOf, packetOf}
 use Rattle.ledger.specs.Sound.{allTo, isCapacity, isRing, isLive, isZero, slotOk, headOk, stands, tallies, soundLedger, Even, SoundLedger, Tallied}
@@ -86,7 +86,7 @@ module _ (mtu clock : ℕ) (x : Packet) where
       (le-leb (x .sent) clock (l .sent-most)))
       (le-leb (x .resent) resentMost (l .resent-most))
 
-  zero-facts : isZero x ≡ true → x ≡ none
+  zero-facts : isZero x ≡ true → x ≡ noPacket
   unfolding isZero
   zero-facts e =
       let a = eqb (x .status) 0 in
@@ -96,7 +96,7 @@ module _ (mtu clock : ℕ) (x : Packet) where
       let r = both a (eqb (x .size) 0) (q .0) in
       packets-same (eqb-true (x .status) 0 (r .0)) (eqb-true (x .size) 0 (r .1)) (eqb-true (x .sent) 0 (q .1)) (eqb-true (x .resent) 0 (p .1))
 
-  zero-test : x ≡ none → isZero x ≡ true
+  zero-test : x ≡ noPacket → isZero x ≡ true
   unfolding isZero
   zero-test e = rw e refl
 
@@ -176,9 +176,9 @@ pub record Facts (mtu clock : ℕ) (f : Flow) (r : Ring) : Type 0 where
   pub cap : isCapacity (capOf r) ≡ true
   pub even : Even r
   pub fits : longOf f ≤ capOf r
-  pub live : (k : ℕ) → k < longOf f → Live mtu clock (getD (packets f r) k none)
+  pub live : (k : ℕ) → k < longOf f → Live mtu clock (getD (packets f r) k noPacket)
   pub laid-so : r ≡ laid (capOf r) (f .low) (packets f r)
-  pub head : 0 < longOf f → isDone (getD (packets f r) 0 none) ≡ false
+  pub head : 0 < longOf f → isDone (getD (packets f r) 0 noPacket) ≡ false
   pub low-psn : f .low < psns
   pub next-psn : f .next < psns
   pub held : f .held < counts
@@ -248,13 +248,13 @@ module _ (cap : ℕ) (f : Flow) (xs : List Packet) (ok : isCapacity cap ≡ true
   unfolding packets
   packets-laid e fit = queue-laid cap C (f .low) xs (longOf f) (sym e) (omega arith)
 
-  at : (k : ℕ) → k < cap → packetAt (laid cap (f .low) xs) (placeOf (capOf (laid cap (f .low) xs)) (f .low) k) ≡ getD xs k none
+  at : (k : ℕ) → k < cap → packetAt (laid cap (f .low) xs) (placeOf (capOf (laid cap (f .low) xs)) (f .low) k) ≡ getD xs k noPacket
   at k h =
       ap (λ (c : ℕ). packetAt (laid cap (f .low) xs) (placeOf c (f .low) k)) (laid-cap cap (f .low) xs) ∙ laid-at cap C (f .low) xs k h
 
   -- THE KEEPING THEOREM: the layout of a queue of live packets that does not begin with a done one holds together with a flow that counts it
-  pub stands-laid : (mtu clock : ℕ) → length xs ≤ cap → ((k : ℕ) → k < length xs → Live mtu clock (getD xs k none))
-      → (0 < length xs → isDone (getD xs 0 none) ≡ false) → longOf f ≡ length xs
+  pub stands-laid : (mtu clock : ℕ) → length xs ≤ cap → ((k : ℕ) → k < length xs → Live mtu clock (getD xs k noPacket))
+      → (0 < length xs → isDone (getD xs 0 noPacket) ≡ false) → longOf f ≡ length xs
       → f .low < psns → f .next < psns → f .held < counts → f .backlog ≤ backlogMost
       → stands mtu clock f (laid cap (f .low) xs) ≡ true
   unfolding stands
@@ -270,7 +270,7 @@ module _ (cap : ℕ) (f : Flow) (xs : List Packet) (ok : isCapacity cap ≡ true
       ∙ live-test mtu clock _ (rw (at k (omega arith)) (live k (omega arith))))
       (λ p.
       slot-zero mtu clock r (f .low) (longOf f) k (omega arith)
-      ∙ zero-test mtu clock _ (at k (omega arith) ∙ List·getD-eq-default xs none (omega arith)))) in
+      ∙ zero-test mtu clock _ (at k (omega arith) ∙ List·getD-eq-default xs noPacket (omega arith)))) in
       let first : headOk r (f .low) (longOf f) ≡ true =
       head-test r (f .low) (longOf f) (λ h. rw (at 0 (omega arith)) (head (omega arith))) in
       whole

@@ -17,7 +17,7 @@ use borrow.Author.Tests.{eqb-true}
 use Rattle.serial.specs.Wrap.{minus}
 use Rattle.serial.specs.Psn.{psns, plus}
 use Rattle.serial.proofs.Cover.{plus-plus, plus-minus}
-use Rattle.ledger.specs.Packets.{none, withStatus}
+use Rattle.ledger.specs.Packets.{noPacket, withStatus}
 use Rattle.ledger.specs.Ring.{Ring, ring, packetAt, putAt, placeOf, ageOf, lay, laid, queueOf, capOf, longOf, packets, offsetOf, packetOf}
 use Rattle.ledger.specs.Sound.{isCapacity, Even}
 use Rattle.ledger.specs.declared.Packet.{Packet}
@@ -180,9 +180,9 @@ pub queue-long : (r : Ring) (low n : ℕ) → length (queueOf r low n) ≡ n
 unfolding queueOf
 queue-long r low n = length-tabulate (λ k. packetAt r (placeOf (length (r .status)) low k)) n
 
-pub queue-at : (r : Ring) (low n k : ℕ) → k < n → getD (queueOf r low n) k none ≡ packetAt r (placeOf (capOf r) low k)
+pub queue-at : (r : Ring) (low n k : ℕ) → k < n → getD (queueOf r low n) k noPacket ≡ packetAt r (placeOf (capOf r) low k)
 unfolding queueOf
-queue-at r low n k h = getD-tabulate (λ k. packetAt r (placeOf (length (r .status)) low k)) none n k h
+queue-at r low n k h = getD-tabulate (λ k. packetAt r (placeOf (length (r .status)) low k)) noPacket n k h
 
 -- one packet more
 pub queue-more : (r : Ring) (low n : ℕ) → queueOf r low (n + 1) ≡ queueOf r low n ++ (packetAt r (placeOf (capOf r) low n) ∷ [])
@@ -196,8 +196,8 @@ unfolding queueOf
 queue-join r low a j m on = tabulate-join _ _ j m (λ k. ap (packetAt r) (sym (on k)))
 
 -- behind the n packets there is none
-pub queue-past : (r : Ring) (low n k : ℕ) → n ≤ k → getD (queueOf r low n) k none ≡ none
-queue-past r low n k h = List·getD-eq-default (queueOf r low n) none (omega (arith, queue-long r low n))
+pub queue-past : (r : Ring) (low n k : ℕ) → n ≤ k → getD (queueOf r low n) k noPacket ≡ noPacket
+queue-past r low n k h = List·getD-eq-default (queueOf r low n) noPacket (omega (arith, queue-long r low n))
 
 -- the packet of a PSN stands in the PSN's slot ..
 pub packet-here : (f : Flow) (r : Ring) (psn : ℕ) → psn < psns → offsetOf f psn < longOf f → packetOf f r psn ≡ packetAt r (psn % capOf r)
@@ -206,7 +206,7 @@ packet-here f r psn hp h =
     queue-at r (f .low) (longOf f) (minus psns psn (f .low)) h ∙ ap (packetAt r) (place-psn (capOf r) (f .low) psn hp)
 
 -- .. and outside low..next-1 there is none
-pub packet-none : (f : Flow) (r : Ring) (psn : ℕ) → longOf f ≤ offsetOf f psn → packetOf f r psn ≡ none
+pub packet-none : (f : Flow) (r : Ring) (psn : ℕ) → longOf f ≤ offsetOf f psn → packetOf f r psn ≡ noPacket
 unfolding packetOf packets
 packet-none f r psn h = queue-past r (f .low) (longOf f) (offsetOf f psn) h
 
@@ -215,58 +215,58 @@ packet-none f r psn h = queue-past r (f .low) (longOf f) (offsetOf f psn) h
 module _ (field : Packet → ℕ) where
   length-lay : (cap low : ℕ) (xs : List Packet) → length (lay field cap low xs) ≡ cap
   unfolding lay
-  length-lay cap low xs = length-tabulate (λ i. field (getD xs (ageOf cap low i) none)) cap
+  length-lay cap low xs = length-tabulate (λ i. field (getD xs (ageOf cap low i) noPacket)) cap
 
   module _ (cap : ℕ) (C : Cap cap) where
     -- the packet k after low stands at its place
-    lay-at : (low : ℕ) (xs : List Packet) (k : ℕ) → k < cap → getD (lay field cap low xs) (placeOf cap low k) 0 ≡ field (getD xs k none)
+    lay-at : (low : ℕ) (xs : List Packet) (k : ℕ) → k < cap → getD (lay field cap low xs) (placeOf cap low k) 0 ≡ field (getD xs k noPacket)
     unfolding lay
     lay-at low xs k h =
-        getD-tabulate (λ i. field (getD xs (ageOf cap low i) none)) 0 cap (placeOf cap low k) (place-lt cap C low k)
-        ∙ ap (λ (j : ℕ). field (getD xs j none)) (age-place cap C low k h)
+        getD-tabulate (λ i. field (getD xs (ageOf cap low i) noPacket)) 0 cap (placeOf cap low k) (place-lt cap C low k)
+        ∙ ap (λ (j : ℕ). field (getD xs j noPacket)) (age-place cap C low k h)
 
     -- a slice that has the queue's packets at their places is the queue's layout
     lay-of : (low : ℕ) (s : List ℕ) (xs : List Packet) → length s ≡ cap
-        → ((k : ℕ) → k < cap → getD s (placeOf cap low k) 0 ≡ field (getD xs k none)) → s ≡ lay field cap low xs
+        → ((k : ℕ) → k < cap → getD s (placeOf cap low k) 0 ≡ field (getD xs k noPacket)) → s ≡ lay field cap low xs
     lay-of low s xs e h = by-places cap C low s (lay field cap low xs) e (length-lay cap low xs) (λ k l. h k l ∙ sym (lay-at low xs k l))
 
     -- a store at the place of packet k leads to the queue that has x there and else agrees
-    lay-store : (low : ℕ) (xs ys : List Packet) (k : ℕ) (x : Packet) → k < cap → getD ys k none ≡ x
-        → ((j : ℕ) → j < cap → (j ≡ k → ⊥) → getD xs j none ≡ getD ys j none)
+    lay-store : (low : ℕ) (xs ys : List Packet) (k : ℕ) (x : Packet) → k < cap → getD ys k noPacket ≡ x
+        → ((j : ℕ) → j < cap → (j ≡ k → ⊥) → getD xs j noPacket ≡ getD ys j noPacket)
         → set (lay field cap low xs) (placeOf cap low k) (field x) ≡ lay field cap low ys
     lay-store low xs ys k x h e o =
         lay-of low (set (lay field cap low xs) (placeOf cap low k) (field x)) ys (simp (length-set, length-lay cap low xs))
         (λ j l. eq-cases j k (λ s. same j s) (λ n. other j l n))
       where
-        same : (j : ℕ) → j ≡ k → getD (set (lay field cap low xs) (placeOf cap low k) (field x)) (placeOf cap low j) 0 ≡ field (getD ys j none)
+        same : (j : ℕ) → j ≡ k → getD (set (lay field cap low xs) (placeOf cap low k) (field x)) (placeOf cap low j) 0 ≡ field (getD ys j noPacket)
         same j s =
             rw s
             (getD-set-same (lay field cap low xs) (placeOf cap low k) (field x) 0 (omega (arith, place-lt cap C low k, length-lay cap low xs))
             ∙ ap field (sym e))
 
         other : (j : ℕ) → j < cap → (j ≡ k → ⊥)
-            → getD (set (lay field cap low xs) (placeOf cap low k) (field x)) (placeOf cap low j) 0 ≡ field (getD ys j none)
+            → getD (set (lay field cap low xs) (placeOf cap low k) (field x)) (placeOf cap low j) 0 ≡ field (getD ys j noPacket)
         other j l n =
             getD-set-other (lay field cap low xs) (placeOf cap low k) (placeOf cap low j) (field x) 0 (λ q. n (place-inj cap C low j k l h q))
             ∙ lay-at low xs j l
             ∙ ap field (o j l n)
 
     -- no packet in front: the queue is laid from the next PSN on
-    lay-shift : (low : ℕ) (xs : List Packet) → suc (length xs) ≤ cap → lay field cap low (none ∷ xs) ≡ lay field cap (plus low 1) xs
+    lay-shift : (low : ℕ) (xs : List Packet) → suc (length xs) ≤ cap → lay field cap low (noPacket ∷ xs) ≡ lay field cap (plus low 1) xs
     lay-shift low xs h =
-        lay-of (plus low 1) (lay field cap low (none ∷ xs)) xs (length-lay cap low (none ∷ xs))
+        lay-of (plus low 1) (lay field cap low (noPacket ∷ xs)) xs (length-lay cap low (noPacket ∷ xs))
         (λ k l. by-cases (decLe cap (suc k)) (λ p. last k l p) (λ p. early k (omega arith)))
       where
-        early : (k : ℕ) → suc k < cap → getD (lay field cap low (none ∷ xs)) (placeOf cap (plus low 1) k) 0 ≡ field (getD xs k none)
+        early : (k : ℕ) → suc k < cap → getD (lay field cap low (noPacket ∷ xs)) (placeOf cap (plus low 1) k) 0 ≡ field (getD xs k noPacket)
         early k l =
-            ap (λ (i : ℕ). getD (lay field cap low (none ∷ xs)) i 0) (place-plus cap low 1 k ∙ ap (placeOf cap low) (omega arith))
-            ∙ lay-at low (none ∷ xs) (suc k) l
+            ap (λ (i : ℕ). getD (lay field cap low (noPacket ∷ xs)) i 0) (place-plus cap low 1 k ∙ ap (placeOf cap low) (omega arith))
+            ∙ lay-at low (noPacket ∷ xs) (suc k) l
 
-        last : (k : ℕ) → k < cap → cap ≤ suc k → getD (lay field cap low (none ∷ xs)) (placeOf cap (plus low 1) k) 0 ≡ field (getD xs k none)
+        last : (k : ℕ) → k < cap → cap ≤ suc k → getD (lay field cap low (noPacket ∷ xs)) (placeOf cap (plus low 1) k) 0 ≡ field (getD xs k noPacket)
         last k l p =
-            ap (λ (i : ℕ). getD (lay field cap low (none ∷ xs)) i 0) (place-plus cap low 1 k ∙ ap (placeOf cap low) (omega arith) ∙ place-round cap C low)
-            ∙ lay-at low (none ∷ xs) 0 (omega arith)
-            ∙ ap field (sym (List·getD-eq-default xs none (omega arith)))
+            ap (λ (i : ℕ). getD (lay field cap low (noPacket ∷ xs)) i 0) (place-plus cap low 1 k ∙ ap (placeOf cap low) (omega arith) ∙ place-round cap C low)
+            ∙ lay-at low (noPacket ∷ xs) 0 (omega arith)
+            ∙ ap field (sym (List·getD-eq-default xs noPacket (omega arith)))
 
 -- ---- a queue laid over the ring
 
@@ -292,7 +292,7 @@ module _ (cap : ℕ) (C : Cap cap) (low : ℕ) where
       }
 
   -- the packet k after low
-  pub laid-at : (xs : List Packet) (k : ℕ) → k < cap → packetAt (laid cap low xs) (placeOf cap low k) ≡ getD xs k none
+  pub laid-at : (xs : List Packet) (k : ℕ) → k < cap → packetAt (laid cap low xs) (placeOf cap low k) ≡ getD xs k noPacket
   unfolding laid packetAt
   laid-at xs k h =
       rw (
@@ -305,7 +305,7 @@ module _ (cap : ℕ) (C : Cap cap) (low : ℕ) where
   -- a queue that is laid is read back
   pub queue-laid : (xs : List Packet) (n : ℕ) → length xs ≡ n → n ≤ cap → queueOf (laid cap low xs) low n ≡ xs
   queue-laid xs n e h =
-      ext-getD none (queueOf (laid cap low xs) low n) xs (queue-long (laid cap low xs) low n ∙ sym e)
+      ext-getD noPacket (queueOf (laid cap low xs) low n) xs (queue-long (laid cap low xs) low n ∙ sym e)
       (λ k l.
       let s : k < n = omega (arith, queue-long (laid cap low xs) low n) in
       queue-at (laid cap low xs) low n k s
@@ -314,7 +314,7 @@ module _ (cap : ℕ) (C : Cap cap) (low : ℕ) where
 
   -- a ring that is empty behind the n packets is the layout of its queue
   pub laid-queue : (r : Ring) (n : ℕ) → Even r → capOf r ≡ cap → n ≤ cap
-      → ((k : ℕ) → n ≤ k → k < cap → packetAt r (placeOf cap low k) ≡ none) → r ≡ laid cap low (queueOf r low n)
+      → ((k : ℕ) → n ≤ k → k < cap → packetAt r (placeOf cap low k) ≡ noPacket) → r ≡ laid cap low (queueOf r low n)
   unfolding laid packetAt
   laid-queue r n E e h z =
       rings
@@ -323,14 +323,14 @@ module _ (cap : ℕ) (C : Cap cap) (low : ℕ) where
       (lay-of (λ x. x .sent) cap C low (r .sent) (queueOf r low n) (E .sent ∙ e) (λ k l. ap (λ (x : Packet). x .sent) (at k l)))
       (lay-of (λ x. x .resent) cap C low (r .resent) (queueOf r low n) (E .resent ∙ e) (λ k l. ap (λ (x : Packet). x .resent) (at k l)))
     where
-      at : (k : ℕ) → k < cap → packetAt r (placeOf cap low k) ≡ getD (queueOf r low n) k none
+      at : (k : ℕ) → k < cap → packetAt r (placeOf cap low k) ≡ getD (queueOf r low n) k noPacket
       at k l =
           by-cases (decLe n k) (λ p. z k p l ∙ sym (queue-past r low n k p))
           (λ p. sym (queue-at r low n k (omega arith) ∙ ap (λ (c : ℕ). packetAt r (placeOf c low k)) e))
 
   -- a slot overwritten leads to the queue that has x there and else agrees
-  laid-store : (xs ys : List Packet) (k : ℕ) (x : Packet) → k < cap → getD ys k none ≡ x
-      → ((j : ℕ) → j < cap → (j ≡ k → ⊥) → getD xs j none ≡ getD ys j none)
+  laid-store : (xs ys : List Packet) (k : ℕ) (x : Packet) → k < cap → getD ys k noPacket ≡ x
+      → ((j : ℕ) → j < cap → (j ≡ k → ⊥) → getD xs j noPacket ≡ getD ys j noPacket)
       → putAt (laid cap low xs) (placeOf cap low k) x ≡ laid cap low ys
   unfolding laid putAt
   laid-store xs ys k x h e o =
@@ -344,21 +344,21 @@ module _ (cap : ℕ) (C : Cap cap) (low : ℕ) where
   pub laid-put : (xs : List Packet) (k : ℕ) (x : Packet) → k < length xs → length xs ≤ cap
       → putAt (laid cap low xs) (placeOf cap low k) x ≡ laid cap low (set xs k x)
   laid-put xs k x h f =
-      laid-store xs (set xs k x) k x (omega arith) (getD-set-same xs k x none h) (λ j l n. sym (getD-set-other xs k j x none n))
+      laid-store xs (set xs k x) k x (omega arith) (getD-set-same xs k x noPacket h) (λ j l n. sym (getD-set-other xs k j x noPacket n))
 
   -- the same of a store to the status alone
   pub laid-status : (xs : List Packet) (k s : ℕ) → k < length xs → length xs ≤ cap
       → ring (set (laid cap low xs .status) (placeOf cap low k) s) (laid cap low xs .size) (laid cap low xs .sent) (laid cap low xs .resent)
-      ≡ laid cap low (set xs k (withStatus s (getD xs k none)))
+      ≡ laid cap low (set xs k (withStatus s (getD xs k noPacket)))
   unfolding laid putAt
   laid-status xs k s h f =
       rings refl
       (kept (λ x. x .size))
       (kept (λ x. x .sent))
       (kept (λ x. x .resent))
-      ∙ laid-put xs k (withStatus s (getD xs k none)) h f
+      ∙ laid-put xs k (withStatus s (getD xs k noPacket)) h f
     where
-      kept : (field : Packet → ℕ) → lay field cap low xs ≡ set (lay field cap low xs) (placeOf cap low k) (field (getD xs k none))
+      kept : (field : Packet → ℕ) → lay field cap low xs ≡ set (lay field cap low xs) (placeOf cap low k) (field (getD xs k noPacket))
       kept field =
           sym (set-getD (lay field cap low xs) (placeOf cap low k) 0)
           ∙ ap (set (lay field cap low xs) (placeOf cap low k)) (lay-at field cap C low xs k (omega arith))
@@ -367,24 +367,24 @@ module _ (cap : ℕ) (C : Cap cap) (low : ℕ) where
   pub laid-snoc : (xs : List Packet) (x : Packet) → length xs < cap
       → putAt (laid cap low xs) (placeOf cap low (length xs)) x ≡ laid cap low (xs ++ (x ∷ []))
   laid-snoc xs x h =
-      laid-store xs (xs ++ (x ∷ [])) (length xs) x h (getD-append-seam xs x [] none)
+      laid-store xs (xs ++ (x ∷ [])) (length xs) x h (getD-append-seam xs x [] noPacket)
       (λ j l n.
       by-cases (decLe (length xs) j)
       (λ p.
-      List·getD-eq-default xs none p
-      ∙ sym (List·getD-eq-default (xs ++ (x ∷ [])) none (omega (arith, length-append xs (x ∷ []), beyond j n p))))
-      (λ p. sym (List·getD-append xs (x ∷ []) none j (omega arith))))
+      List·getD-eq-default xs noPacket p
+      ∙ sym (List·getD-eq-default (xs ++ (x ∷ [])) noPacket (omega (arith, length-append xs (x ∷ []), beyond j n p))))
+      (λ p. sym (List·getD-append xs (x ∷ []) noPacket j (omega arith))))
     where
       beyond : (j : ℕ) → (j ≡ length xs → ⊥) → length xs ≤ j → length xs < j
       beyond j n p = by-cases (decLe j (length xs)) (λ q. absurd (n (omega arith))) (λ q. omega arith)
 
   -- the first packet leaves: its slot is cleared, and the others are laid from the next PSN on
   pub laid-tail : (x : Packet) (xs : List Packet) → suc (length xs) ≤ cap
-      → putAt (laid cap low (x ∷ xs)) (placeOf cap low 0) none ≡ laid cap (plus low 1) xs
+      → putAt (laid cap low (x ∷ xs)) (placeOf cap low 0) noPacket ≡ laid cap (plus low 1) xs
   unfolding laid
-  laid-tail x xs h = laid-put (x ∷ xs) 0 none (omega arith) h ∙ shift
+  laid-tail x xs h = laid-put (x ∷ xs) 0 noPacket (omega arith) h ∙ shift
     where
-      shift : laid cap low (none ∷ xs) ≡ laid cap (plus low 1) xs
+      shift : laid cap low (noPacket ∷ xs) ≡ laid cap (plus low 1) xs
       shift =
           rings
           (lay-shift (λ x. x .status) cap C low xs h)

@@ -14,7 +14,7 @@ use lib.Seq.{drop-cons}
 use Rattle.rules.specs.Branch.{ifSo, ifEq, so-both, eq-both}
 use Rattle.serial.specs.Psn.{psns, plus}
 use Rattle.serial.proofs.Cover.{plus-plus, plus-lt}
-use Rattle.ledger.specs.Packets.{flyingStatus, markedStatus, doneStatus, none, withStatus, isFlying, isMarked, isDone, isOut, flyingOne, markedOne, markedSize, sumOf, coverOne, coverAll, coveredSum, doneRun}
+use Rattle.ledger.specs.Packets.{flyingStatus, markedStatus, doneStatus, noPacket, withStatus, isFlying, isMarked, isDone, isOut, flyingOne, markedOne, markedSize, sumOf, coverOne, coverAll, coveredSum, doneRun}
 use Rattle.ledger.specs.declared.Packet.{Packet}
 
 -- ---- PSNs of a queue: packet 0 has the first one, packet k + 1 is packet k of the rest
@@ -85,16 +85,16 @@ module _ (cov : ℕ → Bool) where
   cover-long p (x ∷ xs) = ap suc (cover-long (plus p 1) xs)
 
   pub cover-at : (p k : ℕ) (xs : List Packet) → p < psns → k < length xs
-      → getD (coverAll cov p xs) k none ≡ coverOne (cov (plus p k)) (getD xs k none)
+      → getD (coverAll cov p xs) k noPacket ≡ coverOne (cov (plus p k)) (getD xs k noPacket)
   unfolding coverAll
   cover-at p k [] b h = absurd (not-suc-le-zero h)
   cover-at p zero (x ∷ xs) b h = ap (λ (q : ℕ). coverOne (cov q) x) (sym (plus-none p b))
   cover-at p (suc k) (x ∷ xs) b h =
-      cover-at (plus p 1) k xs (plus-lt p 1) (le-of-suc-le-suc h) ∙ ap (λ (q : ℕ). coverOne (cov q) (getD xs k none)) (plus-next p k)
+      cover-at (plus p 1) k xs (plus-lt p 1) (le-of-suc-le-suc h) ∙ ap (λ (q : ℕ). coverOne (cov q) (getD xs k noPacket)) (plus-next p k)
 
   -- what covering keeps of one packet, it keeps of each
   pub cover-each : (P : Packet → Type 0) → ((hit : Bool) (x : Packet) → P x → P (coverOne hit x)) → (p k : ℕ) (xs : List Packet)
-      → P (getD xs k none) → P (getD (coverAll cov p xs) k none)
+      → P (getD xs k noPacket) → P (getD (coverAll cov p xs) k noPacket)
   unfolding coverAll
   cover-each P f p k [] h = h
   cover-each P f p zero (x ∷ xs) h = f (cov p) x h
@@ -113,7 +113,7 @@ module _ (cov : ℕ → Bool) where
   to-long p (suc k) (x ∷ xs) = ap suc (to-long (plus p 1) k xs)
 
   -- packet k is not covered yet ..
-  pub to-at : (p k : ℕ) (xs : List Packet) → getD (coverTo p k xs) k none ≡ getD xs k none
+  pub to-at : (p k : ℕ) (xs : List Packet) → getD (coverTo p k xs) k noPacket ≡ getD xs k noPacket
   unfolding coverTo
   to-at p zero xs = refl
   to-at p (suc k) [] = refl
@@ -121,16 +121,16 @@ module _ (cov : ℕ → Bool) where
 
   -- .. and is the next to be
   pub to-more : (p k : ℕ) (xs : List Packet) → p < psns → k < length xs
-      → set (coverTo p k xs) k (coverOne (cov (plus p k)) (getD xs k none)) ≡ coverTo p (k + 1) xs
+      → set (coverTo p k xs) k (coverOne (cov (plus p k)) (getD xs k noPacket)) ≡ coverTo p (k + 1) xs
   unfolding coverTo
   to-more p k xs b h = go p k xs b h ∙ ap (λ (j : ℕ). coverTo p j xs) (sym (add-one k))
     where
       go : (p k : ℕ) (xs : List Packet) → p < psns → k < length xs
-          → set (coverTo p k xs) k (coverOne (cov (plus p k)) (getD xs k none)) ≡ coverTo p (suc k) xs
+          → set (coverTo p k xs) k (coverOne (cov (plus p k)) (getD xs k noPacket)) ≡ coverTo p (suc k) xs
       go p k [] b h = absurd (not-suc-le-zero h)
       go p zero (x ∷ xs) b h = ap (λ (q : ℕ). coverOne (cov q) x ∷ xs) (plus-none p b)
       go p (suc k) (x ∷ xs) b h =
-          ap (λ (q : ℕ). coverOne (cov p) x ∷ set (coverTo (plus p 1) k xs) k (coverOne (cov q) (getD xs k none))) (sym (plus-next p k))
+          ap (λ (q : ℕ). coverOne (cov p) x ∷ set (coverTo (plus p 1) k xs) k (coverOne (cov q) (getD xs k noPacket))) (sym (plus-next p k))
           ∙ ap (λ (ys : List Packet). coverOne (cov p) x ∷ ys) (go (plus p 1) k xs (plus-lt p 1) (le-of-suc-le-suc h))
 
   -- no packet from k on is covered
@@ -221,12 +221,12 @@ module _ (adds : Packet → ℕ) (z : OfOut adds) where
 
 module _ (adds : Packet → ℕ) (cov : ℕ → Bool) where
   pub taken-more : (p k : ℕ) (xs : List Packet) → p < psns → k < length xs
-      → coveredSum adds cov p (take (k + 1) xs) ≡ coveredSum adds cov p (take k xs) + ifSo (cov (plus p k)) (adds (getD xs k none)) 0
+      → coveredSum adds cov p (take (k + 1) xs) ≡ coveredSum adds cov p (take k xs) + ifSo (cov (plus p k)) (adds (getD xs k noPacket)) 0
   unfolding coveredSum
   taken-more p k xs b h = ap (λ (j : ℕ). coveredSum adds cov p (take j xs)) (add-one k) ∙ go p k xs b h
     where
       go : (p k : ℕ) (xs : List Packet) → p < psns → k < length xs
-          → coveredSum adds cov p (take (suc k) xs) ≡ coveredSum adds cov p (take k xs) + ifSo (cov (plus p k)) (adds (getD xs k none)) 0
+          → coveredSum adds cov p (take (suc k) xs) ≡ coveredSum adds cov p (take k xs) + ifSo (cov (plus p k)) (adds (getD xs k noPacket)) 0
       go p k [] b h = absurd (not-suc-le-zero h)
       go p zero (x ∷ xs) b h = rw (plus-none p b) (add-comm (ifSo (cov p) (adds x) 0) 0)
       go p (suc k) (x ∷ xs) b h = rw (← (plus-next p k)) (omega (arith, go (plus p 1) k xs (plus-lt p 1) (le-of-suc-le-suc h)))
@@ -259,22 +259,22 @@ run-le (x ∷ xs) =
     eq-both (λ (g : ℕ). g ≤ suc (length xs)) (x .status) doneStatus (suc (doneRun xs)) 0 (λ e. suc-le-suc (run-le xs)) (λ n. zero-le)
 
 -- the packet behind it is not done
-pub run-next : (xs : List Packet) → doneRun xs < length xs → isDone (getD xs (doneRun xs) none) ≡ false
+pub run-next : (xs : List Packet) → doneRun xs < length xs → isDone (getD xs (doneRun xs) noPacket) ≡ false
 unfolding doneRun isDone
 run-next [] h = absurd (not-suc-le-zero h)
 run-next (x ∷ xs) h =
-    eq-both (λ (g : ℕ). g < suc (length xs) → eqb (getD (x ∷ xs) g none .status) doneStatus ≡ false) (x .status) doneStatus (suc (doneRun xs)) 0
+    eq-both (λ (g : ℕ). g < suc (length xs) → eqb (getD (x ∷ xs) g noPacket .status) doneStatus ≡ false) (x .status) doneStatus (suc (doneRun xs)) 0
     (λ e l. run-next xs (le-of-suc-le-suc l)) (λ n l. ne-eqb (x .status) doneStatus n) h
 
 -- it goes on behind a done packet, and ends before one that is not and at the queue's end
 module _ (xs : List Packet) (k : ℕ) where
-  pub run-more : k < length xs → getD xs k none .status ≡ doneStatus → doneRun (drop k xs) ≡ suc (doneRun (drop (k + 1) xs))
+  pub run-more : k < length xs → getD xs k noPacket .status ≡ doneStatus → doneRun (drop k xs) ≡ suc (doneRun (drop (k + 1) xs))
   unfolding doneRun ifEq
-  run-more h e = rw (drop-cons xs k none h) (rw add-one (simp (eq-eqb _ _ e)))
+  run-more h e = rw (drop-cons xs k noPacket h) (rw add-one (simp (eq-eqb _ _ e)))
 
-  pub run-stop : k < length xs → (getD xs k none .status ≡ doneStatus → ⊥) → doneRun (drop k xs) ≡ 0
+  pub run-stop : k < length xs → (getD xs k noPacket .status ≡ doneStatus → ⊥) → doneRun (drop k xs) ≡ 0
   unfolding doneRun ifEq
-  run-stop h n = rw (drop-cons xs k none h) (simp (ne-eqb _ _ n))
+  run-stop h n = rw (drop-cons xs k noPacket h) (simp (ne-eqb _ _ n))
 
   pub run-end : length xs ≤ k → doneRun (drop k xs) ≡ 0
   unfolding doneRun

@@ -11,7 +11,7 @@ use lib.ListN.{length, getD, drop, length-drop}
 use lib.Seq.{drop-cons, getD-drop}
 use Rattle.serial.specs.Psn.{psns, plus}
 use Rattle.serial.proofs.Cover.{plus-plus}
-use Rattle.ledger.specs.Packets.{doneStatus, none, doneRun}
+use Rattle.ledger.specs.Packets.{doneStatus, noPacket, doneRun}
 use Rattle.ledger.specs.Ring.{Ring, capOf, packetAt, putAt, placeOf, laid, queueOf}
 use Rattle.ledger.specs.Sound.{Even}
 use Rattle.ledger.specs.Delivery.{Laid, Retired}
@@ -77,22 +77,22 @@ module _ {r : Ring} {low n : ℕ} {after : Ring} {i k : ℕ} (I : Inv r low n af
     in-queue = omega (arith, queue-long r low n)
 
     -- the status that the turn reads
-    status-is : getD (after .status) i 0 ≡ getD (queueOf r low n) k none .status
+    status-is : getD (after .status) i 0 ≡ getD (queueOf r low n) k noPacket .status
     unfolding packetAt
     status-is =
         ap (λ (x : Packet). x .status)
         (ap₂ packetAt (I .ring-is) slot-is
         ∙ laid-at (capOf r) (caps (I .pre)) (plus low k) (drop k (queueOf r low n)) 0 (omega (arith, caps (I .pre) .least))
-        ∙ getD-drop k (queueOf r low n) 0 none
-        ∙ ap (λ (j : ℕ). getD (queueOf r low n) j none) (add-zero k))
+        ∙ getD-drop k (queueOf r low n) 0 noPacket
+        ∙ ap (λ (j : ℕ). getD (queueOf r low n) j noPacket) (add-zero k))
 
     pub stops : (getD (after .status) i 0 ≡ doneStatus → ⊥) → Retired r low n k after
     stops not = done (run-stop (queueOf r low n) k in-queue (λ e. not (status-is ∙ e)))
 
-    cut : drop k (queueOf r low n) ≡ getD (queueOf r low n) k none ∷ drop (k + 1) (queueOf r low n)
-    cut = rw (add-one, drop-cons (queueOf r low n) k none in-queue)
+    cut : drop k (queueOf r low n) ≡ getD (queueOf r low n) k noPacket ∷ drop (k + 1) (queueOf r low n)
+    cut = rw (add-one, drop-cons (queueOf r low n) k noPacket in-queue)
 
-    pub again : {next : Ring} {j : ℕ} → getD (after .status) i 0 ≡ doneStatus → next ≡ putAt after i none → j ≡ (i + 1) % capOf r
+    pub again : {next : Ring} {j : ℕ} → getD (after .status) i 0 ≡ doneStatus → next ≡ putAt after i noPacket → j ≡ (i + 1) % capOf r
         → Inv r low n next j (k + 1)
     again e put ej =
         record {
@@ -102,8 +102,8 @@ module _ {r : Ring} {low n : ℕ} {after : Ring} {i k : ℕ} (I : Inv r low n af
           run = omega (arith, I .run, run-more (queueOf r low n) k in-queue (sym status-is ∙ e));
           ring-is =
               put
-              ∙ ap₂ (λ (a : Ring) (s : ℕ). putAt a s none) (I .ring-is ∙ ap (laid (capOf r) (plus low k)) cut) slot-is
-              ∙ laid-tail (capOf r) (caps (I .pre)) (plus low k) (getD (queueOf r low n) k none) (drop (k + 1) (queueOf r low n))
+              ∙ ap₂ (λ (a : Ring) (s : ℕ). putAt a s noPacket) (I .ring-is ∙ ap (laid (capOf r) (plus low k)) cut) slot-is
+              ∙ laid-tail (capOf r) (caps (I .pre)) (plus low k) (getD (queueOf r low n) k noPacket) (drop (k + 1) (queueOf r low n))
               (omega (arith, length-drop (k + 1) (queueOf r low n), queue-long r low n, I .pre .fits))
               ∙ ap (λ (p : ℕ). laid (capOf r) p (drop (k + 1) (queueOf r low n))) (plus-plus low k 1);
         }

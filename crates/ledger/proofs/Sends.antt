@@ -22,7 +22,7 @@ use Rattle.serial.proofs.Cover.{plus-lt}
 use Rattle.ledger.specs.declared.Flow.{Flow}
 use Rattle.ledger.specs.declared.Totals.{Totals}
 use Rattle.ledger.specs.declared.Packet.{Packet}
-use Rattle.ledger.specs.Packets.{flyingStatus, markedStatus, none, withStatus, isFlying, isMarked, isDone, flyingOne, markedOne, markedSize, sumOf}
+use Rattle.ledger.specs.Packets.{flyingStatus, markedStatus, noPacket, withStatus, isFlying, isMarked, isDone, flyingOne, markedOne, markedSize, sumOf}
 use Rattle.ledger.specs.Bounds.{sizeLeast, backlogMost, resentMost, Flown}
 use Rattle.ledger.specs.Ring.{Ring, ring, Ledger, ledger, capOf, putAt, placeOf, laid, longOf, packets, offsetOf, packetOf}
 use Rattle.ledger.specs.Sound.{stands, soundLedger, SoundLedger}
@@ -70,10 +70,10 @@ waits x e = eqb-true (x .status) markedStatus e
 -- ---- one packet of the queue changed
 
 -- what holds of the new packet and of each other one holds of each
-set-all : (P : Packet → Type 0) (xs : List Packet) (k : ℕ) (y : Packet) → k < length xs → P y → (j : ℕ) → P (getD xs j none)
-    → P (getD (set xs k y) j none)
+set-all : (P : Packet → Type 0) (xs : List Packet) (k : ℕ) (y : Packet) → k < length xs → P y → (j : ℕ) → P (getD xs j noPacket)
+    → P (getD (set xs k y) j noPacket)
 set-all P xs k y h p j q =
-    by-cases (ℕ-discrete j k) (λ e. rw (e, getD-set-same xs k y none h) p) (λ n. rw (getD-set-other xs k j y none n) q)
+    by-cases (ℕ-discrete j k) (λ e. rw (e, getD-set-same xs k y noPacket h) p) (λ n. rw (getD-set-other xs k j y noPacket n) q)
 
 module _ (mtu clock : ℕ) (f : Flow) (r : Ring) (F : Facts mtu clock f r) (psn : ℕ) (h : offsetOf f psn < longOf f) where
   within : offsetOf f psn < length (packets f r)
@@ -250,12 +250,12 @@ module _ (mtu clock : ℕ) (f : Flow) (r : Ring) (F : Facts mtu clock f r) (room
     where
       -- what holds of each packet of a queue and of the one behind it
       snoc-all : (P : Packet → Type 0) (xs : List Packet) (y : Packet) → P y → (j : ℕ) → j < length (xs ++ (y ∷ []))
-          → (j < length xs → P (getD xs j none)) → P (getD (xs ++ (y ∷ [])) j none)
+          → (j < length xs → P (getD xs j noPacket)) → P (getD (xs ++ (y ∷ [])) j noPacket)
       snoc-all P xs y p j l q =
-          by-cases (decLt j (length xs)) (λ h. rw (List·getD-append xs (y ∷ []) none j h) (q h))
+          by-cases (decLt j (length xs)) (λ h. rw (List·getD-append xs (y ∷ []) noPacket j h) (q h))
           (λ g.
           let e : j ≡ length xs = omega (arith, length-append xs (y ∷ [])) in
-          rw (e, getD-append-seam xs y [] none) p)
+          rw (e, getD-append-seam xs y [] noPacket) p)
 
 pub push-keeps : (mtu maxwnd clock time psn size : ℕ) (l : Ledger) → soundLedger mtu maxwnd clock l ≡ true
     → firstOf (newRows (l .flow) (capOf (l .slots)) psn size) ≡ 0 → clock ≤ time → sizeLeast ≤ size → size ≤ mtu

@@ -9,7 +9,7 @@ use native.Mathlib.Omega.{arith}
 use lib.ListN.{getD, take}
 use Rattle.serial.specs.Psn.{psns, plus}
 use Rattle.serial.proofs.Cover.{plus-lt}
-use Rattle.ledger.specs.Packets.{doneStatus, none, withStatus, isFlying, isMarked, isOut, sumOf, coverOne, coverAll, coveredSum}
+use Rattle.ledger.specs.Packets.{doneStatus, noPacket, withStatus, isFlying, isMarked, isOut, sumOf, coverOne, coverAll, coveredSum}
 use Rattle.ledger.specs.declared.Packet.{Packet}
 use Rattle.ledger.proofs.Queues.{plus-none, plus-next, cover-out, cover-stays, cover-again, done-in, now-done, spared, coverTo, OfOut, spared-adds, cover-adds, cover-sum}
 
@@ -33,7 +33,7 @@ once true x = go (isOut x) refl
 module _ (cov : ℕ → Bool) where
   -- of the first k packets none is to be delivered
   abbrev pub Settled : ℕ → ℕ → List Packet → Type 0
-  Settled p k xs = (j : ℕ) → j < k → (isOut (getD xs j none) && cov (plus p j)) ≡ false
+  Settled p k xs = (j : ℕ) → j < k → (isOut (getD xs j noPacket) && cov (plus p j)) ≡ false
 
   settled-here : (p k : ℕ) (x : Packet) (xs : List Packet) → p < psns → Settled p (suc k) (x ∷ xs) → (isOut x && cov p) ≡ false
   settled-here p k x xs b h = subst (λ (q : ℕ). (isOut x && cov q) ≡ false) (plus-none p b) (h 0 (suc-le-suc zero-le))

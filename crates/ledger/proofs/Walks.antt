@@ -10,7 +10,7 @@ use native.Mathlib.Omega.{arith}
 use native.Mathlib.Numerals.{add-one}
 use lib.ListN.{length, getD, set}
 use Rattle.rules.specs.Test.{both, whole}
-use Rattle.ledger.specs.Packets.{none, sumOf}
+use Rattle.ledger.specs.Packets.{noPacket, sumOf}
 use Rattle.ledger.specs.Ring.{tabulate}
 use Rattle.ledger.specs.Sound.{allTo}
 use Rattle.ledger.specs.declared.Packet.{Packet}
@@ -67,21 +67,21 @@ module _ (adds : Packet → ℕ) where
 
   -- packet k becomes x
   pub sum-set : (xs : List Packet) (k : ℕ) (x : Packet) → k < length xs
-      → sumOf adds (set xs k x) + adds (getD xs k none) ≡ sumOf adds xs + adds x
+      → sumOf adds (set xs k x) + adds (getD xs k noPacket) ≡ sumOf adds xs + adds x
   unfolding sumOf
   sum-set [] k x h = absurd (not-suc-le-zero h)
   sum-set (y ∷ ys) zero x h = omega arith
   sum-set (y ∷ ys) (suc k) x h = omega (arith, sum-set ys k x (le-of-suc-le-suc h))
 
   -- a packet adds no more than all do
-  pub sum-at-le : (xs : List Packet) (k : ℕ) → k < length xs → adds (getD xs k none) ≤ sumOf adds xs
+  pub sum-at-le : (xs : List Packet) (k : ℕ) → k < length xs → adds (getD xs k noPacket) ≤ sumOf adds xs
   unfolding sumOf
   sum-at-le [] k h = absurd (not-suc-le-zero h)
   sum-at-le (y ∷ ys) zero h = omega arith
   sum-at-le (y ∷ ys) (suc k) h = omega (arith, sum-at-le ys k (le-of-suc-le-suc h))
 
   -- each adds at most b
-  pub sum-bound : (b : ℕ) (xs : List Packet) → ((k : ℕ) → k < length xs → adds (getD xs k none) ≤ b) → sumOf adds xs ≤ length xs * b
+  pub sum-bound : (b : ℕ) (xs : List Packet) → ((k : ℕ) → k < length xs → adds (getD xs k noPacket) ≤ b) → sumOf adds xs ≤ length xs * b
   unfolding sumOf
   sum-bound b [] h = zero-le
   sum-bound b (x ∷ xs) h =

@@ -5,7 +5,7 @@ use mathlib.Core.Bool.{true, false, _&&_}
 use Prim.Native.Nat.{ℕ, _+_, _-_, _≤_, _<_}
 use lib.ListN.{length, drop, getD}
 use Rattle.serial.specs.Psn.{plus, covered}
-use Rattle.ledger.specs.Packets.{none, isOut, flyingOne, markedOne, markedSize, sumOf, coverAll, coveredSum, doneRun}
+use Rattle.ledger.specs.Packets.{noPacket, isOut, flyingOne, markedOne, markedSize, sumOf, coverAll, coveredSum, doneRun}
 use Rattle.ledger.specs.Ring.{Ring, Ledger, capOf, placeOf, laid, queueOf, longOf, packets}
 use Rattle.ledger.specs.Sound.{isCapacity}
 use Rattle.ledger.specs.declared.Totals.{Totals}
@@ -39,7 +39,7 @@ pub record Covered (l : Ledger) (cum map : ℕ) (t : Totals) (r : Ring) : Type 0
 -- of the first k packets none is left to be delivered
 abbrev pub Spent : Ledger → ℕ → ℕ → ℕ → Type 0
 Spent l cum map k =
-    (j : ℕ) → j < k → (isOut (getD (packets (l .flow) (l .slots)) j none) && covered cum map (plus (l .flow .low) j)) ≡ false
+    (j : ℕ) → j < k → (isOut (getD (packets (l .flow) (l .slots)) j noPacket) && covered cum map (plus (l .flow .low) j)) ≡ false
 
 -- a run of slots beside each other, of which the first holds the packet k after low, within `reach`
 abbrev pub Run : Ledger → ℕ → ℕ → ℕ → ℕ → Type 0

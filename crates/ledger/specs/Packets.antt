@@ -19,8 +19,8 @@ abbrev pub doneStatus : ℕ
 doneStatus = 3
 
 -- no packet: an empty slot is all zero
-abbrev pub none : Packet
-none = record { status = 0; size = 0; sent = 0; resent = 0 }
+abbrev pub noPacket : Packet
+noPacket = record { status = 0; size = 0; sent = 0; resent = 0 }
 
 abbrev pub withStatus : ℕ → Packet → Packet
 withStatus s x = record { status = s; size = x .size; sent = x .sent; resent = x .resent }

@@ -5,7 +5,7 @@ use Prim.Native.Nat.{ℕ, zero, suc, _+_, _-_, _%_}
 use lib.ListN.{length, getD, set}
 use Rattle.serial.specs.Wrap.{minus}
 use Rattle.serial.specs.Psn.{psns, plus}
-use Rattle.ledger.specs.Packets.{none}
+use Rattle.ledger.specs.Packets.{noPacket}
 use Rattle.ledger.specs.declared.Flow.{Flow}
 use Rattle.ledger.specs.declared.Totals.{Totals}
 use Rattle.ledger.specs.declared.Packet.{Packet}
@@ -50,7 +50,7 @@ ageOf cap low i = (i + (cap - low % cap)) % cap
 
 -- one of the four slices, with a queue laid over it from low on, and 0 elsewhere
 unfoldable pub lay : (Packet → ℕ) → ℕ → ℕ → List Packet → List ℕ
-lay field cap low xs = tabulate (λ i. field (getD xs (ageOf cap low i) none)) cap
+lay field cap low xs = tabulate (λ i. field (getD xs (ageOf cap low i) noPacket)) cap
 
 -- the ring that holds a queue from low on, and is empty elsewhere
 unfoldable pub laid : ℕ → ℕ → List Packet → Ring
@@ -87,4 +87,4 @@ offsetOf f psn = minus psns psn (f .low)
 
 -- the packet of a PSN; none outside low..next-1
 unfoldable pub packetOf : Flow → Ring → ℕ → Packet
-packetOf f r psn = getD (packets f r) (offsetOf f psn) none
+packetOf f r psn = getD (packets f r) (offsetOf f psn) noPacket

@@ -19,7 +19,7 @@ use Rattle.log_records.specs.declared.record.Record.the-variants as rec
 use Rattle.log_records.specs.declared.parse.Parsed.{Parsed}
 use Rattle.log_records.specs.declared.parse.Parsed.the-variants as parsed
 use Rattle.replay.specs.Answers.{onEvent}
-use Rattle.replay.specs.Batches.{kindOf, filled, batchOf}
+use Rattle.replay.specs.Batches.{kindOf, fillRoomOf, batchOf}
 use Rattle.replay.specs.Places.{logged, foundIn, foundFrom, foundAt, endFrom, Turning, over, placeAfter, turned, onFound, turnOf, turnsIn, turnsOf, lastPlace, lastWorld}
 use Rattle.replay.specs.Records.{eventOf, ackOf}
 use Rattle.replay.specs.declared.Place.{Place}
@@ -30,7 +30,7 @@ use Rattle.replay.specs.declared.turns.Found.{Found}
 use Rattle.replay.specs.declared.turns.Found.the-variants as found
 use Rattle.replay.proofs.Parts.{turn-forward}
 use Rattle.replay_report.specs.Figures.{counted, bytesCounted, eventCounted}
-use Rattle.replay_report.specs.Tallies.{counting, tallied, tallyOf}
+use Rattle.replay_report.specs.Tallies.{counting, tallyTurnsOf, tallyOf}
 use Rattle.replay_report.specs.Statements.{kindTest, zeros}
 use Rattle.replay_report.specs.Ambiguous.{isAck, ackStands, ambiguousAck, serviceFirst, serviceLast, mayDiffer, DifferOnly, AllEqual}
 use Rattle.replay_report.proofs.Alike.{ackSize, rest-alike, parse-alike, ack-past, ack-alike}
@@ -302,12 +302,12 @@ module _ (log other : List ℕ) (p : Place) (w : World) (d : DifferOnly log othe
   same-figures figures = all-equal .1 figures ∙ ap (λ (ts : List Turning). counting (logged other) p ts figures) same-turns
 
   same-tally : (figures : List ℕ) → tallyOf (logged log) p w figures ≡ tallyOf (logged other) p w figures
-  unfolding tallyOf tallied
+  unfolding tallyOf tallyTurnsOf
   same-tally figures =
       rw (same-figures figures, same-turns)
 
   pub ambiguous-does-not-matter : AllEqual log other p w
-  unfolding batchOf filled
+  unfolding batchOf fillRoomOf
   ambiguous-does-not-matter =
       record {
         turns = same-turns;

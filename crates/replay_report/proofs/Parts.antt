@@ -15,7 +15,7 @@ use Rattle.replay.specs.declared.turns.Found.{Found}
 use Rattle.replay.specs.declared.turns.Found.the-variants as found
 use Rattle.replay.proofs.Parts.{Kept, turn-forward, last-forward, part-kept, dropped, turns-stay, turns-dropped}
 use Rattle.replay_report.specs.Figures.{counted}
-use Rattle.replay_report.specs.Tallies.{counting, Tallying, led, tallied}
+use Rattle.replay_report.specs.Tallies.{counting, Tallying, led, tallyTurnsOf}
 
 -- turns and further ones
 led-append : (f : Feed) (p : Place) (w : World) (ts us : List Turning) (fs : List ℕ)
@@ -80,16 +80,16 @@ last-later f p w =
 
 module _ (base : ℕ) (closed : Bool) (part more : List ℕ) (p : Place) (w : World) (fs : List ℕ) (from : base ≤ p .at) where
   abbrev first : Tallying
-  first = tallied (feed (Part base false) part) p w fs
+  first = tallyTurnsOf (feed (Part base false) part) p w fs
 
   -- the joined bytes from the offset on that the first call leaves
   abbrev left : List ℕ
   left = drop (first .place .at - base) (part ++ more)
 
   -- A REPORT IN PARTS IS THE REPORT: a call over the bytes that are there, then one over the rest with the figures that it leaves
-  pub parts-tallied : tallied (feed (Part base closed) (part ++ more)) p w fs
-      ≡ tallied (feed (Part (first .place .at) closed) left) (first .place) (first .after) (first .figures)
-  unfolding tallied turnsOf
+  pub parts-tallied : tallyTurnsOf (feed (Part base closed) (part ++ more)) p w fs
+      ≡ tallyTurnsOf (feed (Part (first .place .at) closed) left) (first .place) (first .after) (first .figures)
+  unfolding tallyTurnsOf turnsOf
   parts-tallied =
       let f = feed (Part base false) part in
       let g = feed (Part base closed) (part ++ more) in
@@ -107,4 +107,4 @@ module _ (base : ℕ) (closed : Bool) (part more : List ℕ) (p : Place) (w : Wo
       ∙ (ap (λ (xs : List ℕ). record { number = 0; place = lastPlace q us; after = lastWorld v us; figures = xs })
       (same-counting g h (base + n) (dropped base closed (part ++ more) n) (endOf g - q .at) q v gs (omega arith))
       ∙ (ap (λ (xs : List Turning). led h q v xs gs) (turns-dropped base closed (part ++ more) n q v (omega arith))
-      ∙ ap (λ (b : ℕ). tallied (feed (Part b closed) (drop n (part ++ more))) q v gs) far))))
+      ∙ ap (λ (b : ℕ). tallyTurnsOf (feed (Part b closed) (drop n (part ++ more))) q v gs) far))))

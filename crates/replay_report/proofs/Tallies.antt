@@ -10,22 +10,22 @@ use native.Mathlib.Omega.{arith}
 use Rattle.rules.specs.Branch.{so-yes, so-no}
 use Rattle.rules.specs.Test.{both}
 use Rattle.sender.specs.World.{World}
-use Rattle.replay.specs.Places.{Feed, foundAt, holds, Turning, over, turnOf, turnsOf, lastPlace, lastWorld}
+use Rattle.replay.specs.Places.{Feed, foundAt, soundPlace, Turning, over, turnOf, turnsOf, lastPlace, lastWorld}
 use Rattle.replay.specs.declared.Place.{Place}
 use Rattle.replay.specs.declared.turns.Found.{Found}
-use Rattle.replay.proofs.Progress.{turn-holds, turns-none, turns-more}
+use Rattle.replay.proofs.Progress.{turn-sound-place, turns-none, turns-more}
 use Rattle.replay.proofs.Looping.{ended-same}
 use Rattle.report_text.specs.Places.{figureCount}
 use Rattle.replay_report.specs.Figures.{counted}
-use Rattle.replay_report.specs.Tallies.{counting, Tallying, led, tallied, tallyOf}
+use Rattle.replay_report.specs.Tallies.{counting, Tallying, led, tallyTurnsOf, tallyOf}
 
 -- number 2 does not apply, and what is left takes the figures to the whole
 pub record Going (f : Feed) (p₀ : Place) (w₀ : World) (figures₀ : List ℕ) (p : Place) (w : World) (figures : List ℕ) : Type 0 where
-  pub good : holds p w ≡ true
+  pub good : soundPlace p w ≡ true
   pub long : length figures ≡ figureCount
-  pub is : tallied f p w figures ≡ tallied f p₀ w₀ figures₀
+  pub is : tallyTurnsOf f p w figures ≡ tallyTurnsOf f p₀ w₀ figures₀
 
-pub going-none : (f : Feed) (p : Place) (w : World) (figures : List ℕ) → holds p w ≡ true → length figures ≡ figureCount → Going f p w figures p w figures
+pub going-none : (f : Feed) (p : Place) (w : World) (figures : List ℕ) → soundPlace p w ≡ true → length figures ≡ figureCount → Going f p w figures p w figures
 going-none f p w figures h l = record { good = h; long = l; is = refl }
 
 -- where there are no turns nothing is counted
@@ -47,8 +47,8 @@ rest-of f p w t e d =
 
 module _ {f : Feed} {p₀ : Place} {w₀ : World} {figures₀ : List ℕ} {p : Place} {w : World} {figures : List ℕ} (g : Going f p₀ w₀ figures₀ p w figures)
     (t : Turning) (e : t ≡ turnOf f p w) where
-  pub going-ended : t .ended ≡ true → record { number = 0; place = t .place; after = t .after; figures = figures } ≡ tallied f p₀ w₀ figures₀
-  unfolding tallied
+  pub going-ended : t .ended ≡ true → record { number = 0; place = t .place; after = t .after; figures = figures } ≡ tallyTurnsOf f p₀ w₀ figures₀
+  unfolding tallyTurnsOf
   going-ended d =
       let d′ : turnOf f p w .ended ≡ true = rw e at d in
       let same : t ≡ over p w = e ∙ ended-same f p w d′ in
@@ -58,12 +58,12 @@ module _ {f : Feed} {p₀ : Place} {w₀ : World} {figures₀ : List ℕ} {p : P
   pub going-more : t .ended ≡ false → (stands : Found) → stands ≡ foundAt f (p .at) → (figures′ : List ℕ)
       → figures′ ≡ counted stands (t .number) (t .shown) figures → length figures′ ≡ length figures
       → Going f p₀ w₀ figures₀ (t .place) (t .after) figures′
-  unfolding tallied
+  unfolding tallyTurnsOf
   going-more d stands s figures′ n l =
       let ts = turnsOf f (t .place) (t .after) in
       let n′ : figures′ ≡ counted (foundAt f (p .at)) (t .number) (t .shown) figures = n ∙ ap (λ (x : Found). counted x (t .number) (t .shown) figures) s in
       record {
-        good = rw (sym e) at (turn-holds f p w (g .good));
+        good = rw (sym e) at (turn-sound-place f p w (g .good));
         long = l ∙ g .long;
         is =
             ap (led f (t .place) (t .after) ts) n′
@@ -80,22 +80,22 @@ neither-not : (a b : Bool) → (not a || not b) ≡ not (a && b)
 neither-not true b = refl
 neither-not false b = refl
 
-module _ (f : Feed) (p : Place) (w : World) (figures : List ℕ) (r : Bool) (e : r ≡ holds p w) where
+module _ (f : Feed) (p : Place) (w : World) (figures : List ℕ) (r : Bool) (e : r ≡ soundPlace p w) where
   abbrev pub failed : Bool
   failed = not (eqb (length figures) figureCount) || not r
 
-  whole-is : {b : Bool} → failed ≡ b → not (eqb (length figures) figureCount && holds p w) ≡ b
+  whole-is : {b : Bool} → failed ≡ b → not (eqb (length figures) figureCount && soundPlace p w) ≡ b
   whole-is t = rw (← e) (sym (neither-not (eqb (length figures) figureCount) r) ∙ t)
 
-  pub tally-tested : failed ≡ false → (holds p w ≡ true) × (length figures ≡ figureCount)
+  pub tally-tested : failed ≡ false → (soundPlace p w ≡ true) × (length figures ≡ figureCount)
   tally-tested t =
-      let h = both (eqb (length figures) figureCount) (holds p w) (not-false _ (whole-is t)) in
+      let h = both (eqb (length figures) figureCount) (soundPlace p w) (not-false _ (whole-is t)) in
       (h .1, eqb-true (length figures) figureCount (h .0))
 
   pub tally-refused : failed ≡ true → record { number = 2; place = p; after = w; figures = figures } ≡ tallyOf f p w figures
   unfolding tallyOf
-  tally-refused t = so-no (eqb (length figures) figureCount && holds p w) _ (tallied f p w figures) _ (not-true _ (whole-is t)) refl
+  tally-refused t = so-no (eqb (length figures) figureCount && soundPlace p w) _ (tallyTurnsOf f p w figures) _ (not-true _ (whole-is t)) refl
 
-  pub tally-made : failed ≡ false → (x : Tallying) → x ≡ tallied f p w figures → x ≡ tallyOf f p w figures
+  pub tally-made : failed ≡ false → (x : Tallying) → x ≡ tallyTurnsOf f p w figures → x ≡ tallyOf f p w figures
   unfolding tallyOf
-  tally-made t x is = so-yes (eqb (length figures) figureCount && holds p w) x _ _ (not-false _ (whole-is t)) is
+  tally-made t x is = so-yes (eqb (length figures) figureCount && soundPlace p w) x _ _ (not-false _ (whole-is t)) is

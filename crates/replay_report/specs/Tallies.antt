@@ -9,7 +9,7 @@ use Rattle.rules.specs.Branch.{ifSo}
 use Rattle.ledger.specs.Ring.{Ring}
 use Rattle.sender.specs.World.{World, world}
 use Rattle.sender.specs.declared.Controller.{Controller}
-use Rattle.replay.specs.Places.{Feed, foundAt, Turning, holds, turnsOf, lastPlace, lastWorld}
+use Rattle.replay.specs.Places.{Feed, foundAt, Turning, soundPlace, turnsOf, lastPlace, lastWorld}
 use Rattle.replay.specs.declared.Place.{Place}
 use Rattle.report_text.specs.Places.{figureCount}
 use Rattle.replay_report.specs.Figures.{counted}
@@ -33,12 +33,12 @@ tallying n p c r t figures = record { number = n; place = p; after = world c r t
 abbrev pub led : Feed → Place → World → List Turning → List ℕ → Tallying
 led f p w ts figures = record { number = 0; place = lastPlace p ts; after = lastWorld w ts; figures = counting f p ts figures }
 
-unfoldable pub tallied : Feed → Place → World → List ℕ → Tallying
-tallied f p w figures = led f p w (turnsOf f p w) figures
+unfoldable pub tallyTurnsOf : Feed → Place → World → List ℕ → Tallying
+tallyTurnsOf f p w figures = led f p w (turnsOf f p w) figures
 
 -- number 2, also where the figures are not so many, or the turns
 unfoldable pub tallyOf : Feed → Place → World → List ℕ → Tallying
 tallyOf f p w figures =
-    ifSo (eqb (length figures) figureCount && holds p w)
-    (tallied f p w figures)
+    ifSo (eqb (length figures) figureCount && soundPlace p w)
+    (tallyTurnsOf f p w figures)
     (record { number = 2; place = p; after = w; figures = figures })

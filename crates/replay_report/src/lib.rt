@@ -5,7 +5,7 @@ pub mod figures;
 use crate::figures::count;
 use replay::Place;
 use replay::Source;
-use replay::turns::is_whole;
+use replay::turns::is_sound;
 use replay::turns::stands_at;
 use replay::turns::turn;
 use report_text::places::FIGURES;
@@ -15,11 +15,11 @@ ghost use mathlib.Core.Path.{_≡_};
 ghost use mathlib.Core.Bool.{true};
 ghost use lib.ListN.{length};
 ghost use Rattle.rules.specs.Verdict.{numberOf};
-ghost use Rattle.replay.specs.Places.{feed, holds};
+ghost use Rattle.replay.specs.Places.{feed, soundPlace};
 ghost use Rattle.report_text.specs.Places.{figureCount};
 ghost use Rattle.ledger.specs.Lent.{ringAfter};
 ghost use Rattle.sender.specs.Lent.{worldGiven, worldBefore};
-ghost use Rattle.replay_report.specs.Tallies.{tallying, tallied, tallyOf};
+ghost use Rattle.replay_report.specs.Tallies.{tallying, tallyTurnsOf, tallyOf};
 
 // What a call answers: 2, or accepted. The figures are lent.
 pub struct Tallied {
@@ -29,7 +29,7 @@ pub struct Tallied {
 }
 
 // The turns where number 2 is known not to apply: an inner step. Each turn's record is looked up once more, for its bytes.
-fn relied<'a, 'b, 'c, 'd, 'e, 'f, 'g>(
+fn tally_turns<'a, 'b, 'c, 'd, 'e, 'f, 'g>(
     source: Source,
     place: Place,
     state: Controller,
@@ -41,11 +41,11 @@ fn relied<'a, 'b, 'c, 'd, 'e, 'f, 'g>(
     log: &'f [u8],
     figures: &'g mut [u64],
 ) -> Tallied
-    requires { ⌜ holds place (worldGiven state status size sent resent evs) ≡ true ⌝ }
+    requires { ⌜ soundPlace place (worldGiven state status size sent resent evs) ≡ true ⌝ }
     requires { ⌜ length (now figures) ≡ figureCount ⌝ }
     ensures { λ r. ⌜ tallying (numberOf (r .verdict)) (r .place) (r .state)
         (ringAfter status size sent resent) (now (evs .exit)) (now (figures .exit))
-        ≡ tallied (feed source (now (log .entry))) place (worldBefore state status size sent resent evs) (now (figures .entry)) ⌝ }
+        ≡ tallyTurnsOf (feed source (now (log .entry))) place (worldBefore state status size sent resent evs) (now (figures .entry)) ⌝ }
 {
     let mut place = place;
     let mut state = state;
@@ -85,7 +85,7 @@ pub fn tally<'a, 'b, 'c, 'd, 'e, 'f, 'g>(
         (ringAfter status size sent resent) (now (evs .exit)) (now (figures .exit))
         ≡ tallyOf (feed source (now (log .entry))) place (worldBefore state status size sent resent evs) (now (figures .entry)) ⌝ }
 {
-    let whole = is_whole(place, state, status, size, sent, resent, evs);
+    let whole = is_sound(place, state, status, size, sent, resent, evs);
     if (figures.len() != FIGURES) | !whole {
         return Tallied {
             verdict: Verdict::Unsound,
@@ -93,7 +93,7 @@ pub fn tally<'a, 'b, 'c, 'd, 'e, 'f, 'g>(
             state,
         };
     }
-    relied(
+    tally_turns(
         source,
         place,
         state,

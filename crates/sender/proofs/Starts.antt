@@ -20,7 +20,7 @@ use Rattle.window.specs.Range.{inRange}
 use Rattle.window.specs.Sound.{freshOf}
 use Rattle.window.specs.declared.Settings.{Settings}
 use Rattle.window.proofs.Tests.{ev-count-bounds, range-facts, fresh-window}
-use Rattle.ledger.specs.Packets.{none, sumOf}
+use Rattle.ledger.specs.Packets.{noPacket, sumOf}
 use Rattle.ledger.specs.Ring.{Ring, ring, ledger, capOf, packetAt, queueOf, tabulate, laid, longOf}
 use Rattle.ledger.specs.Sound.{isCapacity, isRing, soundLedger, Even}
 use Rattle.ledger.proofs.Geometry.{cap-facts, laid-queue}
@@ -88,7 +88,7 @@ clear-even r E =
       resent = d ∙ E .resent ∙ sym a;
     }
 
-clear-at : (r : Ring) (i : ℕ) → packetAt (clearRing r) i ≡ none
+clear-at : (r : Ring) (i : ℕ) → packetAt (clearRing r) i ≡ noPacket
 unfolding packetAt
 clear-at r i = rw (zero-at (length (r .status)) i, zero-at (length (r .size)) i, zero-at (length (r .sent)) i, zero-at (length (r .resent)) i)
 

@@ -15,11 +15,11 @@ given s =
     world (a .state) (ring (a .status .now) (a .size .now) (a .sent .now) (a .resent .now)) (a .evs .now)
 
 -- from the test of number 2 back to the entry
-abbrev start : tie.After-is-whole → tie.Start
+abbrev start : tie.After-is-sound → tie.Start
 start h = h .before .before .before .before .before .before .before .before .before .before .before .before .before
 
-is-whole-requires : tie.Need-is-whole-requires
-is-whole-requires c κs = search needs
+is-sound-requires : tie.Need-is-sound-requires
+is-sound-requires c κs = search needs
 
 same-length : tie.Need-same-length
 same-length c = search needs
@@ -41,14 +41,14 @@ unfolding numberOf
 returns c =
     let h = c .before in
     let s = start h in
-    tally-refused (feed (s .args .source) (s .args .log .now)) (s .args .place) (given s) (s .args .figures .now) _ (h .is-whole .ensures) (c .if1 .taken)
+    tally-refused (feed (s .args .source) (s .args .log .now)) (s .args .place) (given s) (s .args .figures .now) _ (h .is-sound .ensures) (c .if1 .taken)
 
-relied-requires : tie.Need-relied-requires
-relied-requires c κs =
+tally-turns-requires : tie.Need-tally-turns-requires
+tally-turns-requires c κs =
     let e = c .before .before .before .before .before .before in
     let h = e .before in
     let s = start h in
-    tally-tested (feed (s .args .source) (s .args .log .now)) (s .args .place) (given s) (s .args .figures .now) _ (h .is-whole .ensures) (e .if1 .left)
+    tally-tested (feed (s .args .source) (s .args .log .now)) (s .args .place) (given s) (s .args .figures .now) _ (h .is-sound .ensures) (e .if1 .left)
 
 same-length-6 : tie.Need-same-length-6
 same-length-6 c = search needs
@@ -75,20 +75,20 @@ returns-2 c =
     let e = k .before .before .before .before .before .before .before in
     let h = e .before in
     let s = start h in
-    tally-made (feed (s .args .source) (s .args .log .now)) (s .args .place) (given s) (s .args .figures .now) _ (h .is-whole .ensures) (e .if1 .left) _ (k .relied .ensures)
+    tally-made (feed (s .args .source) (s .args .log .now)) (s .args .place) (given s) (s .args .figures .now) _ (h .is-sound .ensures) (e .if1 .left) _ (k .tally-turns .ensures)
 
 pub tally-spec : {M : Type 1} → statement M
 tally-spec =
     tie.close
     (tie.spec
-    is-whole-requires
+    is-sound-requires
     same-length
     same-length-2
     same-length-3
     same-length-4
     same-length-5
     returns
-    relied-requires
+    tally-turns-requires
     same-length-6
     same-length-7
     same-length-8

@@ -33,7 +33,7 @@ unfolding bit
 returns c =
     let s = c .before .before in
     let a = s .args in
-    part-stored (a .ws .now) (s .pre) (a .held) (a .count) (a .taken) (c .if1 .ws)
+    part-stored (a .ws .now) (s .pre) (a .carry) (a .count) (a .taken) (c .if1 .ws)
     (⊎-elim (λ w. w .1 ∙ sym (ap bit (w .0 .taken))) (λ w. w .1 ∙ sym (ap bit (w .0 .left))) (c .if1 .came))
 
 pub keep-part-spec : {M : Type 1} → statement M

@@ -1,4 +1,4 @@
--- `keep_took` stores nothing where the chunk was refused; else what is held, and the state where there is one.
+-- `keep_took` stores nothing where the chunk was refused; else what is carried, and the state where there is one.
 use mathlib.Core.Path.{refl, sym, _∙_}
 use borrow.Author.Needs.{needs}
 use Rattle.rules.specs.Branch.{so-yes, so-no, eq-yes, eq-no}

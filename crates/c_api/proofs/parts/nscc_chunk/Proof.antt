@@ -7,14 +7,14 @@ use Rattle.c_api.proofs.Parting.{part-long, part-wrong, part-back}
 use Rattle.c_api.proofs.parts.nscc_chunk.Statement.{statement}
 use Rattle.c_api.proofs.parts.nscc_chunk.Tie as tie
 
--- from the chunk back to the state that was unpacked for it, to what is held, and to the test of what was lent
+-- from the chunk back to the state that was unpacked for it, to what is carried, and to the test of what was lent
 abbrev unpacking : tie.After-chunk → tie.After-unpack
 unpacking k = k .before .before .before .before .before .before .before .before .before
 
-abbrev placing : tie.After-unpack → tie.After-held-of
+abbrev placing : tie.After-unpack → tie.After-carry-of
 placing u = u .before .before
 
-abbrev testing : tie.After-held-of → tie.Else1
+abbrev testing : tie.After-carry-of → tie.Else1
 testing p = p .before .before
 
 is-lent-requires : tie.Need-is-lent-requires
@@ -35,8 +35,8 @@ returns c =
     let i = c .before in
     rw (c .number-of .ensures) (part-wrong _ _ _ _ _ _ _ _ (sym (i .before .is-lent .ensures) ∙ not-true _ (i .if1 .taken)))
 
-held-of-requires : tie.Need-held-of-requires
-held-of-requires c κs = part-long _ _ (sym (c .before .before .is-lent .ensures) ∙ not-false _ (c .before .if1 .left)) .0
+carry-of-requires : tie.Need-carry-of-requires
+carry-of-requires c κs = part-long _ _ (sym (c .before .before .is-lent .ensures) ∙ not-false _ (c .before .if1 .left)) .0
 
 unpack-requires : tie.Need-unpack-requires
 unpack-requires c κs = search needs
@@ -83,7 +83,7 @@ returns-2 c =
     let p = placing u in
     let e = testing p in
     let stored = c .before .before .before .before .keep-took .ensures in
-    part-back _ _ _ _ _ _ _ _ (sym (e .before .is-lent .ensures) ∙ not-false _ (e .if1 .left)) _ (p .held-of .ensures) _ (u .unpack .ensures) _ (k .chunk .ensures)
+    part-back _ _ _ _ _ _ _ _ (sym (e .before .is-lent .ensures) ∙ not-false _ (e .if1 .left)) _ (p .carry-of .ensures) _ (u .unpack .ensures) _ (k .chunk .ensures)
     _ _ _ (stored .0) (stored .1) (stored .2)
 
 pub nscc-chunk-spec : {M : Type 1} → statement M
@@ -95,7 +95,7 @@ nscc-chunk-spec =
     same-length
     same-length-2
     returns
-    held-of-requires
+    carry-of-requires
     unpack-requires
     chunk-requires
     keep-took-requires

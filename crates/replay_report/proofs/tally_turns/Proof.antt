@@ -1,4 +1,4 @@
--- `relied` counts a turn at a time: `Going` is the loop's invariant, and the turns that are left are its measure.
+-- `tally_turns` counts a turn at a time: `Going` is the loop's invariant, and the turns that are left are its measure.
 use mathlib.Core.Path.{sym, _∙_}
 use lib.ListN.{length}
 use borrow.Author.Needs.{needs}
@@ -9,8 +9,8 @@ use Rattle.replay.specs.Places.{Turning, feed, turnsOf}
 use Rattle.replay.proofs.Making.{turnIs}
 use Rattle.replay.proofs.Looping.{Lent, lent-none, lent-more}
 use Rattle.replay_report.proofs.Tallies.{Going, going-none, going-ended, going-more, going-less}
-use Rattle.replay_report.proofs.relied.Statement.{statement}
-use Rattle.replay_report.proofs.relied.Tie as tie
+use Rattle.replay_report.proofs.tally_turns.Statement.{statement}
+use Rattle.replay_report.proofs.tally_turns.Tie as tie
 
 abbrev Inv-loop : tie.InvT-loop
 Inv-loop source status₀ size₀ sent₀ resent₀ evs₀ log figures₀ place₀ state₀ status size sent resent evs figures place state =
@@ -103,8 +103,8 @@ loop-again c =
       lent k,
     )
 
-pub relied-spec : {M : Type 1} → statement M
-relied-spec =
+pub tally-turns-spec : {M : Type 1} → statement M
+tally-turns-spec =
     tie.close
     (tie.spec
     Inv-loop
