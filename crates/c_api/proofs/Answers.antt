@@ -1,5 +1,5 @@
--- What a call over lent words answers, from what its parts answered: an event on the state that the words are (`no-state`, `event-on`), setting up
--- (`few-settings`, `out-of-range`, `wrong-words`, `set-up-on`), and the words once an answer is kept. Assumes nothing.
+-- What a call over lent words answers, from what its parts answered: an event on the state that the words are (`no-state`, `event-on`),
+-- setting up (`few-settings`, `out-of-range`, `wrong-words`, `set-up-on`), and the words once an answer is kept. Assumes nothing.
 use mathlib.Core.Path.{_≡_, refl, sym, ap, _∙_}
 use mathlib.Core.Bool.{Bool, true, false, not}
 use mathlib.Core.List.{List}
@@ -76,7 +76,8 @@ module _ (ws : List ℕ) (given : Unpacked) (given-is : given ≡ unpacked ws) w
 
     -- the event's answer, kept
     pub event-on :
-        (e : Event) (r : Ring) (t : List ℕ) (n : ℕ) (c : Controller) (s : Ring) (u : List ℕ) → saying n c s u ≡ onceOf e (world (given .state) r t) →
+        (e : Event) (r : Ring) (t : List ℕ) (n : ℕ) (c : Controller) (s : Ring) (u : List ℕ)
+        → saying n c s u ≡ onceOf e (world (given .state) r t) →
         (xs : List ℕ) → xs ≡ wordsAfter (n % 2 ^ 32) ws c → called n xs s u ≡ onEventWords e ws r t
     unfolding onEventWords
     event-on e r t n c s u q xs k =
@@ -90,7 +91,8 @@ module _ (ns : List ℕ) (psn : ℕ) (off : Bool) (evs : ℕ) (ws : List ℕ) (r
   few-settings h = so-no _ _ _ _ (ne-eqb (length ns) settingsCount h) refl
 
   module _
-      (enough : length ns ≡ settingsCount) (g : Settings) (g-is : g ≡ settingsFrom ns psn off evs) (range : Bool) (range-is : range ≡ inRange g)
+      (enough : length ns ≡ settingsCount) (g : Settings) (g-is : g ≡ settingsFrom ns psn off evs) (range : Bool)
+      (range-is : range ≡ inRange g)
     where
       range-same : inRange (settingsFrom ns psn off evs) ≡ range
       range-same = sym (range-is ∙ ap inRange g-is)

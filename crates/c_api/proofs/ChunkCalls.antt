@@ -1,5 +1,5 @@
--- `nscc_chunk` call after call: between calls the words hold what the definitions of `replay_chunks` hold, whatever the calls are, and what the calls answer and take is
--- what those say. Assumes nothing.
+-- `nscc_chunk` call after call: between calls the words hold what the definitions of `replay_chunks` hold, whatever the calls are, and what
+-- the calls answer and take is what those say. Assumes nothing.
 use mathlib.Core.Path.{_≡_, refl, sym, ap, subst, _∙_}
 use mathlib.Core.Bool.{Bool, true, _&&_}
 use mathlib.Core.List.{List, [], _∷_, _++_}
@@ -11,7 +11,8 @@ use Rattle.sender.specs.declared.Controller.{Controller}
 use Rattle.replay.specs.Places.{Feed, Turning, lastPlace, lastWorld}
 use Rattle.replay.specs.declared.Place.{Place}
 use Rattle.replay_chunks.specs.Chunks.{partOf, Chunking, untouched}
-use Rattle.replay_chunks.specs.Statements.{Between, Kept, Call, answered, left, tookBy, answersBy, turnsBy, overBy, joinedLog, answersFed, turnsFed, endFed, Ends}
+use Rattle.replay_chunks.specs.Statements.{Between, Kept, Call, answered, left, tookBy, answersBy, turnsBy, overBy, joinedLog, answersFed}
+use Rattle.replay_chunks.specs.Statements.{turnsFed, endFed, Ends}
 use Rattle.replay_chunks.specs.declared.Carry.{Carry}
 use Rattle.replay_chunks.proofs.Calls.{One, one, left-out, taken-in, either-way}
 use Rattle.replay_chunks.proofs.Joined.{calls-joined}
@@ -20,7 +21,8 @@ use Rattle.c_state.specs.Layout.{wordCount, flag, unpacked}
 use Rattle.c_state.specs.Statements.{Machine}
 use Rattle.c_api.specs.Batch.{wordsThen}
 use Rattle.c_api.specs.Parts.{partWords, carryFrom, partOk, Chunked, chunkCalled, partThen, handedPart, onChunkWords}
-use Rattle.c_api.specs.Statements.{Lent, chunkCall, chunkLeft, partStopped, partAnswered, toldBy, chunkAnswers, chunkTook, chunkLog, chunkAll, chunkLast, ChunkEnds, sharedWords}
+use Rattle.c_api.specs.Statements.{Lent, chunkCall, chunkLeft, partStopped, partAnswered, toldBy, chunkAnswers, chunkTook, chunkLog}
+use Rattle.c_api.specs.Statements.{chunkAll, chunkLast, ChunkEnds, sharedWords}
 use Rattle.c_api.proofs.Machines.{Going, turns-going}
 use Rattle.c_api.proofs.Parting.{part-long}
 use Rattle.c_api.proofs.Stored.{none-stored, then-long, back, twice, carry-back, threeWords, three-back, part-ok}
@@ -96,7 +98,8 @@ module _ (l : Lent) (c : Call) (s : Sound l) where
   is-made e =
       ap
       (λ (n : ℕ).
-      chunkCalled n (partThen n (r .carry) (r .count) (r .taken) (l .part)) (r .piece) (wordsThen n (r .carry .place) (r .count) (r .after .state) (l .words))
+      chunkCalled n (partThen n (r .carry) (r .count) (r .taken) (l .part)) (r .piece)
+      (wordsThen n (r .carry .place) (r .count) (r .after .state) (l .words))
       (r .after .slots) (r .after .times) (r .room))
       e
 
@@ -121,7 +124,8 @@ module _ (l : Lent) (c : Call) (s : Sound l) where
   made-next =
       ap (λ (h : Carry). record { carry = h; piece = r .piece; after = world (unpacked ws .state) (r .after .slots) (r .after .times) })
       (carry-back (r .carry) (r .count) (r .taken))
-      ∙ ap (λ (d : Controller). record { carry = r .carry; piece = r .piece; after = world d (r .after .slots) (r .after .times) }) state-back
+      ∙ ap (λ (d : Controller). record { carry = r .carry; piece = r .piece; after = world d (r .after .slots) (r .after .times) })
+      state-back
 
   made-machine : (r .carry .place .done ≡ 0 → ⊥) → Machine (unpacked ws .state)
   made-machine some =
@@ -141,7 +145,8 @@ module _ (l : Lent) (c : Call) (s : Sound l) where
         words = refl;
         sound =
             record {
-              ok = part-ok (r .carry) (r .count) (r .taken) ws (then-long (r .carry .place) (r .count) (r .after .state) (l .words) words-few);
+              ok = part-ok (r .carry) (r .count) (r .taken) ws
+                  (then-long (r .carry .place) (r .count) (r .after .state) (l .words) words-few);
               good = subst Kept (sym made-next) (o .good);
               machine = made-machine;
               first-words = three-back (r .carry .place);
@@ -163,7 +168,8 @@ pub record Run (l : Lent) (cs : List Call) : Type 0 where
   pub last : between (chunkLast l cs) ≡ endFed (between l) cs
   pub words :
       chunkLast l cs .words
-      ≡ wordsThen 0 (endFed (between l) cs .carry .place) (length (turnsFed (between l) cs)) (endFed (between l) cs .after .state) (l .words)
+      ≡ wordsThen 0 (endFed (between l) cs .carry .place) (length (turnsFed (between l) cs)) (endFed (between l) cs .after .state)
+      (l .words)
   pub sound : Sound (chunkLast l cs)
   pub ends : ChunkEnds l cs → Ends true (between l) cs
 
@@ -218,9 +224,11 @@ run l (c ∷ cs) s =
       last = later .last ∙ ap (λ (d : Between). endFed d cs) (m .next);
       words =
           later .words
-          ∙ (ap (λ (d : Between). wordsThen 0 (endFed d cs .carry .place) (length (turnsFed d cs)) (endFed d cs .after .state) (x .words)) (m .next)
+          ∙ (ap (λ (d : Between). wordsThen 0 (endFed d cs .carry .place) (length (turnsFed d cs)) (endFed d cs .after .state)
+          (x .words)) (m .next)
           ∙ (ap (λ (ws : List ℕ). wordsThen 0 (e .carry .place) (length us) (e .after .state) ws) (m .words)
-          ∙ (fed-twice (left r) cs (o .good) (r .count) (l .words) ∙ ap (λ (n : ℕ). wordsThen 0 (e .carry .place) n (e .after .state) (l .words)) counted)));
+          ∙ (fed-twice (left r) cs (o .good) (r .count) (l .words)
+          ∙ ap (λ (n : ℕ). wordsThen 0 (e .carry .place) n (e .after .state) (l .words)) counted)));
       sound = later .sound;
       ends = ends-first l c m cs (later .ends);
     }

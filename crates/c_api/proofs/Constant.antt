@@ -1,5 +1,5 @@
--- WHAT THE HEADER CALLS CONST IS LEFT AS IT WAS, whatever is answered: the ring and the EV times by new data and by a path choice, the EV times by a send, and
--- sizes, send times and resend counts by a NACK and by a loss. Assumes nothing.
+-- WHAT THE HEADER CALLS CONST IS LEFT AS IT WAS, whatever is answered: the ring and the EV times by new data and by a path choice, the EV
+-- times by a send, and sizes, send times and resend counts by a NACK and by a loss. Assumes nothing.
 use mathlib.Core.Path.{_≡_, refl, sym, ap, _∙_}
 use mathlib.Core.Bool.{Bool, true, false, not}
 use mathlib.Core.List.{List}
@@ -55,7 +55,8 @@ module _ (w : World) (e : sound w ≡ true) (time psn ev : ℕ) (fits : psn < ps
   marked-fields =
       let l = ledgerOf w in
       let x = packetOf (l .flow) (l .slots) psn in
-      let is = mark-is l (sound-to-ledger w e) psn (mark-flies (sound-facts w e) m) x refl fits _ (l .totals .«in_flight» -ℤ pos (x .size)) refl refl in
+      let is = mark-is l (sound-to-ledger w e) psn (mark-flies (sound-facts w e) m) x refl fits _
+      (l .totals .«in_flight» -ℤ pos (x .size)) refl refl in
       record {
         size-same = sym (ap (λ (y : Ledger). y .slots .size) is);
         sent-same = sym (ap (λ (y : Ledger). y .slots .sent) is);
@@ -122,11 +123,13 @@ module _ (ws : List ℕ) (r : Ring) (t : List ℕ) (time : ℕ) where
 
   pub nack-const : (a : Nack) → a .psn < psns → Fields (onBesideWords ws r t (nackBeside time a) .slots) r
   unfolding onBesideWords
-  nack-const a fits = so-both (λ (x : Called). Fields (x .slots) r) (wordsOk ws) _ _ (λ _. nack-fields time given a fits) (λ _. fields-here r)
+  nack-const a fits = so-both (λ (x : Called). Fields (x .slots) r) (wordsOk ws) _ _ (λ _. nack-fields time given a fits)
+      (λ _. fields-here r)
 
   pub loss-const : (a : Loss) → a .psn < psns → Fields (onWords ws r t (onLoss time a) .slots) r
   unfolding onWords
-  loss-const a fits = so-both (λ (x : Called). Fields (x .slots) r) (wordsOk ws) _ _ (λ _. loss-fields time given a fits) (λ _. fields-here r)
+  loss-const a fits = so-both (λ (x : Called). Fields (x .slots) r) (wordsOk ws) _ _ (λ _. loss-fields time given a fits)
+      (λ _. fields-here r)
 
   pub path-const : let x = onBesideWords ws r t (pathBeside time) in (x .slots ≡ r) × (x .times ≡ t)
   unfolding onBesideWords

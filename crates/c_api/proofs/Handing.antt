@@ -1,5 +1,5 @@
--- What a replay over lent words hands back, from what its parts gave: 2 where what was lent is wrong (`lent-wrong`), else what the batch gave (`handed-back`).
--- And the place's words, and the test of what was lent.
+-- What a replay over lent words hands back, from what its parts gave: 2 where what was lent is wrong (`lent-wrong`), else what the batch
+-- gave (`handed-back`). And the place's words, and the test of what was lent.
 -- Assumes nothing.
 use mathlib.Core.Path.{_≡_, refl, ap, _∙_}
 use mathlib.Core.Bool.{true, false, _&&_}

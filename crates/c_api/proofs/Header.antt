@@ -1,5 +1,5 @@
--- THE THEOREM on `nscc_chunk`, include/nscc.h: "The answers of all calls are those of nscc_replay on the joined log." Both are the turns of one replay (chunks'
--- `log-begun` and `log-joined`), and between calls the words hold what the definitions hold. Assumes nothing.
+-- THE THEOREM on `nscc_chunk`, include/nscc.h: "The answers of all calls are those of nscc_replay on the joined log." Both are the turns of
+-- one replay (chunks' `log-begun` and `log-joined`), and between calls the words hold what the definitions hold. Assumes nothing.
 use mathlib.Core.Path.{_≡_, refl, sym, ap, _∙_}
 use mathlib.Core.Bool.{true}
 use mathlib.Core.List.{List}
@@ -24,7 +24,8 @@ use Rattle.replay_chunks.proofs.Tests.{chunk-yes}
 use Rattle.c_state.specs.Layout.{wordCount, bit}
 use Rattle.c_api.specs.Batch.{lentOk, wordsThen}
 use Rattle.c_api.specs.Parts.{partOk}
-use Rattle.c_api.specs.Statements.{Lent, chunkStart, chunkLog, chunkAll, chunkLast, ChunkFinished, Placed, replayStart, roomsLong, SameReplay, Enough, Sized, ChunkReplays, Takes, ChunkTaken}
+use Rattle.c_api.specs.Statements.{Lent, chunkStart, chunkLog, chunkAll, chunkLast, ChunkFinished, Placed, replayStart, roomsLong}
+use Rattle.c_api.specs.Statements.{SameReplay, Enough, Sized, ChunkReplays, Takes, ChunkTaken}
 use Rattle.c_api.proofs.ChunkCalls.{between, Sound, matches, Run, run}
 use Rattle.c_api.proofs.ReplayCalls.{Stands, replays}
 use Rattle.c_api.proofs.Stored.{threeWords}
@@ -98,7 +99,8 @@ module _ (piece ws : List ℕ) (r : Ring) (t : List ℕ) (sized : Sized piece ws
     same-turns rooms =
         ⊎-elim
         (λ e.
-        log-begun b cs start-kept refl refl .turns ∙ (ap (take (length ts)) same-all ∙ ap (λ (n : ℕ). take n all) (sym (e ∙ answered-long))))
+        log-begun b cs start-kept refl refl .turns ∙ (ap (take (length ts)) same-all
+        ∙ ap (λ (n : ℕ). take n all) (sym (e ∙ answered-long))))
         (λ q.
         let is : ts ≡ all = log-joined b cs start-kept refl refl (finished (q .0)) .turns ∙ same-all in
         is ∙ sym (take-all (roomsLong rooms) all (omega (arith, q .1, answered-long, ap length is))))

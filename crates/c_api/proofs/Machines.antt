@@ -1,5 +1,5 @@
--- THE STATES THAT A REPLAY COMES TO ARE ONES THAT THE MACHINE CAN HOLD: so each comes back from its words. Past an accepted record 1 number 2 never comes to apply, a
--- refused one leaves a state of zeros, and before it there is no state. Assumes nothing.
+-- THE STATES THAT A REPLAY COMES TO ARE ONES THAT THE MACHINE CAN HOLD: so each comes back from its words. Past an accepted record 1 number
+-- 2 never comes to apply, a refused one leaves a state of zeros, and before it there is no state. Assumes nothing.
 use mathlib.Core.Path.{_≡_, refl, sym, ap, _∙_}
 use mathlib.Core.Bool.{true, false}
 use mathlib.Core.List.{List}
@@ -61,10 +61,12 @@ zeros-machine =
       flown = record { low = omega arith; high = omega arith };
     }
 
-refused-zeros : (s : Settings) (r : Ring) (times : List ℕ) → (onSetUp s r times .number ≡ 0 → ⊥) → onSetUp s r times .after .state ≡ freshState noSettings
+refused-zeros : (s : Settings) (r : Ring) (times : List ℕ) → (onSetUp s r times .number ≡ 0 → ⊥)
+    → onSetUp s r times .after .state ≡ freshState noSettings
 unfolding onSetUp
 refused-zeros s r times =
-    eq-both (λ (a : Answered). (a .number ≡ 0 → ⊥) → a .after .state ≡ freshState noSettings) (firstOf (setUpRows s r times)) 0 _ _ (λ e h. absurd (h refl)) (λ e h. refl)
+    eq-both (λ (a : Answered). (a .number ≡ 0 → ⊥) → a .after .state ≡ freshState noSettings) (firstOf (setUpRows s r times)) 0 _ _
+    (λ e h. absurd (h refl)) (λ e h. refl)
 
 -- setting up is not refused with 12
 no-twelve : (s : Settings) (w : World) → onSetUp s (w .slots) (w .times) .number ≡ 12 → ⊥
@@ -73,7 +75,8 @@ no-twelve s w =
     eq-both (λ (a : Answered). a .number ≡ 12 → ⊥) _ 0 _ _
     (λ _ e. omega (arith, e))
     (λ _.
-    so-both (λ (n : ℕ). n ≡ 12 → ⊥) _ 1 _ (λ _ e. omega (arith, e)) (λ _. so-both (λ (n : ℕ). n ≡ 12 → ⊥) _ 2 0 (λ _ e. omega (arith, e)) (λ _ e. omega (arith, e))))
+    so-both (λ (n : ℕ). n ≡ 12 → ⊥) _ 1 _ (λ _ e. omega (arith, e))
+    (λ _. so-both (λ (n : ℕ). n ≡ 12 → ⊥) _ 2 0 (λ _ e. omega (arith, e)) (λ _ e. omega (arith, e))))
 
 set-up-machine : (s : Settings) (w : World) → Machine (onSetUp s (w .slots) (w .times) .after .state)
 set-up-machine s w =
@@ -120,7 +123,8 @@ module _ (f : Feed) where
         → let t = onEvent (p .done) e w in (placeAfter p next (t .number) (t .shown) .done ≡ 0 → ⊥) → Machine (t .after .state)
     unfolding onEvent soundAfter
     event-machine s e next =
-        eq-both (λ (t : Telling). (placeAfter p next (t .number) (t .shown) .done ≡ 0 → ⊥) → Machine (t .after .state)) (p .done) 0 (onFirst e w) (onLater e w)
+        eq-both (λ (t : Telling). (placeAfter p next (t .number) (t .shown) .done ≡ 0 → ⊥) → Machine (t .after .state)) (p .done) 0
+        (onFirst e w) (onLater e w)
         (λ z n. first-machine e w (λ is. n (sym (refused-done p next (onFirst e w .number) (onFirst e w .shown) is) ∙ z)))
         (λ some _. later-machine e w (rw (ne-eqb (p .done) 0 some) at (place-sound-after p w (going .0) s)))
 
@@ -133,7 +137,8 @@ module _ (f : Feed) where
           (λ s i. going .1),
     )
 
-  pub turns-going : (n : ℕ) (p : Place) (w : World) → Going p w → Going (lastPlace p (take n (turnsOf f p w))) (lastWorld w (take n (turnsOf f p w)))
+  pub turns-going : (n : ℕ) (p : Place) (w : World) → Going p w
+      → Going (lastPlace p (take n (turnsOf f p w))) (lastWorld w (take n (turnsOf f p w)))
   turns-going = along Going f turn-going
 
   -- the records done only grow
@@ -172,7 +177,9 @@ module _ (f : Feed) where
     turn-unchanged : (p : Place) (w : World) → Unchanged p w → Unchanged (turnOf f p w .place) (turnOf f p w .after)
     unfolding placeAfter ifEq
     turn-unchanged p w same =
-        turn-cases f p w (λ (t : Turning). Unchanged (t .place) (t .after)) same (λ e next s q. event-unchanged p w same e next) (λ s i. same)
+        turn-cases f p w (λ (t : Turning). Unchanged (t .place) (t .after)) same (λ e next s q. event-unchanged p w same e next)
+        (λ s i. same)
 
-  pub none-changed : (n : ℕ) (p : Place) (w : World) → lastPlace p (take n (turnsOf f p w)) .done ≡ 0 → lastWorld w (take n (turnsOf f p w)) ≡ w
+  pub none-changed : (n : ℕ) (p : Place) (w : World) → lastPlace p (take n (turnsOf f p w)) .done ≡ 0
+      → lastWorld w (take n (turnsOf f p w)) ≡ w
   none-changed n p w = along (Unchanged w) f (turn-unchanged w) n p w (λ _. refl)

@@ -1,5 +1,5 @@
--- What a chunk over lent words hands back, from what its parts gave: 2 where what was lent is wrong (`part-wrong`), else what the chunk gave (`part-back`).
--- And the words of what is carried, and the test of what was lent.
+-- What a chunk over lent words hands back, from what its parts gave: 2 where what was lent is wrong (`part-wrong`), else what the chunk
+-- gave (`part-back`). And the words of what is carried, and the test of what was lent.
 -- Assumes nothing.
 use mathlib.Core.Path.{_≡_, refl, ap, _∙_}
 use mathlib.Core.Bool.{Bool, true, false, _&&_}

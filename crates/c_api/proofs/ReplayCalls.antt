@@ -1,4 +1,5 @@
--- `nscc_replay` call after call, once for each of some rooms: the answers are those of as many turns as the rooms have words. Assumes nothing.
+-- `nscc_replay` call after call, once for each of some rooms: the answers are those of as many turns as the
+-- rooms have words. Assumes nothing.
 use mathlib.Core.Path.{_≡_, refl, sym, ap, subst, _∙_}
 use mathlib.Core.Bool.{true}
 use mathlib.Core.List.{List, [], _∷_, _++_}
@@ -17,7 +18,8 @@ use Rattle.replay_chunks.proofs.Calls.{words-first}
 use Rattle.replay_chunks.proofs.Joins.{words-append}
 use Rattle.c_state.specs.Layout.{unpacked}
 use Rattle.c_api.specs.Batch.{placeWords, placeFrom, lentOk, Replayed, replayCalled, placeThen, wordsThen, handed, onReplayWords}
-use Rattle.c_api.specs.Statements.{Placed, replayCall, replayLeft, toldBy, replayAnswers, replayAll, replayLast, roomsLong, sharedWords}
+use Rattle.c_api.specs.Statements.{Placed, replayCall, replayLeft, toldBy, replayAnswers, replayAll, replayLast, roomsLong}
+use Rattle.c_api.specs.Statements.{sharedWords}
 use Rattle.c_api.proofs.Handing.{lent-long}
 use Rattle.c_api.proofs.Machines.{Going, turns-going}
 use Rattle.c_api.proofs.Stored.{none-stored, then-long, back, twice, place-back, threeWords, place-ok}
@@ -30,7 +32,8 @@ turns-add f p w n k =
     let ts = take n all in
     let next = turnsOf f (lastPlace p ts) (lastWorld w ts) in
     let left : drop n all ≡ next
-    = sym (drop-append-seam ts (drop n all)) ∙ (ap (drop (length ts)) (take-append-drop n all ∙ turns-split n f p w) ∙ drop-append-seam ts next) in
+    = sym (drop-append-seam ts (drop n all)) ∙ (ap (drop (length ts)) (take-append-drop n all ∙ turns-split n f p w)
+    ∙ drop-append-seam ts next) in
     take-add n k all ∙ ap (λ (l : List Turning). ts ++ take k l) left
 
 -- what is lent stands for a place and a world
@@ -70,11 +73,13 @@ module _ (log : List ℕ) where
     gave-is =
         sym
         (so-yes (lentOk (a .place) (a .words)) gave
-        (handed (a .place) (a .words) (batchOf f (placeFrom (a .place)) (world (unpacked (a .words) .state) (a .slots) (a .times)) room)) _ (s .ok)
+        (handed (a .place) (a .words) (batchOf f (placeFrom (a .place)) (world (unpacked (a .words) .state) (a .slots) (a .times))
+        room)) _ (s .ok)
         (gave-filled
         ∙ ap (handed (a .place) (a .words))
         (so-yes (soundPlace p w) (fillRoomOf f p w room) (fillRoomOf f p w room) _ (s .going .0) refl
-        ∙ (ap (λ (y : Place). batchOf f y w room) (sym (s .place)) ∙ ap (λ (y : World). batchOf f (placeFrom (a .place)) y room) (sym (s .world-is))))))
+        ∙ (ap (λ (y : Place). batchOf f y w room) (sym (s .place))
+        ∙ ap (λ (y : World). batchOf f (placeFrom (a .place)) y room) (sym (s .world-is))))))
 
     gave-answers : replayAnswers gave ≡ wordsOf first
     unfolding toldBy ifEq
@@ -85,7 +90,8 @@ module _ (log : List ℕ) where
         let state : unpacked stored .state ≡ v .state
         = back f (length room) p w (s .going) (a .words) (ap (λ (y : World). y .state) (s .world-is)) in
         record {
-          ok = place-ok q (length first) stored (then-long q (length first) (v .state) (a .words) (lent-long (a .place) (a .words) (s .ok) .1));
+          ok = place-ok q (length first) stored (then-long q (length first) (v .state) (a .words)
+              (lent-long (a .place) (a .words) (s .ok) .1));
           place = place-back q (length first);
           world-is = ap (λ (d : Controller). world d (v .slots) (v .times)) state;
           going = turns-going f (length room) p w (s .going);
@@ -98,7 +104,8 @@ module _ (log : List ℕ) where
     pub stands : Stands (replayLast log a rooms) (lastPlace p ts) (lastWorld w ts)
 
   -- AS MANY TURNS AS THE ROOMS HAVE WORDS
-  pub replays : (a : Placed) (p : Place) (w : World) (rooms : List (List ℕ)) → Stands a p w → Replays a p w rooms (take (roomsLong rooms) (turnsOf f p w))
+  pub replays : (a : Placed) (p : Place) (w : World) (rooms : List (List ℕ)) → Stands a p w
+      → Replays a p w rooms (take (roomsLong rooms) (turnsOf f p w))
   unfolding wordsOf lastPlace lastWorld
   replays a p w [] s =
       record {
@@ -123,9 +130,11 @@ module _ (log : List ℕ) where
         words =
             ap (λ (y : Replayed). replayLast log (replayLeft y) rooms .words) is
             ∙ (later .words
-            ∙ (twice f (roomsLong rooms) q v (length ts) (a .words) ∙ rw (place-append p ts us, world-append w ts us, length-append ts us)));
+            ∙ (twice f (roomsLong rooms) q v (length ts) (a .words)
+            ∙ rw (place-append p ts us, world-append w ts us, length-append ts us)));
         stands =
             rw (place-append p ts us, world-append w ts us)
-            (subst (λ (y : Replayed). Stands (replayLast log (replayLeft y) rooms) (lastPlace q us) (lastWorld v us)) (sym is) (later .stands));
+            (subst (λ (y : Replayed). Stands (replayLast log (replayLeft y) rooms) (lastPlace q us) (lastWorld v us)) (sym is)
+            (later .stands));
       } in
       subst (Replays a p w (room ∷ rooms)) (sym (turns-add f p w (length room) (roomsLong rooms))) joined

@@ -1,4 +1,5 @@
--- A call is a batch of one event: its word is the event's number, with a path choice's EV, or the kind of an ACK's or a NACK's sample, above 32 bits.
+-- A call is a batch of one event: its word is the event's number, with a path choice's EV, or the kind of an ACK's
+-- or a NACK's sample, above 32 bits.
 -- Assumes nothing.
 use mathlib.Core.Path.{_≡_, refl, sym, ap, _∙_}
 use mathlib.Core.Bool.{Bool, true, false}
@@ -28,7 +29,8 @@ use Rattle.replay.specs.declared.Shown.the-variants.{State, Path}
 use Rattle.replay.specs.declared.records.Event.{Event}
 use Rattle.replay.specs.declared.records.Event.the-variants as event
 use Rattle.c_state.specs.Layout.{stateFrom, wordsOk}
-use Rattle.c_api.specs.Calls.{Called, called, wordsAfter, packedWord, Beside, pathBeside, kindIn, ackBeside, nackBeside, besideWord, onWords, onEventWords, onBesideWords}
+use Rattle.c_api.specs.Calls.{Called, called, wordsAfter, packedWord, Beside, pathBeside, kindIn, ackBeside, nackBeside, besideWord}
+use Rattle.c_api.specs.Calls.{onWords, onEventWords, onBesideWords}
 
 -- a number stands in the low 32 bits, another above them
 pub word-parts : (ev n : ℕ) → n ≤ 24 → ((2 ^ 32 * ev + n) % 2 ^ 32 ≡ n) × ((2 ^ 32 * ev + n) / 2 ^ 32 ≡ ev)
@@ -87,7 +89,8 @@ module _ (time : ℕ) (w : World) where
 
   pub send-single : (a : Send) → Single (event.Send time a) w (onSend time a w)
   unfolding onSend onLater
-  send-single a = single-by (event.Send time a) w (sendAllRows time a (w .state) (w .slots)) _ (send-all-numbered time a (w .state) (w .slots)) refl
+  send-single a = single-by (event.Send time a) w (sendAllRows time a (w .state) (w .slots)) _
+      (send-all-numbered time a (w .state) (w .slots)) refl
 
   pub loss-single : (a : Loss) → Single (event.Loss time a) w (onLoss time a w)
   unfolding onLoss onLater numbered inside
@@ -102,7 +105,8 @@ pub record Double (e : Event) (w : World) (x : Beside) : Type 0 where
 
 -- from its word where state and buffers hold together, and from 2 alone where they don't
 double-said : (e : Event) (w : World) (x : Beside) → worded (onLater e w) ≡ said (besideWord x) (x .after)
-    → (sound w ≡ false → record { number = 2; above = 0; after = w } ≡ x) → (s : Bool) → sound w ≡ s → onceOf e w ≡ said (besideWord x) (x .after)
+    → (sound w ≡ false → record { number = 2; above = 0; after = w } ≡ x) → (s : Bool) → sound w ≡ s
+    → onceOf e w ≡ said (besideWord x) (x .after)
 unfolding onceOf
 double-said e w x f g true h = sym (so-yes (sound w) (worded (onLater e w)) (worded (onLater e w)) (said 2 w) h refl) ∙ f
 double-said e w x f g false h =
@@ -143,7 +147,8 @@ path-double time w =
     record {
       is =
           double-said (event.Path time) w (pathBeside time w) (path-worded time w)
-          (λ h. ap (λ (a : Routing). record { number = a .number; above = a .ev; after = a .after }) (path-unsound time w h)) (sound w) refl;
+          (λ h. ap (λ (a : Routing). record { number = a .number; above = a .ev; after = a .after }) (path-unsound time w h)) (sound w)
+          refl;
       most = path-most time w;
     }
 
@@ -183,7 +188,8 @@ module _ (time : ℕ) (w : World) where
 
   pub nack-double : (a : Nack) → Double (event.Nack time a) w (nackBeside time a w)
   unfolding onNack onLater numbered inside
-  nack-double a = heard-double (event.Nack time a) w (nackAllRows time a (w .state) (w .slots)) (nackStep time a w) (nackSampling time a w) refl refl
+  nack-double a = heard-double (event.Nack time a) w (nackAllRows time a (w .state) (w .slots)) (nackStep time a w)
+      (nackSampling time a w) refl refl
 
 -- ---- over lent words
 
@@ -195,19 +201,23 @@ module _ (ws : List ℕ) (r : Ring) (t : List ℕ) where
       let x = on w in
       let low : x .number % 2 ^ 32 ≡ x .number = omega (arith, single w .most) in
       ap (λ (c : Called). ifSo (wordsOk ws) c (called 2 ws r t))
-      (ap (packedWord ws) (single w .is) ∙ ap (λ (n : ℕ). called (x .number) (wordsAfter n ws (x .after .state)) (x .after .slots) (x .after .times)) low)
+      (ap (packedWord ws) (single w .is) ∙ ap (λ (n : ℕ). called (x .number) (wordsAfter n ws (x .after .state)) (x .after .slots)
+      (x .after .times)) low)
 
-  pub word-most : (e : Event) (on : World → Answered) → ((w : World) → Single e w (on w)) → (c : Called) → c ≡ onEventWords e ws r t → c .number ≤ 24
+  pub word-most : (e : Event) (on : World → Answered) → ((w : World) → Single e w (on w)) → (c : Called) → c ≡ onEventWords e ws r t
+      → c .number ≤ 24
   unfolding onWords
   word-most e on single c q =
       rw (q ∙ words-on e on single)
       (so-both (λ (x : Called). x .number ≤ 24) (wordsOk ws) _ _ (λ _. single (world (stateFrom ws) r t) .most) (λ _. omega arith))
 
-  pub beside-words-on : (e : Event) (on : World → Beside) → ((w : World) → Double e w (on w)) → onEventWords e ws r t ≡ onBesideWords ws r t on
+  pub beside-words-on : (e : Event) (on : World → Beside) → ((w : World) → Double e w (on w))
+      → onEventWords e ws r t ≡ onBesideWords ws r t on
   unfolding onEventWords onBesideWords
   beside-words-on e on double =
       let w = world (stateFrom ws) r t in
       let a = on w in
       ap (λ (c : Called). ifSo (wordsOk ws) c (called 2 ws r t))
       (ap (packedWord ws) (double w .is)
-      ∙ ap (λ (n : ℕ). called (besideWord a) (wordsAfter n ws (a .after .state)) (a .after .slots) (a .after .times)) (word-parts (a .above) (a .number) (double w .most) .0))
+      ∙ ap (λ (n : ℕ). called (besideWord a) (wordsAfter n ws (a .after .state)) (a .after .slots) (a .after .times))
+      (word-parts (a .above) (a .number) (double w .most) .0))

@@ -1,5 +1,5 @@
--- THE WORDS BETWEEN CALLS of a replay: what is stored of the state after some turns is read back as the state after them (`back`), what two calls store one after
--- the other is what one call would store (`twice`), and a place comes back from its words. Assumes nothing.
+-- THE WORDS BETWEEN CALLS of a replay: what is stored of the state after some turns is read back as the state after them (`back`), what two
+-- calls store one after the other is what one call would store (`twice`), and a place comes back from its words. Assumes nothing.
 use mathlib.Core.Path.{_≡_, refl, sym, ap, _∙_}
 use mathlib.Core.Bool.{Bool, true, false, not, _&&_}
 use mathlib.Core.List.{List, [], _∷_}
@@ -46,7 +46,8 @@ module _ (p : Place) (count : ℕ) (c : Controller) (ws : List ℕ) where
 
   pub then-long : length ws ≡ wordCount → length (wordsThen 0 p count c ws) ≡ wordCount
   unfolding wordsThen ifEq
-  then-long h = so-both (λ (l : List ℕ). length l ≡ wordCount) (not (eqb count 0) && not (eqb (p .done) 0)) (stateWords c) ws (λ _. long c) (λ _. h)
+  then-long h = so-both (λ (l : List ℕ). length l ≡ wordCount) (not (eqb count 0) && not (eqb (p .done) 0)) (stateWords c) ws
+      (λ _. long c) (λ _. h)
 
 -- a state that the machine can hold is read back
 read-back : (c : Controller) → Machine c → unpacked (stateWords c) .state ≡ c
@@ -66,7 +67,8 @@ module _ (f : Feed) (n : ℕ) (p : Place) (w : World) where
   abbrev then : World
   then = lastWorld w ts
 
-  pub back : Going p w → (ws : List ℕ) → unpacked ws .state ≡ w .state → unpacked (wordsThen 0 there (length ts) (then .state) ws) .state ≡ then .state
+  pub back : Going p w → (ws : List ℕ) → unpacked ws .state ≡ w .state
+      → unpacked (wordsThen 0 there (length ts) (then .state) ws) .state ≡ then .state
   unfolding lastWorld
   back going ws e =
       by-cases (ℕ-discrete (length ts) 0)
@@ -79,7 +81,8 @@ module _ (f : Feed) (n : ℕ) (p : Place) (w : World) where
       (λ done. rw (stored there (length ts) (then .state) ws some done) (read-back (then .state) (turns-going f n p w going .1 done))))
 
   pub twice : (count : ℕ) (ws : List ℕ)
-      → wordsThen 0 there (length ts) (then .state) (wordsThen 0 p count (w .state) ws) ≡ wordsThen 0 there (count + length ts) (then .state) ws
+      → wordsThen 0 there (length ts) (then .state) (wordsThen 0 p count (w .state) ws)
+      ≡ wordsThen 0 there (count + length ts) (then .state) ws
   unfolding lastPlace lastWorld
   twice count ws =
       let once = wordsThen 0 p count (w .state) ws in
@@ -89,7 +92,8 @@ module _ (f : Feed) (n : ℕ) (p : Place) (w : World) where
       let same : count + length ts ≡ count = omega arith in
       none-stored there (length ts) (then .state) once z
       ∙ sym
-      (ap (λ (k : ℕ). wordsThen 0 there k (then .state) ws) same ∙ ap (λ (l : List Turning). wordsThen 0 (lastPlace p l) count (lastWorld w l .state) ws) none))
+      (ap (λ (k : ℕ). wordsThen 0 there k (then .state) ws) same
+      ∙ ap (λ (l : List Turning). wordsThen 0 (lastPlace p l) count (lastWorld w l .state) ws) none))
       (λ some.
       by-cases (ℕ-discrete (there .done) 0)
       (λ z.
@@ -117,7 +121,8 @@ place-back p count = ap (λ (b : Bool). record { at = p .at; done = p .done; sto
 
 pub carry-back : (h : Carry) (count taken : ℕ) → carryFrom (partWords h count taken) ≡ h
 carry-back h count taken =
-    ap (λ (b : Bool). record { length = h .length; place = record { at = h .place .at; done = h .place .done; stopped = b } }) (flag-bit (h .place .stopped))
+    ap (λ (b : Bool). record { length = h .length; place = record { at = h .place .at; done = h .place .done; stopped = b } })
+    (flag-bit (h .place .stopped))
 
 -- the words of a place, which both have first
 abbrev pub threeWords : Place → List ℕ

@@ -1,5 +1,5 @@
--- "Prove that no two outcomes satisfy one promise": of each call from C. An outcome is the number or the word that is answered, with the final contents of everything that is
--- lent; the contracts name each part as it is, and the law is named for the call. Assumes nothing.
+-- "Prove that no two outcomes satisfy one promise": of each call from C. An outcome is the number or the word that is answered, with the
+-- final contents of everything that is lent; the contracts name each part as it is, and the law is named for the call. Assumes nothing.
 use mathlib.Core.Path.{refl}
 use mathlib.Core.Bool.{Bool}
 use mathlib.Core.List.{List}
@@ -7,7 +7,8 @@ use Prim.Native.Nat.{ℕ}
 use Rattle.ledger.specs.Ring.{Ring}
 use Rattle.sender.specs.Events.{onNewData, onSend, onLoss}
 use Rattle.rules.specs.Unique.{OneOutcome, one-outcome}
-use Rattle.c_api.specs.Calls.{sendBy, ackBy, nackBy, lossBy, Called, called, onWords, pathBeside, ackBeside, nackBeside, onBesideWords, onSetUpWords}
+use Rattle.c_api.specs.Calls.{sendBy, ackBy, nackBy, lossBy, Called, called, onWords, pathBeside, ackBeside, nackBeside}
+use Rattle.c_api.specs.Calls.{onBesideWords, onSetUpWords}
 use Rattle.c_api.specs.Batch.{Replayed, replayCalled, onReplayWords}
 use Rattle.c_api.specs.Parts.{Chunked, chunkCalled, onChunkWords}
 
@@ -44,7 +45,8 @@ module _ (ws : List ℕ) (r : Ring) (t : List ℕ) where
       → OneOutcome made (onBesideWords ws r t (ackBeside time (ackBy cum map trigger count service ev marked retx)))
   ack-unique time cum map trigger count service ev marked retx = call-unique _
 
-  pub nack-unique : (time psn ev reason : ℕ) (marked retx : Bool) → OneOutcome made (onBesideWords ws r t (nackBeside time (nackBy psn ev reason marked retx)))
+  pub nack-unique : (time psn ev reason : ℕ) (marked retx : Bool)
+      → OneOutcome made (onBesideWords ws r t (nackBeside time (nackBy psn ev reason marked retx)))
   nack-unique time psn ev reason marked retx = call-unique _
 
   pub loss-unique : (time psn ev : ℕ) → OneOutcome made (onWords ws r t (onLoss time (lossBy psn ev)))
@@ -67,7 +69,14 @@ abbrev pub madeReplay : ReplayOutcome → Replayed
 madeReplay x = replayCalled (x .number) (x .place) (x .state) (x .slots) (x .evs) (x .answers)
 
 abbrev backReplay : Replayed → ReplayOutcome
-backReplay c = record { number = c .number; place = c .place; state = c .words; slots = c .slots; evs = c .times; answers = c .answers }
+backReplay c = record {
+  number = c .number;
+  place = c .place;
+  state = c .words;
+  slots = c .slots;
+  evs = c .times;
+  answers = c .answers;
+}
 
 pub replay-unique : (log place ws : List ℕ) (r : Ring) (t answers : List ℕ) → OneOutcome madeReplay (onReplayWords log place ws r t answers)
 replay-unique log place ws r t answers = one-outcome madeReplay backReplay (λ x. refl) _
@@ -86,7 +95,15 @@ madeChunk x = chunkCalled (x .number) (x .part) (x .piece) (x .state) (x .slots)
 
 abbrev backChunk : Chunked → ChunkOutcome
 backChunk c =
-    record { number = c .number; part = c .part; piece = c .piece; state = c .words; slots = c .slots; evs = c .times; answers = c .answers }
+    record {
+      number = c .number;
+      part = c .part;
+      piece = c .piece;
+      state = c .words;
+      slots = c .slots;
+      evs = c .times;
+      answers = c .answers;
+    }
 
 pub chunk-unique : (chunk : List ℕ) (ended : Bool) (part piece ws : List ℕ) (r : Ring) (t answers : List ℕ)
     → OneOutcome madeChunk (onChunkWords chunk ended part piece ws r t answers)

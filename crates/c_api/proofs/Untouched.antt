@@ -1,6 +1,7 @@
--- A REFUSED CALL LEAVES EVERYTHING THAT IT WAS LENT AS IT WAS: the state's words, the ring, the EV times; for any event that does so to its state
--- (`refused-words`), so for each of the sender's, for a path choice and for setting up; for a replay its place and its answers too (`replay-untouched`).
--- A replay refuses words that are no state's where it looks at them (`replay-no-state`). And a word of two numbers tells both (`path-word`, `ack-word`, `nack-word`).
+-- A REFUSED CALL LEAVES EVERYTHING THAT IT WAS LENT AS IT WAS: the state's words, the ring, the EV times; for any event that does so to its
+-- state (`refused-words`), so for each of the sender's, for a path choice and for setting up; for a replay its place and its answers too
+-- (`replay-untouched`). A replay refuses words that are no state's where it looks at them (`replay-no-state`). And a word of two numbers
+-- tells both (`path-word`, `ack-word`, `nack-word`).
 -- Assumes nothing.
 use mathlib.Core.Path.{_≡_, refl, sym, ap, _∙_}
 use mathlib.Core.Bool.{Bool, true, false, _&&_}
@@ -28,7 +29,8 @@ use Rattle.replay.specs.Batches.{Batching, fillRoomOf, batchOf}
 use Rattle.replay_chunks.specs.Chunks.{Chunking, soundChunk, takes, chunkOf}
 use Rattle.c_state.specs.Layout.{word, flag, settingsFrom, stateFrom, wordsOk, unpacked}
 use Rattle.c_state.specs.declared.Unpacked.{Unpacked}
-use Rattle.c_api.specs.Calls.{Called, called, wordsAfter, Beside, pathBeside, ackBeside, nackBeside, besideWord, onWords, onBesideWords, onSetUpWords}
+use Rattle.c_api.specs.Calls.{Called, called, wordsAfter, Beside, pathBeside, ackBeside, nackBeside, besideWord, onWords}
+use Rattle.c_api.specs.Calls.{onBesideWords, onSetUpWords}
 use Rattle.c_api.proofs.Singles.{word-parts, path-double, ack-double, nack-double}
 use Rattle.c_api.specs.Parts.{carryFrom, partOk, Chunked, chunkCalled, partThen, handedPart, onChunkWords}
 use Rattle.c_api.specs.Batch.{placeFrom, lentOk, Replayed, replayCalled, placeThen, wordsThen, handed, onReplayWords}
@@ -154,7 +156,8 @@ module _ (log place ws : List ℕ) (r : Ring) (t answers : List ℕ) where
 
   -- beside a refused batch nothing is stored
   batch-spared :
-      (b : Batching) → SparedReplay (replayCalled (b .number) place ws (b .after .slots) (b .after .times) (b .room)) → SparedReplay (handed place ws b)
+      (b : Batching) → SparedReplay (replayCalled (b .number) place ws (b .after .slots) (b .after .times) (b .room))
+      → SparedReplay (handed place ws b)
   unfolding handed placeThen wordsThen ifEq
   batch-spared b f h = rw (ne-eqb (b .number) 0 h) (f h)
 
@@ -166,7 +169,8 @@ module _ (log place ws : List ℕ) (r : Ring) (t answers : List ℕ) where
       so-both SparedReplay (lentOk place ws) _ _
       (λ _.
       batch-spared (batchOf (logged log) p w answers)
-      (so-both (λ (b : Batching). SparedReplay (replayCalled (b .number) place ws (b .after .slots) (b .after .times) (b .room))) (soundPlace p w) _ _
+      (so-both (λ (b : Batching). SparedReplay (replayCalled (b .number) place ws (b .after .slots) (b .after .times) (b .room)))
+      (soundPlace p w) _ _
       (λ _ h. absurd (h refl))
       (λ _ _. refl)))
       (λ _ _. refl)
@@ -181,7 +185,8 @@ module _ (log place ws : List ℕ) (r : Ring) (t answers : List ℕ) where
       let w = world (unpacked ws .state) r t in
       let zeros : unpacked ws .state ≡ freshState noSettings = ap (λ (u : Unpacked). u .state) (sym (so-no (wordsOk ws) _ _ _ bad refl)) in
       let unsound : sound w ≡ false = ap (λ (c : Controller). sound (world c r t)) zeros ∙ zeros-unsound r t in
-      let broken : soundPlace p w ≡ false = rw (going, ne-eqb (word place 1) 0 done, unsound) (and-no (leb (word place 1) (word place 0))) in
+      let broken : soundPlace p w ≡ false = rw (going, ne-eqb (word place 1) 0 done, unsound)
+      (and-no (leb (word place 1) (word place 0))) in
       so-both (λ (x : Replayed). x ≡ replayCalled 2 place ws r t answers) (lentOk place ws) _ _
       (λ _. sym (ap (handed place ws) (so-no (soundPlace p w) _ _ _ broken refl)))
       (λ _. refl)
@@ -195,7 +200,8 @@ module _ (chunk : List ℕ) (ended : Bool) (part piece ws : List ℕ) (r : Ring)
 
   -- beside a refused chunk nothing is stored
   chunk-spared :
-      (b : Chunking) → SparedChunk (chunkCalled (b .number) part (b .piece) ws (b .after .slots) (b .after .times) (b .room)) → SparedChunk (handedPart part ws b)
+      (b : Chunking) → SparedChunk (chunkCalled (b .number) part (b .piece) ws (b .after .slots) (b .after .times) (b .room))
+      → SparedChunk (handedPart part ws b)
   unfolding handedPart partThen wordsThen ifEq
   chunk-spared b f h = rw (ne-eqb (b .number) 0 h) (f h)
 
@@ -204,11 +210,13 @@ module _ (chunk : List ℕ) (ended : Bool) (part piece ws : List ℕ) (r : Ring)
   chunk-untouched =
       let h = carryFrom part in
       let w = world (unpacked ws .state) r t in
-      let P : Chunking → Type 0 = λ b. SparedChunk (chunkCalled (b .number) part (b .piece) ws (b .after .slots) (b .after .times) (b .room)) in
+      let P : Chunking → Type 0 = λ b. SparedChunk (chunkCalled (b .number) part (b .piece) ws (b .after .slots) (b .after .times)
+      (b .room)) in
       so-both SparedChunk (partOk part ws) _ _
       (λ _.
       chunk-spared (chunkOf h w piece chunk ended answers)
       (so-both P (soundChunk h w piece) _ _
-      (λ _. so-both P (h .place .stopped) _ _ (λ _ n. absurd (n refl)) (λ _. lt-both P offsetMost _ _ _ (λ _ _. refl) (λ _ n. absurd (n refl))))
+      (λ _. so-both P (h .place .stopped) _ _ (λ _ n. absurd (n refl))
+      (λ _. lt-both P offsetMost _ _ _ (λ _ _. refl) (λ _ n. absurd (n refl))))
       (λ _ _. refl)))
       (λ _ _. refl)

@@ -9,6 +9,7 @@ use lib.ListN.{length}
 use Rattle.rules.specs.Branch.{ifSo, ifEq}
 use Rattle.window.specs.Range.{inRange}
 use Rattle.window.specs.declared.Sampling.{Sampling}
+use Rattle.ledger.specs.Lent.{LentSlice, ringAfter}
 use Rattle.ledger.specs.Ring.{Ring}
 use Rattle.sender.specs.World.{World, world, Answered}
 use Rattle.sender.specs.Start.{onSetUp}
@@ -28,7 +29,16 @@ sendBy psn size resend = record { psn = psn; size = size; resend = resend }
 
 abbrev pub ackBy : ℕ → ℕ → ℕ → ℕ → ℕ → ℕ → Bool → Bool → Ack
 ackBy cum map trigger count service ev marked retx =
-    record { cum = cum; map = map; trigger = trigger; count = count; service = service; ev = ev; marked = marked; retx = retx }
+    record {
+      cum = cum;
+      map = map;
+      trigger = trigger;
+      count = count;
+      service = service;
+      ev = ev;
+      marked = marked;
+      retx = retx;
+    }
 
 abbrev pub nackBy : ℕ → ℕ → ℕ → Bool → Bool → Nack
 nackBy psn ev reason marked retx = record { psn = psn; ev = ev; reason = reason; marked = marked; retx = retx }
@@ -45,6 +55,10 @@ pub record Called : Type 0 where
 
 abbrev pub called : ℕ → List ℕ → Ring → List ℕ → Called
 called n ws r t = record { number = n; words = ws; slots = r; times = t }
+
+-- the same as a call leaves what it was lent
+abbrev pub calledAfter : ℕ → LentSlice → LentSlice → LentSlice → LentSlice → LentSlice → LentSlice → Called
+calledAfter n state status size sent resent evs = called n (state .exit .now) (ringAfter status size sent resent) (evs .exit .now)
 
 -- the words once an event was answered: those of the state where it was accepted, else as they were
 unfoldable pub wordsAfter : ℕ → List ℕ → Controller → List ℕ

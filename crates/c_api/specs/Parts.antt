@@ -16,8 +16,9 @@ use Rattle.c_api.specs.Batch.{placeFrom, wordsThen}
 abbrev pub partCount : ℕ
 partCount = 6
 
--- "the piece and its length, the records done, the offset, whether it has stopped": the offset of the next record, the records done, whether replay has stopped, the
--- piece's length; and how many answers the last call gave, and how many bytes of its chunk it took. The piece has a room of its own
+-- "the piece and its length, the records done, the offset, whether it has stopped": the offset of the next record, the records
+-- done, whether replay has stopped, the piece's length; and how many answers the last call gave, and how many bytes of its chunk it
+-- took. The piece has a room of its own
 abbrev pub partWords : Carry → ℕ → ℕ → List ℕ
 partWords h count taken = h .place .at ∷ h .place .done ∷ bit (h .place .stopped) ∷ h .length ∷ count ∷ taken ∷ []
 
@@ -39,7 +40,15 @@ pub record Chunked : Type 0 where
   pub answers : List ℕ
 
 abbrev pub chunkCalled : ℕ → List ℕ → List ℕ → List ℕ → Ring → List ℕ → List ℕ → Chunked
-chunkCalled n p piece ws r t room = record { number = n; part = p; piece = piece; words = ws; slots = r; times = t; answers = room }
+chunkCalled n p piece ws r t room = record {
+  number = n;
+  part = p;
+  piece = piece;
+  words = ws;
+  slots = r;
+  times = t;
+  answers = room;
+}
 
 -- the words of what is carried once a chunk was answered: where it was refused, as they were
 unfoldable pub partThen : ℕ → Carry → ℕ → ℕ → List ℕ → List ℕ

@@ -1,6 +1,7 @@
-// The library for C: every event over lent words. Slices only: the state's 40 words (`c_state`), the ring's four slices, the EV times, a log's bytes.
-// A call is a replay's batch of one event (`replay::once`), so that the archive has the rules once, in the replay's loop.
-// No function has a `requires`; what no proof can see, that pointers and lengths are true and that nothing overlaps, is said in include/nscc.h.
+// The library for C: every event over lent words. Slices only: the state's 40 words (`c_state`), the ring's four slices, the EV
+// times, a log's bytes. A call is a replay's batch of one event (`replay::once`), so that the archive has the rules once, in
+// the replay's loop. No function has a `requires`; what no proof can see, that pointers and lengths are true and that nothing
+// overlaps, is said in include/nscc.h.
 
 pub mod batch;
 pub mod parts;
@@ -17,11 +18,12 @@ use sender::Nack;
 use sender::Send;
 ghost use mathlib.Core.Path.{_≡_};
 ghost use lib.ListN.{length};
-ghost use Rattle.ledger.specs.Lent.{ringBefore, ringAfter};
+ghost use Rattle.ledger.specs.Lent.{ringBefore};
 ghost use Rattle.ledger.specs.Ring.{ring};
 ghost use Rattle.sender.specs.Events.{onNewData, onSend, onLoss};
 ghost use Rattle.c_state.specs.Layout.{wordCount};
-ghost use Rattle.c_api.specs.Calls.{called, wordsAfter, onEventWords, onWords, ackBeside, nackBeside, pathBeside, onBesideWords, onSetUpWords, sendBy, ackBy, nackBy, lossBy};
+ghost use Rattle.c_api.specs.Calls.{calledAfter, wordsAfter, onEventWords, onWords, ackBeside, nackBeside, pathBeside, onBesideWords};
+ghost use Rattle.c_api.specs.Calls.{onSetUpWords, sendBy, ackBy, nackBy, lossBy};
 
 // Stores the state's words where the event was accepted.
 fn keep(state: &mut [u64], number: u64, after: Controller)
@@ -43,7 +45,7 @@ fn take<'a, 'b, 'c, 'd, 'e, 'f>(
     resent: &'e mut [u8],
     evs: &'f mut [u64],
 ) -> u64
-    ensures { λ r. ⌜ called r (now (state .exit)) (ringAfter status size sent resent) (now (evs .exit))
+    ensures { λ r. ⌜ calledAfter r state status size sent resent evs
         ≡ onEventWords event (now (state .entry)) (ringBefore status size sent resent) (now (evs .entry)) ⌝ }
 {
     let given = c_state::unpack(state);
@@ -72,7 +74,7 @@ pub extern "C" fn nscc_set_up(
     resent: &mut [u8],
     evs: &mut [u64],
 ) -> u32
-    ensures { λ r. ⌜ called r (now (state .exit)) (ringAfter status size sent resent) (now (evs .exit))
+    ensures { λ r. ⌜ calledAfter r state status size sent resent evs
         ≡ onSetUpWords (now (settings .entry)) «first_psn» «quick_adapt_off» «ev_count» (now (state .entry))
         (ringBefore status size sent resent) (now (evs .entry)) ⌝ }
 {
@@ -106,7 +108,7 @@ pub extern "C" fn nscc_new_data(
     time: u64,
     bytes: u64,
 ) -> u32
-    ensures { λ r. ⌜ called r (now (state .exit)) (ringAfter status size sent resent) (now (evs .exit))
+    ensures { λ r. ⌜ calledAfter r state status size sent resent evs
         ≡ onWords (now (state .entry)) (ringBefore status size sent resent) (now (evs .entry)) (onNewData time bytes) ⌝ }
 {
     take(
@@ -134,7 +136,7 @@ pub extern "C" fn nscc_send(
     bytes: u32,
     resend: bool,
 ) -> u32
-    ensures { λ r. ⌜ called r (now (state .exit)) (ringAfter status size sent resent) (now (evs .exit))
+    ensures { λ r. ⌜ calledAfter r state status size sent resent evs
         ≡ onWords (now (state .entry)) (ringBefore status size sent resent) (now (evs .entry)) (onSend time (sendBy psn bytes resend)) ⌝ }
 {
     let a = Send {
@@ -164,7 +166,7 @@ pub extern "C" fn nscc_ack(
     marked: bool,
     retx: bool,
 ) -> u64
-    ensures { λ r. ⌜ called r (now (state .exit)) (ringAfter status size sent resent) (now (evs .exit))
+    ensures { λ r. ⌜ calledAfter r state status size sent resent evs
         ≡ onBesideWords (now (state .entry)) (ringBefore status size sent resent) (now (evs .entry))
         (ackBeside time (ackBy cum map trigger count service ev marked retx)) ⌝ }
 {
@@ -197,7 +199,7 @@ pub extern "C" fn nscc_nack(
     marked: bool,
     retx: bool,
 ) -> u64
-    ensures { λ r. ⌜ called r (now (state .exit)) (ringAfter status size sent resent) (now (evs .exit))
+    ensures { λ r. ⌜ calledAfter r state status size sent resent evs
         ≡ onBesideWords (now (state .entry)) (ringBefore status size sent resent) (now (evs .entry))
         (nackBeside time (nackBy psn ev reason marked retx)) ⌝ }
 {
@@ -224,7 +226,7 @@ pub extern "C" fn nscc_loss(
     psn: u32,
     ev: u32,
 ) -> u32
-    ensures { λ r. ⌜ called r (now (state .exit)) (ringAfter status size sent resent) (now (evs .exit))
+    ensures { λ r. ⌜ calledAfter r state status size sent resent evs
         ≡ onWords (now (state .entry)) (ringBefore status size sent resent) (now (evs .entry)) (onLoss time (lossBy psn ev)) ⌝ }
 {
     take(
@@ -249,7 +251,7 @@ pub extern "C" fn nscc_path(
     evs: &mut [u64],
     time: u64,
 ) -> u64
-    ensures { λ r. ⌜ called r (now (state .exit)) (ringAfter status size sent resent) (now (evs .exit))
+    ensures { λ r. ⌜ calledAfter r state status size sent resent evs
         ≡ onBesideWords (now (state .entry)) (ringBefore status size sent resent) (now (evs .entry)) (pathBeside time) ⌝ }
 {
     take(Event::Path(time), state, status, size, sent, resent, evs)

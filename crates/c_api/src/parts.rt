@@ -13,8 +13,8 @@ ghost use Rattle.ledger.specs.Lent.{ringBefore, ringAfter};
 ghost use Rattle.c_api.specs.Batch.{wordsThen};
 ghost use Rattle.c_api.specs.Parts.{partCount, partWords, carryFrom, partOk, partThen, chunkCalled, onChunkWords};
 
-// What is carried between chunks: the offset of the next record, the records done, whether replay has stopped, the piece's length, how many answers the last call gave,
-// and how many bytes of its chunk it took.
+// What is carried between chunks: the offset of the next record, the records done, whether replay has stopped, the piece's length, how many
+// answers the last call gave, and how many bytes of its chunk it took.
 pub const PART_WORDS: usize = 6;
 
 // The flag that a replay has stopped is 0 or 1.
@@ -88,7 +88,8 @@ fn keep_took<'a, 'b>(part: &'a mut [u64], state: &'b mut [u64], took: Took) -> u
     number
 }
 
-// Replays a chunk of a log behind those before it, until the answers' room is full, no record is whole or replay stops. `ended`: the log ends with the chunk.
+// Replays a chunk of a log behind those before it, until the answers' room is full, no record is whole or replay stops.
+// `ended`: the log ends with the chunk.
 #[no_mangle]
 pub extern "C" fn nscc_chunk(
     part: &mut [u64],

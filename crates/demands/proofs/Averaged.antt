@@ -1,5 +1,5 @@
--- `average-fed`: the delay average after an accepted event is as document 01 says, in the words of specs/Samples. The window's filter and feed are the same
--- numbers (`feeds-same`); which of them a step takes is told by the sample and the reason, by the laws of `Steady`.
+-- `average-fed`: the delay average after an accepted event is as document 01 says, in the words of specs/Samples. The window's filter and
+-- feed are the same numbers (`feeds-same`); which of them a step takes is told by the sample and the reason, by the laws of `Steady`.
 -- Assumes nothing.
 use mathlib.Core.Path.{_≡_, refl, sym, ap, _∙_}
 use mathlib.Core.Logic.{_⊎_, ⊎-elim}
@@ -16,7 +16,8 @@ use Rattle.window.specs.declared.Window.{Window}
 use Rattle.window.specs.declared.Sample.{Sample}
 use Rattle.window.specs.declared.Sample.the-variants.{Ticks, Absent}
 use Rattle.sender.specs.World.{World}
-use Rattle.sender.specs.Steps.{stateOf, settled, newDataState, newDataStep, sendStep, ackSample, ackStep, nackSample, nackStep, lossStep, pathState, pathStep}
+use Rattle.sender.specs.Steps.{stateOf, settled, newDataState, newDataStep, sendStep, ackSample, ackStep, nackSample, nackStep, lossStep}
+use Rattle.sender.specs.Steps.{pathState, pathStep}
 use Rattle.sender.specs.declared.Ack.{Ack}
 use Rattle.sender.specs.declared.Nack.{Nack}
 use Rattle.demands.specs.Events.{Event, newData, send, ack, nack, loss, path, stepOf}
@@ -75,7 +76,8 @@ module _ (time : ℕ) (a : Nack) (w : World) where
 
   nack-average : average ≡ ifSo (isTrimmed (a .reason)) (feedTrimmedOf (w .state .settings) lowered) lowered .avg
   unfolding nackStep settled stateOf
-  nack-average = ap (λ (d : Delays). d .avg) (nack-delays (w .state .settings) time _ (a .reason) (nackSample time a w) _ (w .state .window))
+  nack-average = ap (λ (d : Delays). d .avg) (nack-delays (w .state .settings) time _ (a .reason) (nackSample time a w) _
+      (w .state .window))
 
   lowered-same : lowered .avg ≡ w .state .window .avg
   lowered-same = update-base-rtt-average (w .state .settings) (nackSample time a w) (w .state .window)

@@ -1,11 +1,13 @@
--- `burst`: the ledger after a burst is the one that the newest alone leaves. Over a burst, in-flight less 256 bytes for each unit that the held count
--- lies behind the newest's stays the same, so the newest is never refused and its count is held in the end; and the packets that are out at the start
--- are covered by an accepted member exactly where the newest covers them. Both lists, the burst and the newest alone, then settle one ledger alike.
+-- `burst`: the ledger after a burst is the one that the newest alone leaves. Over a burst, in-flight less 256 bytes for each unit that
+-- the held count lies behind the newest's stays the same, so the newest is never refused and its count is held in the end; and the
+-- packets that are out at the start are covered by an accepted member exactly where the newest covers them. Both lists, the burst and
+-- the newest alone, then settle one ledger alike.
 -- Assumes nothing.
 use mathlib.Core.Path.{_≡_, refl, sym, ap, ap₂, _∙_}
 use mathlib.Core.Logic.{inl, ⊎-elim, by-cases}
 use mathlib.Core.Bool.{Bool, true, false, _&&_, _||_, or-true, false≢true}
-use mathlib.Core.List.{List, [], _∷_, List·Memᴰ, List·Memᴰ·head, List·Memᴰ·tail, List·Memᴰ·not-nil, List·Memᴰ·cases-cons, List·Memᴰ·eq-of-singleton}
+use mathlib.Core.List.{List, [], _∷_, List·Memᴰ, List·Memᴰ·head, List·Memᴰ·tail, List·Memᴰ·not-nil, List·Memᴰ·cases-cons}
+use mathlib.Core.List.{List·Memᴰ·eq-of-singleton}
 use Prim.Native.Nat.{ℕ, suc, _+_, _-_, _*_, _^_, _≤_, _<_}
 use native.Mathlib.Omega.{arith}
 use native.Mathlib.Decide.{decLe}
@@ -38,7 +40,8 @@ use Rattle.demands.specs.Burst.{Arrival, deliver, Timely, Newest, Of, Ar
 use Rattle.demands.specs.Demands.{Burst}
 use Rattle.demands.proofs.Runs.{accepted, step-ledger, step-clock, step-settings}
 use Rattle.demands.proofs.Sounded.{ledger-facts, step-sound}
-use Rattle.demands.proofs.Ledgers.{cover-agree, settledBy, settled-same, ack-cases, badFields, fields-count, Fine, accepted-fine, fine-rows, fine-accepted, heldIn, inFlightIn, deliver-settles}
+use Rattle.demands.proofs.Ledgers.{cover-agree, settledBy, settled-same, ack-cases, badFields, fields-count, Fine, accepted-fine}
+use Rattle.demands.proofs.Ledgers.{fine-rows, fine-accepted, heldIn, inFlightIn, deliver-settles}
 
 -- ---- signed in-flight
 
@@ -184,7 +187,8 @@ module _ (n : Ack) (evs next : ℕ) (rest : ℤ) (fields : badFields evs n ≡ f
       (λ k z. record { good = g; nearer = omega arith; clocked = h })
 
   -- the newest is never refused
-  newest-fine : (w : World) (t : ℕ) → Good n evs next rest w → w .state .clock ≤ t → t < timeEnd → Fine t n (w .state .settings .«ev_count») (w .state .clock) (ledgerOf w)
+  newest-fine : (w : World) (t : ℕ) → Good n evs next rest w → w .state .clock ≤ t → t < timeEnd
+      → Fine t n (w .state .settings .«ev_count») (w .state .clock) (ledgerOf w)
   unfolding sinks
   newest-fine w t g h k =
       record {
@@ -192,7 +196,8 @@ module _ (n : Ack) (evs next : ℕ) (rest : ℤ) (fields : badFields evs n ≡ f
         early = k;
         fields = rw (g .evs-is) fields;
         sent = rw (g .next-is) sent;
-        afloat = no-sink (n .count) (heldIn w) (n .count) (g .near) (omega (arith, lag-self (n .count))) (inFlightIn w) (rw (g .left) afloat);
+        afloat = no-sink (n .count) (heldIn w) (n .count) (g .near) (omega (arith, lag-self (n .count))) (inFlightIn w)
+            (rw (g .left) afloat);
       }
 
   abbrev Close : List Arrival → Type 0
@@ -236,7 +241,12 @@ module _ (n : Ack) (evs next : ℕ) (rest : ℤ) (fields : badFields evs n ≡ f
           ap (λ (a : Ack). onAck (d .time) a w) is-n ∙ fine-accepted (d .time) n w fine (g .holds) in
           let z : lag (n .count) (heldIn v) ≤ 0 =
           rw (ap (λ (y : Answered). y .after) e)
-          (omega (arith, caught-up w (d .time) n g (omega (arith, lag-self (n .count))) (fine-rows (d .time) n w fine), lag-self (n .count))) in
+          (omega (
+            arith,
+            caught-up w (d .time) n g (omega (arith, lag-self (n .count))) (fine-rows (d .time) n w fine),
+            lag-self
+                (n .count),
+          )) in
           (omega (arith, goes ds v (s .good) c' h' .1), λ p k. rw (ap (λ (y : Answered). y .number) e, is-n, k))
 
       later : Ends v ds → Ends w (d ∷ ds)
@@ -249,7 +259,8 @@ covered-too : (n : Ack) (others : List Ack) (p : ℕ) → ((a : Ack) → List·M
     → (ds : List Arrival) (w : World) → Of n others ds → wasCovered w ds p ≡ true → coversPsn n p ≡ true
 covered-too n others p sub [] w o e = absurd (false≢true e)
 covered-too n others p sub (d ∷ ds) w o e =
-    go (eqb (onAck (d .time) (d .ack) w .number) 0) (coversPsn (d .ack) p) refl (covered-too n others p sub ds v (λ y m. o y (List·Memᴰ·tail m))) e
+    go (eqb (onAck (d .time) (d .ack) w .number) 0) (coversPsn (d .ack) p) refl
+    (covered-too n others p sub ds v (λ y m. o y (List·Memᴰ·tail m))) e
   where
     v : World
     v = onAck (d .time) (d .ack) w .after
@@ -299,7 +310,8 @@ module _ (w : World) (at : ℕ) (n : Ack) (others : List Ack) (nw : Newest w at 
   leaves ds o ar tm =
       deliver-settles ds w holds
       ∙ ap₂ (λ (h : ℕ) (z : ℤ). settledBy (wasCovered w ds) h z (ledgerOf w)) held-n in-flight-n
-      ∙ settled-same (w .state .settings .mtu) (w .state .clock) (ledgerOf w) (ledger-facts w holds) (wasCovered w ds) (coversPsn n) agree (n .count) rest
+      ∙ settled-same (w .state .settings .mtu) (w .state .clock) (ledgerOf w) (ledger-facts w holds) (wasCovered w ds) (coversPsn n)
+      agree (n .count) rest
     where
       close : (d : Arrival) → List·Memᴰ d ds → lag (n .count) (d .ack .count) < half
       close d m = ⊎-elim (λ q. rw q (omega (arith, lag-self (n .count)))) (λ k. nw .others-behind (d .ack) k) (o d m)
@@ -320,7 +332,8 @@ module _ (w : World) (at : ℕ) (n : Ack) (others : List Ack) (nw : Newest w at 
       none-left = omega (arith, e .0)
 
       held-n : heldIn (deliver w ds) ≡ n .count
-      held-n = minus-none counts (n .count) (heldIn (deliver w ds)) (fields-count evs n (fine .fields)) (ledger-facts (deliver w ds) (g .holds) .held) none-left
+      held-n = minus-none counts (n .count) (heldIn (deliver w ds)) (fields-count evs n (fine .fields))
+          (ledger-facts (deliver w ds) (g .holds) .held) none-left
 
       in-flight-n : inFlightIn (deliver w ds) ≡ rest
       in-flight-n = sym (fall-none (inFlightIn (deliver w ds))) ∙ (rw none-left at (g .left))
@@ -328,7 +341,8 @@ module _ (w : World) (at : ℕ) (n : Ack) (others : List Ack) (nw : Newest w at 
       agree : coverAll (wasCovered w ds) (w .state .flow .low) (packets (w .state .flow) (w .slots))
           ≡ coverAll (coversPsn n) (w .state .flow .low) (packets (w .state .flow) (w .slots))
       agree =
-          cover-agree (wasCovered w ds) (coversPsn n) (w .state .flow .low) (packets (w .state .flow) (w .slots)) (ledger-facts w holds .low-psn)
+          cover-agree (wasCovered w ds) (coversPsn n) (w .state .flow .low) (packets (w .state .flow) (w .slots))
+          (ledger-facts w holds .low-psn)
           (λ k hk out.
           bool-same (wasCovered w ds (psnOf w k)) (coversPsn n (psnOf w k))
           (covered-too n others (psnOf w k)

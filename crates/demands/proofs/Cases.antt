@@ -27,7 +27,8 @@ use Rattle.sender.specs.Sound.{timesOk, namedOk, sound}
 use Rattle.sender.specs.Steps.{stateOf, settled, ackStep, pathState, pathStep}
 use Rattle.sender.specs.Events.{decided, onSend, onAck, onPath}
 use Rattle.demands.specs.Burst.{isDelivered}
-use Rattle.demands.specs.Cases.{agree, same, cases, settingsE, windowOf, ticksOf, measuredBy, worldOf, deliveredOf, acknowledged, chosen}
+use Rattle.demands.specs.Cases.{agree, same, cases, settingsE, windowOf, ticksOf, measuredBy, worldOf, deliveredOf, acknowledged}
+use Rattle.demands.specs.Cases.{chosen}
 
 pub cases-hold : agree cases ≡ true
 unfolding agree same cases settingsE windowOf ticksOf measuredBy worldOf deliveredOf acknowledged chosen isDelivered ifSo ifLt ifEq inside
@@ -36,6 +37,7 @@ unfolding agree same cases settingsE windowOf ticksOf measuredBy worldOf deliver
     proportionalIncreaseOf factorOf mayDecrease multiplicativeDecreaseOf respondOf enoughReceived periodPassed fulfillAdjustmentOf adjustOf
     avoids avoided firstFree steps landed choice isFlying isDone isOut flyingOne markedOne markedSize sumOf coverOne coverAll doneRun
     inBounds sinks packetAt tabulate placeOf ageOf lay laid queueOf longOf packets offsetOf packetOf allTo isCapacity isRing isLive isZero
-    slotOk headOk stands tallies soundLedger heldOf newlyOf ackedOf hasRoom phaseOf phaseNumber timesOk namedOk sound stateOf settled ackStep
+    slotOk headOk stands tallies soundLedger heldOf newlyOf ackedOf hasRoom phaseOf phaseNumber timesOk namedOk sound stateOf settled
+    ackStep
     pathState pathStep decided onSend onAck onPath
 cases-hold = refl

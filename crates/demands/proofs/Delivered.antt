@@ -1,5 +1,6 @@
--- `delivers`: of any list of ACKs, a packet outstanding at the start counts as delivered exactly if an accepted one covered it. Read off the
--- ledger that the list leaves (`deliver-settles`): a PSN that low has passed lies outside low..next-1, any other is packet k - gone of those left.
+-- `delivers`: of any list of ACKs, a packet outstanding at the start counts as delivered exactly if an accepted one covered it.
+-- Read off the ledger that the list leaves (`deliver-settles`): a PSN that low has passed lies outside low..next-1, any other is
+-- packet k - gone of those left.
 -- Assumes nothing.
 use mathlib.Core.Path.{_≡_, refl, sym, ap, _∙_}
 use mathlib.Core.Logic.{by-cases}
@@ -97,7 +98,8 @@ module _ (mtu clock : ℕ) (l : Ledger) (F : Facts mtu clock (l .flow) (l .slots
   past : k < gone → offsetOf (m .flow) (plus low k) + (gone - k) ≡ psns
   past h =
       let e : plus (plus low k) (gone - k) ≡ plus low gone = plus-plus low k (gone - k) ∙ ap (plus low) (omega arith) in
-      ap (λ (n : ℕ). n + (gone - k)) offset ∙ (rw e at (passed (plus low k) (gone - k) (plus-lt low k) (omega arith) (omega (arith, long, few))))
+      ap (λ (n : ℕ). n + (gone - k)) offset ∙ (rw e at (passed (plus low k) (gone - k) (plus-lt low k) (omega arith)
+      (omega (arith, long, few))))
 
   pub settled-delivers : isDelivered m (plus low k) ≡ isDone (getD ys k noPacket)
   unfolding isDelivered packetOf
@@ -125,7 +127,8 @@ from-sound w ds h k o =
     let f = w .state .flow in
     let xs = packets f (w .slots) in
     ap (λ (l : Ledger). isDelivered l (psnOf w k)) (deliver-settles ds w h)
-    ∙ settled-delivers (w .state .settings .mtu) (w .state .clock) (ledgerOf w) F c (heldIn (deliver w ds)) (inFlightIn (deliver w ds)) k (o .within)
+    ∙ settled-delivers (w .state .settings .mtu) (w .state .clock) (ledgerOf w) F c (heldIn (deliver w ds)) (inFlightIn (deliver w ds))
+    k (o .within)
     ∙ ap isDone (cover-at c (f .low) k xs (F .low-psn) (omega (arith, packets-long f (w .slots), o .within)))
     ∙ cover-done (c (psnOf w k)) (getD xs k noPacket) (o .out)
 
@@ -153,7 +156,8 @@ module _ (w : World) (h : sound w ≡ false) where
       let l : longOf f < psns = minus-lt psns (f .next) (f .low) (omega arith) in
       let e : minus psns (plus (f .low) k) (f .low) ≡ k = minus-plus (f .low) k (omega (arith, o .within)) in
       sym (lt-yes _ _ false _ true (omega (arith, o .within))
-      (sym (ap (λ (j : ℕ). isDone (getD xs j noPacket)) e ∙ rw (cover-no (getD xs k noPacket)) at (cover-done false (getD xs k noPacket) (o .out)))))
+      (sym (ap (λ (j : ℕ). isDone (getD xs j noPacket)) e ∙ rw (cover-no (getD xs k noPacket)) at
+      (cover-done false (getD xs k noPacket) (o .out)))))
 
 pub delivers : Delivers
 delivers w ds k o = go (sound w) refl

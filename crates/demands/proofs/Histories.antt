@@ -1,5 +1,5 @@
--- `history`: in-flight bytes are those sent, less those reported, less those taken out as lost, over the accepted events since set-up. By induction: each
--- accepted event moves in-flight by its own three numbers (`moves`), which the past that agrees with the ledger gives.
+-- `history`: in-flight bytes are those sent, less those reported, less those taken out as lost, over the accepted events since set-up. By
+-- induction: each accepted event moves in-flight by its own three numbers (`moves`), which the past that agrees with the ledger gives.
 -- Assumes nothing.
 use mathlib.Core.Path.{_≡_, refl, sym, ap, _∙_}
 use mathlib.Core.Logic.{by-cases}
@@ -89,7 +89,8 @@ moved-more z a b c k m n = regroup z (pos a) (pos b) (pos c) (pos k) (pos m) (po
 -- ---- a run
 
 net : (es : List Event) (w : World) (p : Past) → sound w ≡ true → Agrees p (ledgerOf w)
-    → run w es .state .totals .«in_flight» ≡ moved (w .state .totals .«in_flight») (sum sentBy w p es) (sum reportedBy w p es) (sum lostBy w p es)
+    → run w es .state .totals .«in_flight» ≡ moved (w .state .totals .«in_flight») (sum sentBy w p es) (sum reportedBy w p es)
+    (sum lostBy w p es)
 unfolding sum
 net [] w p h A = simp +ℤ-idr
 net (e ∷ es) w p h A =

@@ -1,7 +1,7 @@
--- Instances, so that no theorem is empty, by computation. An accepted setting up with document 01's settings E, whatever the lent memory holds, and a history
--- from it, the worked example and three events more, with its sums. A burst that satisfies every premise of `burst`, and two that break one premise each and
--- whose ledgers differ, so that these premises are needed: on document 01's P8 (low 4,294,967,294, next 2, cum 0) and P4 (held 16,777,214, count 3), where PSNs
--- and counts wrap.
+-- Instances, so that no theorem is empty, by computation. An accepted setting up with document 01's settings E, whatever the lent memory
+-- holds, and a history from it, the worked example and three events more, with its sums. A burst that satisfies every premise of `burst`,
+-- and two that break one premise each and whose ledgers differ, so that these premises are needed: on document 01's P8 (low 4,294,967,294,
+-- next 2, cum 0) and P4 (held 16,777,214, count 3), where PSNs and counts wrap.
 -- Assumes nothing.
 use mathlib.Core.Path.{_≡_, refl, sym, ap, _∙_, subst}
 use mathlib.Core.Logic.{_⊎_, inl, inr, ⊎-elim}
@@ -29,9 +29,11 @@ use Rattle.window.specs.Adjust.{enoughReceived, periodPassed, fulfillAdjustment
 use Rattle.window.specs.Events.{goOnOf, reactOf, shrinkOf, lossOf}
 use Rattle.window.specs.Events as window
 use Rattle.window.specs.declared.Settings.{Settings}
-use Rattle.ledger.specs.Packets.{isFlying, isMarked, isDone, isOut, flyingOne, markedOne, markedSize, sumOf, coverOne, coverAll, coveredSum, doneRun}
+use Rattle.ledger.specs.Packets.{isFlying, isMarked, isDone, isOut, flyingOne, markedOne, markedSize, sumOf, coverOne, coverAll, coveredSum}
+use Rattle.ledger.specs.Packets.{doneRun}
 use Rattle.ledger.specs.Bounds.{inBounds, sinks}
-use Rattle.ledger.specs.Ring.{Ring, ring, Ledger, packetAt, tabulate, placeOf, ageOf, lay, laid, queueOf, longOf, packets, offsetOf, packetOf}
+use Rattle.ledger.specs.Ring.{Ring, ring, Ledger, packetAt, tabulate, placeOf, ageOf, lay, laid, queueOf, longOf, packets, offsetOf}
+use Rattle.ledger.specs.Ring.{packetOf}
 use Rattle.ledger.specs.Sound.{allTo, isCapacity, isRing, isLive, isZero, slotOk, headOk, stands, tallies, soundLedger}
 use Rattle.ledger.specs.Steps.{changed, suppliedOf, pushedOf, resentOf, markedOf, heldOf, newlyOf, ackedOf}
 use Rattle.ledger.specs.declared.Packet.{Packet}
@@ -87,14 +89,24 @@ worked =
     newData 0 8192
     ∷ send 10 (packet 0 false)
     ∷ send 20 (packet 2 false)
-    ∷ ack 110 (record { cum = 0; map = 0; trigger = 0; count = 16; service = 4; ev = 0; marked = false; retx = false })
+    ∷ ack 110 (record {
+      cum = 0;
+      map = 0;
+      trigger = 0;
+      count = 16;
+      service = 4;
+      ev = 0;
+      marked = false;
+      retx = false;
+    })
     ∷ send 120 (packet 1 false)
     ∷ loss 220 (record { psn = 1; ev = 0 })
     ∷ send 230 (packet 1 true)
     ∷ []
 
 -- three packets sent, one reported, one taken out as lost: one in flight
-pub worked-sums : (sum sentBy fresh noPast worked ≡ 3 * 4096) × (sum reportedBy fresh noPast worked ≡ 4096) × (sum lostBy fresh noPast worked ≡ 4096)
+pub worked-sums : (sum sentBy fresh noPast worked ≡ 3 * 4096) × (sum reportedBy fresh noPast worked ≡ 4096)
+    × (sum lostBy fresh noPast worked ≡ 4096)
     × (run fresh worked .state .totals .«in_flight» ≡ pos 4096)
 unfolding fresh freshState settingsE sum remember sentBy reportedBy lostBy ifSo ifLt ifEq inside firstOf minus plus bitOf covered backOf
     spanOf unsentOrOld aheadOf isOld forwardOf leadingZeros maxWndOf isEvCount inRange soundWindow freshOf oneSend sampleOf avgDelayOf
@@ -102,7 +114,8 @@ unfolding fresh freshState settingsE sum remember sentBy reportedBy lostBy ifSo 
     fastIncreaseOf addIncBytesOf proportionalIncreaseOf fairIncreaseOf factorOf mayDecrease multiplicativeDecreaseOf respondOf
     enoughReceived periodPassed fulfillAdjustmentOf adjustOf goOnOf reactOf window.ackOf shrinkOf lossOf isFlying isMarked isDone isOut
     flyingOne markedOne markedSize sumOf coverOne coverAll coveredSum doneRun inBounds sinks packetAt tabulate placeOf ageOf lay laid
-    queueOf longOf packets offsetOf packetOf allTo isCapacity isRing isLive isZero slotOk headOk stands tallies soundLedger changed suppliedOf
+    queueOf longOf packets offsetOf packetOf allTo isCapacity isRing isLive isZero slotOk headOk stands tallies soundLedger changed
+    suppliedOf
     pushedOf resentOf markedOf heldOf newlyOf ackedOf hasRoom phaseOf phaseNumber timesOk namedOk sound stateOf settled avoidedIn
     newDataState newDataStep sendStep ackSample ackStep lossStep decided onNewData onSend onAck onLoss
 worked-sums = (refl, refl, refl, refl)
@@ -123,7 +136,8 @@ start =
     (replicate 256 0)
 
 start-sound : sound start ≡ true
-unfolding start settingsE sound isEvCount inRange inside soundWindow maxWndOf freshOf soundLedger stands isRing isCapacity longOf minus allTo
+unfolding start settingsE sound isEvCount inRange inside soundWindow maxWndOf freshOf soundLedger stands isRing isCapacity longOf minus
+    allTo
     slotOk ifLt ifSo ifEq isLive isZero headOk tallies sumOf flyingOne markedOne markedSize inBounds packets queueOf tabulate packetAt
     placeOf plus ageOf lay laid isDone timesOk namedOk phaseOf phaseNumber hasRoom stateOf
 start-sound = refl
@@ -131,7 +145,16 @@ start-sound = refl
 -- ---- ACKs
 
 abbrev ackOf : ℕ → ℕ → ℕ → Ack
-ackOf cum map count = record { cum = cum; map = map; trigger = cum; count = count; service = 4; ev = 0; marked = false; retx = false }
+ackOf cum map count = record {
+  cum = cum;
+  map = map;
+  trigger = cum;
+  count = count;
+  service = 4;
+  ev = 0;
+  marked = false;
+  retx = false;
+}
 
 abbrev at : ℕ → Ack → Arrival
 at time a = record { time = time; ack = a }
@@ -171,7 +194,8 @@ abbrev pub Nothing : World → Ack → List Ack → Type 0
 Nothing w n others = Unit {0}
 
 -- all of them; those on the other ACKs, their counts and what they cover, are what is given
-pub record Premises (OnCounts OnCovers : World → Ack → List Ack → Type 0) (w : World) (time : ℕ) (n : Ack) (others : List Ack) (ds : List Arrival)
+pub record Premises (OnCounts OnCovers : World → Ack → List Ack → Type 0) (w : World) (time : ℕ) (n : Ack) (others : List Ack)
+    (ds : List Arrival)
     : Type 0 where
   pub accepted : onAck time n w .number ≡ 0
   pub not-behind : minus counts (n .count) (w .state .flow .held) < half
@@ -314,7 +338,8 @@ module _ (a : Ack) (f : Fine 120 a evs 110 left) where
   fine-here : Fine 120 a (w .state .settings .«ev_count») (w .state .clock) (ledgerOf w)
   fine-here =
       subst (λ (s : Settings). Fine 120 a (s .«ev_count») (w .state .clock) (ledgerOf w)) (sym (step-settings (ack 110 newest) start))
-      (subst (Fine 120 a evs (w .state .clock)) (sym left-is) (subst (λ (c : ℕ). Fine 120 a evs c left) (sym (step-clock (ack 110 newest) start)) f))
+      (subst (Fine 120 a evs (w .state .clock)) (sym left-is) (subst (λ (c : ℕ). Fine 120 a evs c left)
+      (sym (step-clock (ack 110 newest) start)) f))
 
   both-leave : ledgerOf (deliver start (newestThen a)) ≡ ackedOf (a .cum) (a .map) (a .count) left
   both-leave =
@@ -332,7 +357,8 @@ module _ (a : Ack) (f : Fine 120 a evs 110 left) where
 
 -- both of the others below are accepted there
 then-fine : Fine 120 ahead evs 110 left × Fine 120 farther evs 110 left
-unfolding left ackedOf start settingsE stateOf covered bitOf minus plus unsentOrOld backOf spanOf sinks newlyOf forwardOf aheadOf isOld heldOf ifLt ifSo leadingZeros
+unfolding left ackedOf start settingsE stateOf covered bitOf minus plus unsentOrOld backOf spanOf sinks newlyOf forwardOf aheadOf isOld
+    heldOf ifLt ifSo leadingZeros
 then-fine = (
   record { later = omega arith; early = omega arith; fields = refl; sent = refl; afloat = refl },
   record { later = omega arith; early = omega arith; fields = refl; sent = refl; afloat = refl },
@@ -341,12 +367,15 @@ then-fine = (
 -- the held count that `ahead` leaves, and the newest; low that `farther` leaves, and the newest
 then-numbers :
     (ackedOf 4294967295 0 4 left .flow .held ≡ 4) × (left .flow .held ≡ 3) × (ackedOf 1 0 2 left .flow .low ≡ 2) × (left .flow .low ≡ 1)
-unfolding left ackedOf start stateOf covered bitOf minus plus aheadOf isOld heldOf longOf packets queueOf tabulate packetAt placeOf ageOf lay laid coverAll coverOne isOut isFlying isMarked doneRun ifSo ifEq
+unfolding left ackedOf start stateOf covered bitOf minus plus aheadOf isOld heldOf longOf packets queueOf tabulate packetAt placeOf
+    ageOf lay laid coverAll coverOne isOut isFlying isMarked doneRun ifSo ifEq
 then-numbers = (refl, refl, refl, refl)
 
--- ---- `Behind` is needed: all premises hold but this, as the other's count is ahead of the newest's. It is held in the end, and not the newest's.
+-- ---- `Behind` is needed: all premises hold but this, as the other's count is ahead of the newest's.
+-- It is held in the end, and not the newest's.
 
-pub counts-needed : Premises Nothing CoversToo start 110 newest (ahead ∷ []) (newestThen ahead) × (Same start 110 newest (newestThen ahead) → ⊥)
+pub counts-needed : Premises Nothing CoversToo start 110 newest (ahead ∷ []) (newestThen ahead)
+    × (Same start 110 newest (newestThen ahead) → ⊥)
 counts-needed = (
   then-premises ahead Nothing CoversToo tt
       (each Less _ _ (covers-less ahead (not-three .1 4)) (each-none Less)),
@@ -355,7 +384,8 @@ counts-needed = (
 
 -- ---- `CoversToo` is needed: all premises hold but this, as the other covers a packet that the newest does not. Low moves past it too.
 
-pub covers-needed : Premises Behind Nothing start 110 newest (farther ∷ []) (newestThen farther) × (Same start 110 newest (newestThen farther) → ⊥)
+pub covers-needed : Premises Behind Nothing start 110 newest (farther ∷ []) (newestThen farther)
+    × (Same start 110 newest (newestThen farther) → ⊥)
 unfolding minus
 covers-needed = (
   then-premises farther Behind Nothing (each Near _ _ (omega arith) (each-none Near)) tt,

@@ -1,5 +1,6 @@
--- ACKs and the ledger: when one is accepted, told by the clock and the ledger alone (`Fine`), and what a list of them leaves: the ledger that one ACK
--- would leave which covers whatever an accepted one of them covers (`deliver-settles`). By the union law of queues (`settle-twice`).
+-- ACKs and the ledger: when one is accepted, told by the clock and the ledger alone (`Fine`), and what a list of them leaves:
+-- the ledger that one ACK would leave which covers whatever an accepted one of them covers (`deliver-settles`). By the union
+-- law of queues (`settle-twice`).
 -- Assumes nothing.
 use mathlib.Core.Path.{_≡_, refl, sym, ap, ap₂, _∙_}
 use mathlib.Core.Bool.{Bool, true, false, not, _&&_, _||_}
@@ -18,14 +19,16 @@ use Rattle.rules.specs.Rows.{firstOf, first-later, none-here}
 use Rattle.serial.specs.Psn.{psns, plus, covered, unsentOrOld}
 use Rattle.serial.specs.Count.{counts}
 use Rattle.serial.proofs.Cover.{plus-lt, plus-plus, minus-step}
-use Rattle.ledger.specs.Packets.{doneStatus, noPacket, isOut, isDone, flyingOne, markedOne, markedSize, sumOf, coverOne, coverAll, coveredSum, doneRun}
+use Rattle.ledger.specs.Packets.{doneStatus, noPacket, isOut, isDone, flyingOne, markedOne, markedSize, sumOf, coverOne, coverAll}
+use Rattle.ledger.specs.Packets.{coveredSum, doneRun}
 use Rattle.ledger.specs.Bounds.{fallen, sinks}
 use Rattle.ledger.specs.Ring.{Ledger, ledger, capOf, laid, longOf, packets}
 use Rattle.ledger.specs.Steps.{heldOf, newlyOf, ackedOf}
 use Rattle.ledger.specs.declared.Packet.{Packet}
 use Rattle.ledger.proofs.Geometry.{laid-cap}
 use Rattle.ledger.proofs.Facts.{Facts, packets-long, packets-laid}
-use Rattle.ledger.proofs.Queues.{plus-none, plus-next, cover-no, cover-stays, cover-long, OfOut, flying-out, marked-out, bytes-out, cover-sum, run-le, run-stop, run-end, either, goneOf, leftOf, settle-twice, covered-twice}
+use Rattle.ledger.proofs.Queues.{plus-none, plus-next, cover-no, cover-stays, cover-long, OfOut, flying-out, marked-out, bytes-out}
+use Rattle.ledger.proofs.Queues.{cover-sum, run-le, run-stop, run-end, either, goneOf, leftOf, settle-twice, covered-twice}
 use Rattle.ledger.proofs.Judging.{ack-0, ack-facts}
 use Rattle.sender.specs.Limits.{timeEnd}
 use Rattle.sender.specs.World.{World, Answered, ledgerOf}
@@ -142,10 +145,12 @@ module _ (mtu clock : ℕ) (l : Ledger) (F : Facts mtu clock (l .flow) (l .slots
     pub settled-packets : packets (settledBy c held z l .flow) (settledBy c held z l .slots) ≡ leftOf c low xs
     unfolding settledBy
     settled-packets =
-        packets-laid (capOf (l .slots)) (settledBy c held z l .flow) (leftOf c low xs) (F .cap) settled-long (omega (arith, left-long, F .fits))
+        packets-laid (capOf (l .slots)) (settledBy c held z l .flow) (leftOf c low xs) (F .cap) settled-long
+        (omega (arith, left-long, F .fits))
 
     -- settled by one and then by another is settled by either
-    pub settled-twice : (d : ℕ → Bool) (held' : ℕ) (z' : ℤ) → settledBy d held' z' (settledBy c held z l) ≡ settledBy (either c d) held' z' l
+    pub settled-twice : (d : ℕ → Bool) (held' : ℕ) (z' : ℤ) → settledBy d held' z' (settledBy c held z l)
+        ≡ settledBy (either c d) held' z' l
     unfolding settledBy
     settled-twice d held' z' =
         let q = plus low (goneOf c low xs) in
@@ -194,7 +199,8 @@ badFields evs a = leb counts (a .count) || leb evs (a .ev) || not (covered (a .c
 
 pub fields-count : (evs : ℕ) (a : Ack) → badFields evs a ≡ false → a .count < counts
 fields-count evs a e =
-    leb-false counts (a .count) (neither (leb counts (a .count)) (leb evs (a .ev)) (neither (leb counts (a .count) || leb evs (a .ev)) _ e .0) .0)
+    leb-false counts (a .count) (neither (leb counts (a .count)) (leb evs (a .ev))
+    (neither (leb counts (a .count) || leb evs (a .ev)) _ e .0) .0)
 
 -- When an ACK is accepted in a sound world: told by the number of EVs, the clock and the ledger alone
 pub record Fine (time : ℕ) (a : Ack) (evs clock : ℕ) (l : Ledger) : Type 0 where
@@ -223,9 +229,11 @@ module _ (time : ℕ) (a : Ack) (w : World) where
         sym (first-later 0 3 _ _ (ap₂ _||_ (le-ltb time (w .state .clock) (f .later)) (lt-leb timeEnd time (f .early)))
         (first-later 0 21 _ _ (both-ok .0)
         (first-later 0 23 _ _ (both-ok .1)
-        (first-later 0 24 _ _ (ok .1) (ack-0 (w .state .flow) (w .state .totals .«in_flight») (a .cum) (a .map) (a .count) (f .sent) (f .afloat))))))
+        (first-later 0 24 _ _ (ok .1) (ack-0 (w .state .flow) (w .state .totals .«in_flight») (a .cum) (a .map) (a .count) (f .sent)
+        (f .afloat))))))
       where
-        ok : ((leb counts (a .count) || leb (w .state .settings .«ev_count») (a .ev)) ≡ false) × (not (covered (a .cum) (a .map) (a .trigger)) ≡ false)
+        ok : ((leb counts (a .count) || leb (w .state .settings .«ev_count») (a .ev)) ≡ false)
+            × (not (covered (a .cum) (a .map) (a .trigger)) ≡ false)
         ok = neither (leb counts (a .count) || leb (w .state .settings .«ev_count») (a .ev)) _ (f .fields)
 
         both-ok : (leb counts (a .count) ≡ false) × (leb (w .state .settings .«ev_count») (a .ev) ≡ false)
@@ -249,13 +257,15 @@ Settles v cov l = ledgerOf v ≡ settledBy cov (heldIn v) (inFlightIn v) l
 
 -- the same of the first ACK's answer, and the others
 abbrev SettlesOn : World → Ack → List Arrival → Answered → Type 0
-SettlesOn w a ds x = Settles (deliver (x .after) ds) (λ psn. (eqb (x .number) 0 && coversPsn a psn) || wasCovered (x .after) ds psn) (ledgerOf w)
+SettlesOn w a ds x = Settles (deliver (x .after) ds) (λ psn. (eqb (x .number) 0 && coversPsn a psn) || wasCovered (x .after) ds psn)
+    (ledgerOf w)
 
 pub deliver-settles : (ds : List Arrival) (w : World) → sound w ≡ true → Settles (deliver w ds) (wasCovered w ds) (ledgerOf w)
 deliver-settles [] w h = sym (settled-none (w .state .settings .mtu) (w .state .clock) (ledgerOf w) (ledger-facts w h))
 deliver-settles (d ∷ ds) w h = go (λ v K. deliver-settles ds v K)
   where
-    go : ((v : World) → sound v ≡ true → Settles (deliver v ds) (wasCovered v ds) (ledgerOf v)) → SettlesOn w (d .ack) ds (onAck (d .time) (d .ack) w)
+    go : ((v : World) → sound v ≡ true → Settles (deliver v ds) (wasCovered v ds) (ledgerOf v))
+        → SettlesOn w (d .ack) ds (onAck (d .time) (d .ack) w)
     go ih =
         let a = d .ack in
         ack-cases (SettlesOn w a ds) (d .time) a w
@@ -263,10 +273,12 @@ deliver-settles (d ∷ ds) w h = go (λ v K. deliver-settles ds v K)
         let v = ackStep (d .time) a w in
         let u = deliver v ds in
         ih v (step-sound (ack (d .time) a) w h rows)
-        ∙ ap (settledBy (wasCovered v ds) (heldIn u) (inFlightIn u)) (step-ledger (ack (d .time) a) w ∙ acked-settled (a .cum) (a .map) (a .count) (ledgerOf w))
+        ∙ ap (settledBy (wasCovered v ds) (heldIn u) (inFlightIn u))
+        (step-ledger (ack (d .time) a) w ∙ acked-settled (a .cum) (a .map) (a .count) (ledgerOf w))
         ∙ settled-twice (w .state .settings .mtu) (w .state .clock) (ledgerOf w) (ledger-facts w h)
         (covered (a .cum) (a .map)) _ _ (wasCovered v ds) (heldIn u) (inFlightIn u))
         (λ n z.
         let u = deliver w ds in
         ih w h
-        ∙ ap (λ (b : Bool). settledBy (λ psn. (b && coversPsn a psn) || wasCovered w ds psn) (heldIn u) (inFlightIn u) (ledgerOf w)) (sym (ne-eqb n 0 z)))
+        ∙ ap (λ (b : Bool). settledBy (λ psn. (b && coversPsn a psn) || wasCovered w ds psn) (heldIn u) (inFlightIn u) (ledgerOf w))
+        (sym (ne-eqb n 0 z)))

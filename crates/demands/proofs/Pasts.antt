@@ -1,6 +1,6 @@
--- What is remembered of the events so far agrees with the ledger, along any run: the newest count is the held one, and every packet of the queue has the
--- size of the last new packet of its PSN (`agrees-fresh`, `agrees-step`). A new packet's PSN is none of the others', for there are at most 4,096 of them.
--- By the ledger's laws of queues that are laid and read back.
+-- What is remembered of the events so far agrees with the ledger, along any run: the newest count is the held one, and every packet of the
+-- queue has the size of the last new packet of its PSN (`agrees-fresh`, `agrees-step`). A new packet's PSN is none of the others', for
+-- there are at most 4,096 of them. By the ledger's laws of queues that are laid and read back.
 -- Assumes nothing.
 use mathlib.Core.Path.{_≡_, refl, sym, ap, _∙_}
 use mathlib.Core.Bool.{Bool, true, false, _&&_}
@@ -81,7 +81,8 @@ sized-more bytes low xs y few S k h =
   where
     apart : (k : ℕ) → k < length xs → plus low k ≡ plus low (length xs) → ⊥
     apart k l e =
-        let z : k ≡ length xs = sym (minus-plus low k (omega arith)) ∙ ap (λ (p : ℕ). minus psns p low) e ∙ minus-plus low (length xs) few in
+        let z : k ≡ length xs = sym (minus-plus low k (omega arith)) ∙ ap (λ (p : ℕ). minus psns p low) e
+        ∙ minus-plus low (length xs) few in
         omega arith
 
 -- ---- the past and a ledger
@@ -91,7 +92,8 @@ pub record Agrees (p : Past) (l : Ledger) : Type 0 where
   pub sizes : (k : ℕ) → k < longOf (l .flow) → getD (packets (l .flow) (l .slots)) k noPacket .size ≡ p .bytes (plus (l .flow .low) k)
 
 -- a ledger that a queue is laid in, by the queue
-agrees-laid : (p : Past) (cap : ℕ) (f : Flow) (t : Totals) (xs : List Packet) → isCapacity cap ≡ true → longOf f ≡ length xs → length xs ≤ cap
+agrees-laid : (p : Past) (cap : ℕ) (f : Flow) (t : Totals) (xs : List Packet) → isCapacity cap ≡ true → longOf f ≡ length xs
+    → length xs ≤ cap
     → p .count ≡ f .held → Sized (p .bytes) (f .low) xs → Agrees p (ledger f t (laid cap (f .low) xs))
 agrees-laid p cap f t xs ok long fit held S =
     record {
@@ -152,7 +154,8 @@ module _ {mtu clock : ℕ} {p : Past} (l : Ledger) (F : Facts mtu clock (l .flow
         let y = newPacket time size in
         let n = length-append xs (y ∷ []) in
         let behind : psn ≡ plus (f .low) (length xs) = e ∙ sym next-is ∙ ap (plus (f .low)) (sym long) in
-        agrees-laid _ (capOf (l .slots)) _ _ (xs ++ (y ∷ [])) (F .cap) (omega (arith, pushed-long time size, long)) (omega (arith, long)) (A .count-is)
+        agrees-laid _ (capOf (l .slots)) _ _ (xs ++ (y ∷ [])) (F .cap) (omega (arith, pushed-long time size, long))
+        (omega (arith, long)) (A .count-is)
         (rw behind (sized-more (p .bytes) (f .low) xs y (omega (arith, F .even .few, long)) sized))
 
   -- an ACK
@@ -172,7 +175,8 @@ module _ {mtu clock : ℕ} {p : Past} (l : Ledger) (F : Facts mtu clock (l .flow
 -- ---- along a run
 
 -- either of two pasts with the ledger that goes with it
-agrees-either : (b : Bool) {p q : Past} {l m : Ledger} → (b ≡ true → Agrees p l) → (b ≡ false → Agrees q m) → Agrees (ifSo b p q) (ifSo b l m)
+agrees-either : (b : Bool) {p q : Past} {l m : Ledger} → (b ≡ true → Agrees p l) → (b ≡ false → Agrees q m)
+    → Agrees (ifSo b p q) (ifSo b l m)
 unfolding ifSo
 agrees-either true f g = f refl
 agrees-either false f g = g refl

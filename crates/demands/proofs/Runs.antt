@@ -1,6 +1,6 @@
--- Events one by one. A refused one leaves the world as it was (`refused-same`; of setting up `set-up-refused`: demand 1). An accepted one came to a sound
--- world, no row refuses it, and what it leaves is its step (`accepted`; `rules-hold`, `path-taken`: demand 2), whose ledger is the ledger's own step
--- (`step-ledger`) at the event's time (`step-clock`). By the sender's laws.
+-- Events one by one. A refused one leaves the world as it was (`refused-same`; of setting up `set-up-refused`: demand 1). An accepted one
+-- came to a sound world, no row refuses it, and what it leaves is its step (`accepted`; `rules-hold`, `path-taken`: demand 2), whose ledger
+-- is the ledger's own step (`step-ledger`) at the event's time (`step-clock`). By the sender's laws.
 -- Assumes nothing.
 use mathlib.Core.Path.{_≡_, refl, sym, _∙_}
 use mathlib.Core.Bool.{not, true}
@@ -16,7 +16,8 @@ use Rattle.ledger.specs.Steps.{suppliedOf, pushedOf, resentOf, markedOf, ackedO
 use Rattle.sender.specs.World.{World, world, Answered, Routing, ledgerOf}
 use Rattle.sender.specs.Sound.{sound}
 use Rattle.sender.specs.Rows.{withSound, newDataRows, sendAllRows, ackAllRows, nackAllRows, lossAllRows, pathRows, setUpRows}
-use Rattle.sender.specs.Steps.{stateOf, settled, newDataState, newDataStep, sendStep, ackStep, nackStep, lossStep, pathState, pathStep, routeOf}
+use Rattle.sender.specs.Steps.{stateOf, settled, newDataState, newDataStep, sendStep, ackStep, nackStep, lossStep, pathState, pathStep}
+use Rattle.sender.specs.Steps.{routeOf}
 use Rattle.sender.specs.Start.{noSettings, freshState, onSetUp}
 use Rattle.sender.specs.Events.{decided, onNewData, onSend, onAck, onNack, onLoss, onPath}
 use Rattle.sender.proofs.Refusals.{new-data-same, send-same, ack-same, nack-same, loss-same, path-same}
@@ -67,7 +68,8 @@ pub record Accepted (w : World) (rows : List Row) (to after : World) : Type 0 wh
   pub leaves : after ≡ to
 
 -- of two answers by the rows' number, of which the second carries it
-accepted-by : {A : Type 0} (number : A → ℕ) (after : A → World) (w : World) (rows : List Row) (taken refused : A) → number refused ≡ firstOf (withSound w rows)
+accepted-by : {A : Type 0} (number : A → ℕ) (after : A → World) (w : World) (rows : List Row) (taken refused : A)
+    → number refused ≡ firstOf (withSound w rows)
     → number (ifEq (firstOf (withSound w rows)) 0 taken refused) ≡ 0
     → Accepted w rows (after taken) (after (ifEq (firstOf (withSound w rows)) 0 taken refused))
 accepted-by {A} number after w rows taken refused e =

@@ -1,5 +1,6 @@
--- `ack-sampled`, `nack-sampled`: a sample is taken exactly when document 01 says one exists. `base-stays`, `ack-lowered`, `nack-lowered`: without one no
--- event changes the base round trip, with one an accepted event takes the lesser. By the window's laws of its sample, and rule by rule over its definitions.
+-- `ack-sampled`, `nack-sampled`: a sample is taken exactly when document 01 says one exists. `base-stays`, `ack-lowered`, `nack-lowered`:
+-- without one no event changes the base round trip, with one an accepted event takes the lesser. By the window's laws of its sample, and
+-- rule by rule over its definitions.
 -- Assumes nothing.
 use mathlib.Core.Path.{_≡_, refl, sym, ap, _∙_}
 use mathlib.Core.Logic.{_⊎_, inl, inr, _↔_}
@@ -19,7 +20,8 @@ use Rattle.ledger.specs.Packets.{flyingStatus, markedStatus, isFlying, isMarked
 use Rattle.ledger.specs.Ring.{packetOf}
 use Rattle.ledger.specs.declared.Packet.{Packet}
 use Rattle.sender.specs.World.{World, Answered, Routing}
-use Rattle.sender.specs.Steps.{stateOf, settled, newDataState, newDataStep, sendStep, ackSample, ackStep, nackSample, nackStep, lossStep, pathState, pathStep}
+use Rattle.sender.specs.Steps.{stateOf, settled, newDataState, newDataStep, sendStep, ackSample, ackStep, nackSample, nackStep, lossStep}
+use Rattle.sender.specs.Steps.{pathState, pathStep}
 use Rattle.sender.specs.Events.{decided, onNewData, onSend, onAck, onNack, onLoss, onPath}
 use Rattle.sender.specs.declared.Ack.{Ack}
 use Rattle.sender.specs.declared.Nack.{Nack}
@@ -115,7 +117,8 @@ base-stays (newData time bytes) w of-ack of-nack = decided-base _ w _ refl
 base-stays (send time a) w of-ack of-nack = decided-base _ w _ refl
 base-stays (ack time a) w of-ack of-nack = decided-base _ w _ (rw (of-ack time a refl) at (ack-lowers w time a))
 base-stays (nack time a) w of-ack of-nack = decided-base _ w _ (rw (of-nack time a refl) at (nack-lowers w time a))
-base-stays (loss time a) w of-ack of-nack = decided-base _ w _ (ap (λ (d : Delays). d .base) (loss-delays (w .state .settings) time _ _ (w .state .window)))
+base-stays (loss time a) w of-ack of-nack = decided-base _ w _
+    (ap (λ (d : Delays). d .base) (loss-delays (w .state .settings) time _ _ (w .state .window)))
 base-stays (path time) w of-ack of-nack = eq-both (λ (x : Routing). Lowers Absent w (x .after)) _ 0 _ _ (λ _. refl) (λ _. refl)
 
 -- ---- .. and falls by one: "base = min(base, sample)"
@@ -128,7 +131,8 @@ decided-lowered n w after ticks e =
     eq-both (λ (x : Answered). x .number ≡ 0 → x .after .state .window .base ≡ min (w .state .window .base) ticks) n 0 _ _
     (λ _ _. e) (λ refused zero. absurd (refused zero))
 
-pub ack-lowered : (time ticks : ℕ) (a : Ack) (w : World) → SampleIs w (a .trigger) (a .retx) time (a .service) ticks → onAck time a w .number ≡ 0
+pub ack-lowered : (time ticks : ℕ) (a : Ack) (w : World) → SampleIs w (a .trigger) (a .retx) time (a .service) ticks
+    → onAck time a w .number ≡ 0
     → onAck time a w .after .state .window .base ≡ min (w .state .window .base) ticks
 unfolding onAck
 ack-lowered time ticks a w s = decided-lowered _ w _ ticks (rw (ack-sampled time ticks a w .1 s) at (ack-lowers w time a))

@@ -1,5 +1,5 @@
--- `always-sound`: after any list of events from an accepted set-up, state and buffers pass the full test of number 2, by induction over the events:
--- each leaves a sound world sound, whatever it answers (the sender's ..-lasts laws).
+-- `always-sound`: after any list of events from an accepted set-up, state and buffers pass the full test of number 2, by induction over the
+-- events: each leaves a sound world sound, whatever it answers (the sender's ..-lasts laws).
 -- Assumes nothing.
 use mathlib.Core.Path.{_≡_}
 use mathlib.Core.Bool.{true}

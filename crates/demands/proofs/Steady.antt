@@ -1,5 +1,6 @@
--- What the window holds of delays, the base round trip and the average, rule by rule over the window's definitions: quick adapt, the four cases, the
--- adjustment and a loss leave both as they are (`loss-delays`), so that an ACK leaves those of its sample (`ack-delays`), and a NACK its own (`nack-delays`).
+-- What the window holds of delays, the base round trip and the average, rule by rule over the window's definitions: quick adapt, the
+-- four cases, the adjustment and a loss leave both as they are (`loss-delays`), so that an ACK leaves those of its sample
+-- (`ack-delays`), and a NACK its own (`nack-delays`).
 -- Assumes nothing.
 use mathlib.Core.Path.{_≡_, refl, ap, _∙_}
 use mathlib.Core.Bool.{Bool, true, false, not, _||_}

@@ -1,7 +1,8 @@
 -- Every statement of specs/Demands with its proof, in the order of the statements.
 -- Assumes nothing.
 use mathlib.Core.Logic.{⊎-elim}
-use Rattle.sender.proofs.Refusals.{new-data-exact, send-exact, ack-exact, nack-exact, loss-exact, path-exact, permitted-new, permitted-resend}
+use Rattle.sender.proofs.Refusals.{new-data-exact, send-exact, ack-exact, nack-exact, loss-exact, path-exact, permitted-new}
+use Rattle.sender.proofs.Refusals.{permitted-resend}
 use Rattle.sender.proofs.Refusals as refusals
 use Rattle.sender.proofs.Sounds.{sound-facts}
 use Rattle.sender.proofs.Starts as starts

@@ -1,5 +1,5 @@
--- "Prove that no two outcomes satisfy one promise": `calls-unique`, `ack-unique`, `nack-unique` and `path-unique`, for the sender's entry points. Every promise is one
--- equation, "what is made from the outcome ≡ what 01 says", and what is made tells the outcome.
+-- "Prove that no two outcomes satisfy one promise": `calls-unique`, `ack-unique`, `nack-unique` and `path-unique`, for the sender's entry
+-- points. Every promise is one equation, "what is made from the outcome ≡ what 01 says", and what is made tells the outcome.
 -- Assumes nothing.
 use mathlib.Core.Path.{_≡_, refl, sym, ap, ap₂}
 use mathlib.Core.List.{List}

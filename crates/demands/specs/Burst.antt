@@ -45,8 +45,8 @@ psnOf w k = plus (w .state .flow .low) k
 abbrev pub coversPsn : Ack → ℕ → Bool
 coversPsn a psn = covered (a .cum) (a .map) psn
 
--- "call one newest: accepted on its own at the start, its count not behind the count then held, every other count less than 2^23 units behind it and
--- none ahead, and each outstanding packet that another covers covered by it too"
+-- "call one newest: accepted on its own at the start, its count not behind the count then held, every other count less than 2^23 units
+-- behind it and none ahead, and each outstanding packet that another covers covered by it too"
 pub record Newest (w : World) (at : ℕ) (newest : Ack) (others : List Ack) : Type 0 where
   pub accepted : onAck at newest w .number ≡ 0
   pub not-behind : minus counts (newest .count) (w .state .flow .held) < half

@@ -1,5 +1,5 @@
--- Document 01, "Numbers to check by hand (settings E)": the cases marked P, as one list. Each has what the definitions that the contracts cite give, and
--- what 01 says. proofs/Cases shows that all agree.
+-- Document 01, "Numbers to check by hand (settings E)": the cases marked P, as one list. Each has what the definitions that the contracts
+-- cite give, and what 01 says. proofs/Cases shows that all agree.
 -- Assumes nothing.
 use mathlib.Core.Bool.{Bool, true, false, cond, _&&_}
 use mathlib.Core.List.{List, [], _∷_, _++_}
@@ -50,7 +50,23 @@ agree (c ∷ cs) = same (c .got) (c .wanted) && agree cs
 -- "settings E = 4096, 614400, 96, 72, 4096, 1024, 224, 819, 512, 96, 32768, 288, PSN 0", and 256 EVs
 unfoldable pub settingsE : Settings
 settingsE =
-    record { mtu = 4096; maxwnd = 614400; «config_base_rtt» = 96; «target_qdelay» = 72; fi = 4096; eta = 1024; alpha = 224; gamma = 819; «max_md_jump» = 512; «adjust_period» = 96; «adjust_bytes» = 32768; «qa_threshold» = 288; «first_psn» = 0; «quick_adapt_off» = false; «ev_count» = 256 }
+    record {
+      mtu = 4096;
+      maxwnd = 614400;
+      «config_base_rtt» = 96;
+      «target_qdelay» = 72;
+      fi = 4096;
+      eta = 1024;
+      alpha = 224;
+      gamma = 819;
+      «max_md_jump» = 512;
+      «adjust_period» = 96;
+      «adjust_bytes» = 32768;
+      «qa_threshold» = 288;
+      «first_psn» = 0;
+      «quick_adapt_off» = false;
+      «ev_count» = 256;
+    }
 
 -- a fresh window of these settings (base is 96), but for cwnd, the average in 1/1,024 tick, and inc_bytes
 unfoldable pub windowOf : ℕ → ℕ → ℕ → Window
@@ -65,7 +81,8 @@ ticksOf Absent = []
 unfoldable pub measuredBy : Delayed → List ℕ
 measuredBy d = d .delay ∷ d .window .avg ∷ []
 
--- a world of these settings at time 0, with 64 slots: n packets of 4,096 bytes from low on, all flying, and the fresh window (cwnd is 614,400)
+-- a world of these settings at time 0, with 64 slots: n packets of 4,096 bytes from low on, all flying, and the
+-- fresh window (cwnd is 614,400)
 unfoldable pub worldOf : Flow → ℕ → ℕ → List ℕ → World
 worldOf f n inFlight times =
     world
@@ -93,7 +110,16 @@ avoiding k = worldOf (flowOf 0 0 0) 0 0 (replicate k 20 ++ free (256 - k))
 
 -- an ACK whose trigger is cum itself
 abbrev pub ackWith : ℕ → ℕ → Ack
-ackWith cum map = record { cum = cum; map = map; trigger = cum; count = 0; service = 0; ev = 0; marked = false; retx = false }
+ackWith cum map = record {
+  cum = cum;
+  map = map;
+  trigger = cum;
+  count = 0;
+  service = 0;
+  ev = 0;
+  marked = false;
+  retx = false;
+}
 
 abbrev pub newSend : Send
 newSend = record { psn = 0; size = 4096; resend = false }

@@ -1,6 +1,6 @@
 -- The demands, sentence by sentence. Each statement is a type; the theorem of the same name, in small letters, in proofs/ has that type.
--- The definitions are those that the sender's contracts cite: what is proved here holds of the code. Numbers are unbounded here, the code's are machine words:
--- nothing is asked of an event's numbers, and number 2 bounds what is held.
+-- The definitions are those that the sender's contracts cite: what is proved here holds of the code. Numbers are unbounded here, the code's
+-- are machine words: nothing is asked of an event's numbers, and number 2 bounds what is held.
 -- Assumes nothing.
 use mathlib.Core.Path.{_≡_}
 use mathlib.Core.Logic.{_↔_, _⊎_}
@@ -27,8 +27,8 @@ use Rattle.demands.specs.Sums.{noPast, sentBy, reportedBy, lostBy, sum}
 use Rattle.demands.specs.Burst.{Arrival, deliver, Timely, Outstanding, psnOf, Newest, Of, Arrives, isDelivered, wasCovered}
 use Rattle.demands.specs.Samples.{SampleIs, AverageIs}
 
--- DEMAND 1. "A refusal carries the number that document 01 gives, is given exactly when 01 says so": the number is n exactly where a row of that number
--- applies and none before it does, of the event's rows in 01's order ..
+-- DEMAND 1. "A refusal carries the number that document 01 gives, is given exactly when 01 says so": the number is n exactly where a row of
+-- that number applies and none before it does, of the event's rows in 01's order ..
 abbrev pub NumberExact : Type 0
 NumberExact = (e : Event) (w : World) → Exact (rowsOf e w) (answer e w .number)
 
@@ -45,8 +45,8 @@ abbrev pub SetUpRefused : Type 0
 SetUpRefused = (s : Settings) (r : Ring) (times : List ℕ) → (onSetUp s r times .number ≡ 0 → ⊥)
     → onSetUp s r times .after ≡ world (freshState noSettings) r times
 
--- DEMAND 2. "After every accepted event, the window, delay average, base round trip, totals, state and next path are those of the NSCC rules as 01 fixes
--- them": the whole world, state and lent buffers, is what the rules make of it ..
+-- DEMAND 2. "After every accepted event, the window, delay average, base round trip, totals, state and next path are those of the NSCC
+-- rules as 01 fixes them": the whole world, state and lent buffers, is what the rules make of it ..
 abbrev pub RulesHold : Type 0
 RulesHold = (e : Event) (w : World) → answer e w .number ≡ 0 → answer e w .after ≡ stepOf e w
 
@@ -76,11 +76,13 @@ CwndBetween = (s : Settings) (r : Ring) (times : List ℕ) (w : World) (es : Lis
 -- DEMAND 2. "In-flight bytes equal sent less reported less taken out as lost, summed from set-up on"
 abbrev pub History : Type 0
 History = (s : Settings) (r : Ring) (times : List ℕ) (w : World) (es : List Event) → SetUp s r times w
-    → run w es .state .totals .«in_flight» ≡ pos (sum sentBy w noPast es) -ℤ pos (sum reportedBy w noPast es) -ℤ pos (sum lostBy w noPast es)
+    → run w es .state .totals .«in_flight» ≡ pos (sum sentBy w noPast es) -ℤ pos (sum reportedBy w noPast es)
+    -ℤ pos (sum lostBy w noPast es)
 
 -- DEMAND 2. "A round-trip sample is taken exactly when 01 says one exists": on an ACK, of its trigger packet ..
 abbrev pub AckSampled : Type 0
-AckSampled = (time ticks : ℕ) (a : Ack) (w : World) → (ackSample time a w ≡ Ticks ticks) ↔ SampleIs w (a .trigger) (a .retx) time (a .service) ticks
+AckSampled = (time ticks : ℕ) (a : Ack) (w : World) → (ackSample time a w ≡ Ticks ticks)
+    ↔ SampleIs w (a .trigger) (a .retx) time (a .service) ticks
 
 -- .. on a NACK, of its own packet, with service 0 ..
 abbrev pub NackSampled : Type 0
@@ -99,10 +101,11 @@ NackTakes = (time ticks : ℕ) (a : Nack) (w : World) → SampleIs w (a .psn) (a
 -- .. and no event changes the base round trip without one
 abbrev pub BaseStays : Type 0
 BaseStays = (e : Event) (w : World) → ((time : ℕ) (a : Ack) → e ≡ ack time a → ackSample time a w ≡ Absent)
-    → ((time : ℕ) (a : Nack) → e ≡ nack time a → nackSample time a w ≡ Absent) → answer e w .after .state .window .base ≡ w .state .window .base
+    → ((time : ℕ) (a : Nack) → e ≡ nack time a → nackSample time a w ≡ Absent)
+    → answer e w .after .state .window .base ≡ w .state .window .base
 
--- DEMAND 2. ".. delay average .. are those of the NSCC rules as 01 fixes them": after an accepted event the average is the one held before, fed exactly by
--- what 01 says, or not at all. (A refused one changes nothing: `RefusedSame`.)
+-- DEMAND 2. ".. delay average .. are those of the NSCC rules as 01 fixes them": after an accepted event the average is the one held before,
+-- fed exactly by what 01 says, or not at all. (A refused one changes nothing: `RefusedSame`.)
 abbrev pub AverageFed : Type 0
 AverageFed = (e : Event) (w : World) → answer e w .number ≡ 0 → AverageIs e w (answer e w .after .state .window .avg)
 

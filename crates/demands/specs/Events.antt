@@ -43,7 +43,8 @@ answer (nack time a) w = onNack time a w
 answer (loss time a) w = onLoss time a w
 answer (path time) w = record { number = onPath time w .number; after = onPath time w .after }
 
--- the world that document 01's rules make of one by an event that no row refuses: the ledger, then the window in its order, the EV times, the state's name
+-- the world that document 01's rules make of one by an event that no row refuses: the ledger, then the window in its order,
+-- the EV times, the state's name
 abbrev pub stepOf : Event → World → World
 stepOf (newData time bytes) w = newDataStep time bytes w
 stepOf (send time a) w = sendStep time a w

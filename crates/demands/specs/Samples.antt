@@ -1,5 +1,5 @@
--- When 01 says that a round-trip sample exists, over the ring before the event, and what the delay average is after it. The filter is written down here once
--- more, in 01's words, and not taken from the window's rules: that both are the same is proved.
+-- When 01 says that a round-trip sample exists, over the ring before the event, and what the delay average is after it. The filter is
+-- written down here once more, in 01's words, and not taken from the window's rules: that both are the same is proved.
 -- Assumes nothing.
 use mathlib.Core.Path.{_≡_}
 use mathlib.Core.Logic.{_⊎_}
@@ -17,10 +17,11 @@ use Rattle.demands.specs.Events.{Event, newData, send, ack, nack, loss, 
 abbrev pub OneCopy : ℕ → Bool → Type 0
 OneCopy resent retx = ((resent ≡ 0) × (retx ≡ false)) ⊎ ((resent ≡ 1) × (retx ≡ true))
 
--- "A sample exists if the trigger packet is flying or marked before the ACK, and its resend count .., and now - sent - service is at least 1."
--- "A sample above 2^20 counts as 2^20."
+-- "A sample exists if the trigger packet is flying or marked before the ACK, and its resend count .., and now - sent - service is at least
+-- 1." "A sample above 2^20 counts as 2^20."
 pub record SampleIs (w : World) (psn : ℕ) (retx : Bool) (time service ticks : ℕ) : Type 0 where
-  pub outstanding : (packetOf (w .state .flow) (w .slots) psn .status ≡ flyingStatus) ⊎ (packetOf (w .state .flow) (w .slots) psn .status ≡ markedStatus)
+  pub outstanding : (packetOf (w .state .flow) (w .slots) psn .status ≡ flyingStatus)
+      ⊎ (packetOf (w .state .flow) (w .slots) psn .status ≡ markedStatus)
   pub copy : OneCopy (packetOf (w .state .flow) (w .slots) psn .resent) retx
   pub positive : packetOf (w .state .flow) (w .slots) psn .sent + service + 1 ≤ time
   pub ticks-is : ticks ≡ min (time - packetOf (w .state .flow) (w .slots) psn .sent - service) sampleMost

@@ -1,5 +1,5 @@
--- What a history's accepted events sent, reported and took out as lost. The sums know nothing of the state: what a count newly reports they take from the
--- counts that came before, and what a lost packet had in bytes from the event that sent it.
+-- What a history's accepted events sent, reported and took out as lost. The sums know nothing of the state: what a count newly reports they
+-- take from the counts that came before, and what a lost packet had in bytes from the event that sent it.
 -- Assumes nothing.
 use mathlib.Core.List.{List, [], _∷_}
 use Prim.Native.Nat.{ℕ, _+_, _%_}

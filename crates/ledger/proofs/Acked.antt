@@ -1,5 +1,5 @@
--- An ACK's ledger step: what its two halves ask holds, together they give the definition, and the ledger that is left holds together. By the
--- laws of queues, the facts of a ledger that holds together, and the one theorem that keeps them.
+-- An ACK's ledger step: what its two halves ask holds, together they give the definition, and the ledger that is left holds together. By
+-- the laws of queues, the facts of a ledger that holds together, and the one theorem that keeps them.
 -- Assumes nothing.
 use mathlib.Core.Path.{_≡_, sym, ap, ap₂, _∙_, subst}
 use mathlib.Core.Bool.{Bool, true, _&&_}
@@ -17,7 +17,8 @@ use Rattle.rules.specs.Rows.{firstOf}
 use Rattle.serial.specs.Psn.{plus, covered, backOf, spanOf}
 use Rattle.serial.specs.Count.{counts, isOld}
 use Rattle.serial.proofs.Cover.{plus-lt, minus-step, sent-facts, beyond}
-use Rattle.ledger.specs.Packets.{doneStatus, noPacket, withStatus, isOut, flyingOne, markedOne, markedSize, sumOf, coverOne, coverAll, coveredSum, doneRun}
+use Rattle.ledger.specs.Packets.{doneStatus, noPacket, withStatus, isOut, flyingOne, markedOne, markedSize, sumOf, coverOne, coverAll}
+use Rattle.ledger.specs.Packets.{coveredSum, doneRun}
 use Rattle.ledger.specs.Bounds.{Flown}
 use Rattle.ledger.specs.Ring.{Ring, Ledger, ledger, capOf, laid, queueOf, longOf, packets}
 use Rattle.ledger.specs.Sound.{SoundLedger, isCapacity, stands, soundLedger}
@@ -28,8 +29,10 @@ use Rattle.ledger.specs.declared.Flow.{Flow}
 use Rattle.ledger.specs.declared.Totals.{Totals}
 use Rattle.ledger.specs.declared.Packet.{Packet}
 use Rattle.ledger.proofs.Geometry.{cap-facts, laid-cap, laid-even, queue-laid}
-use Rattle.ledger.proofs.Facts.{Live, live-later, Facts, packets-long, stands-facts, stands-laid, packets-laid, tallies-facts, tallies-test, sound-ledger-parts, sound-ledger-whole, sound-ledger-facts}
-use Rattle.ledger.proofs.Queues.{OfOut, flying-out, marked-out, bytes-out, cover-long, cover-each, cover-sum, run-adds, run-le, run-next}
+use Rattle.ledger.proofs.Facts.{Live, live-later, Facts, packets-long, stands-facts, stands-laid, packets-laid, tallies-facts}
+use Rattle.ledger.proofs.Facts.{tallies-test, sound-ledger-parts, sound-ledger-whole, sound-ledger-facts}
+use Rattle.ledger.proofs.Queues.{OfOut, flying-out, marked-out, bytes-out, cover-long, cover-each, cover-sum, run-adds, run-le}
+use Rattle.ledger.proofs.Queues.{run-next}
 use Rattle.ledger.proofs.Signs.{word, flown-word, flown-less, sound-ledger-flown}
 use Rattle.ledger.proofs.Judging.{ack-facts}
 
@@ -112,7 +115,8 @@ module _ {l : Ledger} {n : ℕ} (K : SoundLedger l) (is-long : n ≡ longOf (l .
     less-asks = flown-word (t .«in_flight») flown
 
     -- and together they give the definition
-    pub acked : (count : ℕ) {gone low held bytes : ℕ} {z : ℤ} {s : Ring} → Retired r (l .flow .low) n gone s → low ≡ plus (l .flow .low) gone
+    pub acked : (count : ℕ) {gone low held bytes : ℕ} {z : ℤ} {s : Ring} → Retired r (l .flow .low) n gone s
+        → low ≡ plus (l .flow .low) gone
         → held ≡ heldOf count (l .flow .held) → bytes ≡ newlyOf count (l .flow .held) → z ≡ toZ w64 (ofZ w64 (t .«in_flight»)) -ℤ pos bytes
         → ledger (record { low = low; next = l .flow .next; held = held; backlog = l .flow .backlog })
         (record { flying = t .flying; marked = t .marked; «marked_bytes» = t .«marked_bytes»; «in_flight» = z }) s
@@ -121,7 +125,8 @@ module _ {l : Ledger} {n : ℕ} (K : SoundLedger l) (is-long : n ≡ longOf (l .
     acked count {gone} R el eh eb ez =
         let q : queueOf r (l .flow .low) n ≡ after =
         ap (λ (x : Ring). queueOf x (l .flow .low) n) (D .ring-is)
-        ∙ queue-laid (capOf (l .slots)) (cap-facts (capOf (l .slots)) (F .cap)) (l .flow .low) after n after-long (omega (arith, F .fits)) in
+        ∙ queue-laid (capOf (l .slots)) (cap-facts (capOf (l .slots)) (F .cap)) (l .flow .low) after n after-long
+        (omega (arith, F .fits)) in
         let g : gone ≡ doneRun after = R .run ∙ ap doneRun q in
         let c : capOf r ≡ capOf (l .slots) = ap capOf (D .ring-is) ∙ laid-cap (capOf (l .slots)) (l .flow .low) after in
         rw (el, eh, ez, word (t .«in_flight») flown, eb, D .flying, D .marked, D .bytes, D .in-flight, R .ring-is, c, q, g)
@@ -173,7 +178,8 @@ module _ (cum map count mtu clock : ℕ) (l : Ledger) (e : stands mtu clock (l .
   counts-left = omega (arith, left-long, minus-step (l .flow .low) (l .flow .next) (doneRun ys) (omega (arith, run-le ys, ys-long)))
 
   -- the flow and its ring
-  pub acked-stands : (time : ℕ) → count < counts → clock ≤ time → stands mtu time (ackedOf cum map count l .flow) (ackedOf cum map count l .slots) ≡ true
+  pub acked-stands : (time : ℕ) → count < counts → clock ≤ time
+      → stands mtu time (ackedOf cum map count l .flow) (ackedOf cum map count l .slots) ≡ true
   unfolding ackedOf
   acked-stands time hc ht =
       stands-laid (capOf (l .slots)) (ackedOf cum map count l .flow) (drop (doneRun ys) ys) (S .cap) mtu time
@@ -196,7 +202,8 @@ module _ (cum map count mtu clock : ℕ) (l : Ledger) (e : stands mtu clock (l .
       ≡ sumOf adds (packets (l .flow) (l .slots))
   unfolding ackedOf
   acked-sum adds z =
-      rw (packets-laid (capOf (l .slots)) (ackedOf cum map count l .flow) (drop (doneRun ys) ys) (S .cap) counts-left (omega (arith, left-long, S .fits)))
+      rw (packets-laid (capOf (l .slots)) (ackedOf cum map count l .flow) (drop (doneRun ys) ys) (S .cap) counts-left
+      (omega (arith, left-long, S .fits)))
       (omega (arith, run-adds adds z ys, cover-sum adds z (covered cum map) (l .flow .low) xs))
 
 -- the whole ledger

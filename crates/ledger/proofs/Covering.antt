@@ -1,5 +1,5 @@
--- The loop that covers a run of slots, over lists and numbers: its invariant, where it starts, one turn, what it leaves for the next run, and the end
--- of the last. By the laws of queues and of the ring.
+-- The loop that covers a run of slots, over lists and numbers: its invariant, where it starts, one turn, what it leaves for the next run,
+-- and the end of the last. By the laws of queues and of the ring.
 -- Assumes nothing.
 use mathlib.Core.Path.{_≡_, refl, sym, ap, ap₂, _∙_, subst}
 use mathlib.Core.Bool.{Bool, true, false, _&&_, _||_}
@@ -15,14 +15,16 @@ use borrow.Author.Tests.{eqb-true, ne-eqb}
 use Rattle.rules.specs.Branch.{ifSo, so-yes, eq-yes, eq-no}
 use Rattle.rules.specs.Test.{both}
 use Rattle.serial.specs.Psn.{psns, plus, covered}
-use Rattle.ledger.specs.Packets.{flyingStatus, markedStatus, doneStatus, noPacket, withStatus, isFlying, isMarked, isOut, flyingOne, markedOne, markedSize, sumOf, coverOne, coverAll, coveredSum}
+use Rattle.ledger.specs.Packets.{flyingStatus, markedStatus, doneStatus, noPacket, withStatus, isFlying, isMarked, isOut, flyingOne}
+use Rattle.ledger.specs.Packets.{markedOne, markedSize, sumOf, coverOne, coverAll, coveredSum}
 use Rattle.ledger.specs.Ring.{Ring, Ledger, ring, ledger, capOf, packetAt, placeOf, laid, queueOf, longOf, packets}
 use Rattle.ledger.specs.Sound.{isCapacity}
 use Rattle.ledger.specs.Delivery.{Laid, Cover, Covered}
 use Rattle.ledger.specs.declared.Packet.{Packet}
 use Rattle.ledger.specs.declared.Totals.{Totals}
 use Rattle.ledger.proofs.Geometry.{Cap, cap-facts, place-first, place-flat, queue-long, queue-laid, laid-cap, laid-at, laid-status}
-use Rattle.ledger.proofs.Queues.{OfOut, flying-out, marked-out, bytes-out, cover-out, spared, spared-adds, coverTo, to-long, to-at, to-more, to-whole, Beyond, taken-more, taken-le, taken-whole, covered-le}
+use Rattle.ledger.proofs.Queues.{OfOut, flying-out, marked-out, bytes-out, cover-out, spared, spared-adds, coverTo, to-long, to-at}
+use Rattle.ledger.proofs.Queues.{to-more, to-whole, Beyond, taken-more, taken-le, taken-whole, covered-le}
 use Rattle.ledger.proofs.Settling.{Settled, to-same, to-settled, to-all, taken-same, to-sum, to-left}
 
 -- the packets at the start, and what the first k of them have of it that is covered
@@ -108,7 +110,8 @@ module _ {l : Ledger} {reach cum map : ℕ} (P : Cover l reach cum map) where
         ring-is =
             laid-so
             ∙ ap (laid (capOf (l .slots)) (l .flow .low))
-            (sym (to-same (covered cum map) (l .flow .low) reach (queue l) b h) ∙ to-whole (covered cum map) (l .flow .low) reach (queue l) b past);
+            (sym (to-same (covered cum map) (l .flow .low) reach (queue l) b h)
+            ∙ to-whole (covered cum map) (l .flow .low) reach (queue l) b past);
         flying = omega (arith, nothing flyingOne flying-out);
         marked = omega (arith, nothing markedOne marked-out);
         bytes = omega (arith, nothing markedSize bytes-out);
@@ -251,7 +254,8 @@ module _ {l : Ledger} {reach cum map k from to : ℕ} {status : List ℕ} {flyin
 
     -- it stands in slot i
     place : i ≡ placeOf (capOf (l .slots)) (l .flow .low) seen
-    place = sym (place-run (capOf (l .slots)) (caps P) (l .flow .low) k from i (I .run .starts-at) (I .past) (omega (arith, I .run .in-ring)))
+    place = sym (place-run (capOf (l .slots)) (caps P) (l .flow .low) k from i (I .run .starts-at) (I .past)
+        (omega (arith, I .run .in-ring)))
 
     here : packetAt (ring status (l .slots .size) (l .slots .sent) (l .slots .resent)) i ≡ one
     here =
@@ -348,9 +352,11 @@ module _ {l : Ledger} {reach cum map k from to : ℕ} {status : List ℕ} {flyin
 
         pub its-bytes : Left markedSize bytes (l .totals .«marked_bytes») (getD (l .slots .size) i 0)
         unfolding markedSize
-        its-bytes = bytes-left (getD (l .slots .size) i 0) (leaves-whole (eq-yes (one .status) markedStatus (getD (l .slots .size) i 0) (one .size) 0 is-marked size-is))
+        its-bytes = bytes-left (getD (l .slots .size) i 0) (leaves-whole
+            (eq-yes (one .status) markedStatus (getD (l .slots .size) i 0) (one .size) 0 is-marked size-is))
 
-        pub sums-marked : {f n y : ℕ} → f ≡ flying → n ≡ marked - 1 → y ≡ bytes - getD (l .slots .size) i 0 → Sums l cum map f n y (seen + 1)
+        pub sums-marked : {f n y : ℕ} → f ≡ flying → n ≡ marked - 1 → y ≡ bytes - getD (l .slots .size) i 0
+            → Sums l cum map f n y (seen + 1)
         sums-marked ef en ey =
             record {
               flying-is = omega (arith, no-flying .1);
@@ -365,7 +371,8 @@ module _ {l : Ledger} {reach cum map k from to : ℕ} {status : List ℕ} {flyin
 
         is-flying : one .status ≡ flyingStatus
         unfolding isOut isFlying isMarked
-        is-flying = eqb-true (one .status) flyingStatus (first (eqb (one .status) flyingStatus) _ (ne-eqb (one .status) markedStatus not-marked) (told .0))
+        is-flying = eqb-true (one .status) flyingStatus (first (eqb (one .status) flyingStatus) _
+            (ne-eqb (one .status) markedStatus not-marked) (told .0))
 
         pub one-flying : Left flyingOne flying (l .totals .flying) 1
         unfolding flyingOne

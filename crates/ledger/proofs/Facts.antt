@@ -1,5 +1,5 @@
--- What a sound ledger tells, fact by fact, and the way back: a queue of live packets, laid out, with a flow that counts it, holds together (`stands-laid`).
--- By the laws of walks and the ring's geometry.
+-- What a sound ledger tells, fact by fact, and the way back: a queue of live packets, laid out, with a flow that counts it, holds together
+-- (`stands-laid`). By the laws of walks and the ring's geometry.
 -- Assumes nothing.
 use mathlib.Core.Path.{_≡_, refl, sym, ap, _∙_, subst, fun-ext}
 use mathlib.Core.Bool.{Bool, true, false, _&&_, and-true}
@@ -19,8 +19,10 @@ use Rattle.serial.specs.Psn.{psns}
 use Rattle.serial.specs.Count.{counts}
 use Rattle.ledger.specs.Packets.{flyingStatus, doneStatus, noPacket, isDone, flyingOne, markedOne, markedSize, sumOf}
 use Rattle.ledger.specs.Bounds.{sizeLeast, resentMost, backlogMost, inBounds, Flown}
-use Rattle.ledger.specs.Ring.{Ring, Ledger, ledger, tabulate, capOf, packetAt, placeOf, longOf, laid, queueOf, packets, offsetOf, packetOf}
-use Rattle.ledger.specs.Sound.{allTo, isCapacity, isRing, isLive, isZero, slotOk, headOk, stands, tallies, soundLedger, Even, SoundLedger, Tallied}
+use Rattle.ledger.specs.Ring.{Ring, Ledger, ledger, tabulate, capOf, packetAt, placeOf, longOf, laid, queueOf, packets, offsetOf}
+use Rattle.ledger.specs.Ring.{packetOf}
+use Rattle.ledger.specs.Sound.{allTo, isCapacity, isRing, isLive, isZero, slotOk, headOk, stands, tallies, soundLedger, Even}
+use Rattle.ledger.specs.Sound.{SoundLedger, Tallied}
 use Rattle.ledger.specs.declared.Flow.{Flow}
 use Rattle.ledger.specs.declared.Totals.{Totals}
 use Rattle.ledger.specs.declared.Packet.{Packet}
@@ -94,7 +96,8 @@ module _ (mtu clock : ℕ) (x : Packet) where
       let p = both (b && eqb (x .sent) 0) (eqb (x .resent) 0) e in
       let q = both b (eqb (x .sent) 0) (p .0) in
       let r = both a (eqb (x .size) 0) (q .0) in
-      packets-same (eqb-true (x .status) 0 (r .0)) (eqb-true (x .size) 0 (r .1)) (eqb-true (x .sent) 0 (q .1)) (eqb-true (x .resent) 0 (p .1))
+      packets-same (eqb-true (x .status) 0 (r .0)) (eqb-true (x .size) 0 (r .1)) (eqb-true (x .sent) 0 (q .1))
+      (eqb-true (x .resent) 0 (p .1))
 
   zero-test : x ≡ noPacket → isZero x ≡ true
   unfolding isZero
@@ -216,7 +219,8 @@ module _ (mtu clock : ℕ) (f : Flow) (r : Ring) where
         fits = le;
         live =
             λ k h. rw (queue-at r (f .low) n k h)
-            (live-facts mtu clock (packetAt r (placeOf (capOf r) (f .low) k)) (sym (slot-live mtu clock r (f .low) n k h) ∙ ok k (omega arith)));
+            (live-facts mtu clock (packetAt r (placeOf (capOf r) (f .low) k))
+            (sym (slot-live mtu clock r (f .low) n k h) ∙ ok k (omega arith)));
         laid-so =
             laid-queue (capOf r) (cap-facts (capOf r) (R .0)) (f .low) r n (R .1) refl le
             (λ k h l.
@@ -252,7 +256,8 @@ module _ (cap : ℕ) (f : Flow) (xs : List Packet) (ok : isCapacity cap ≡ true
   at k h =
       ap (λ (c : ℕ). packetAt (laid cap (f .low) xs) (placeOf c (f .low) k)) (laid-cap cap (f .low) xs) ∙ laid-at cap C (f .low) xs k h
 
-  -- THE KEEPING THEOREM: the layout of a queue of live packets that does not begin with a done one holds together with a flow that counts it
+  -- THE KEEPING THEOREM: the layout of a queue of live packets that does not begin with a done one holds
+  -- together with a flow that counts it
   pub stands-laid : (mtu clock : ℕ) → length xs ≤ cap → ((k : ℕ) → k < length xs → Live mtu clock (getD xs k noPacket))
       → (0 < length xs → isDone (getD xs 0 noPacket) ≡ false) → longOf f ≡ length xs
       → f .low < psns → f .next < psns → f .held < counts → f .backlog ≤ backlogMost
@@ -297,7 +302,10 @@ stands-later mtu a b f r e h =
 pub flown-facts : (maxwnd : ℕ) (z : ℤ) → inBounds maxwnd z ≡ true → Flown maxwnd z
 unfolding inBounds
 flown-facts maxwnd (pos n) e = record { low = omega arith; high = leb-true n maxwnd (both true (leb n maxwnd) e .1) }
-flown-facts maxwnd (negsuc n) e = record { low = omega (arith, leb-true n (2 ^ 24 - 1) (both (leb n (2 ^ 24 - 1)) true e .0)); high = omega arith }
+flown-facts maxwnd (negsuc n) e = record {
+  low = omega (arith, leb-true n (2 ^ 24 - 1) (both (leb n (2 ^ 24 - 1)) true e .0));
+  high = omega arith;
+}
 
 pub flown-test : (maxwnd : ℕ) (z : ℤ) → Flown maxwnd z → inBounds maxwnd z ≡ true
 unfolding inBounds
@@ -366,12 +374,27 @@ module _ (mtu maxwnd clock : ℕ) (l : Ledger) where
         maxwnd-high = hw;
         stands-so = p .0;
         flying-least = omega (arith, T .0);
-        flying-most = omega (arith, T .0, few-sum flyingOne 1 F (λ x s. eq-both (λ (a : ℕ). a ≤ 1) (x .status) 1 1 0 (λ q. omega arith) (λ q. omega arith)));
+        flying-most = omega (
+          arith,
+          T .0,
+          few-sum flyingOne 1 F
+              (λ x s. eq-both (λ (a : ℕ). a ≤ 1) (x .status) 1 1 0 (λ q. omega arith) (λ q. omega arith)),
+        );
         marked-least = omega (arith, T .1);
-        marked-most = omega (arith, T .1, few-sum markedOne 1 F (λ x s. eq-both (λ (a : ℕ). a ≤ 1) (x .status) 2 1 0 (λ q. omega arith) (λ q. omega arith)));
+        marked-most = omega (
+          arith,
+          T .1,
+          few-sum markedOne 1 F
+              (λ x s. eq-both (λ (a : ℕ). a ≤ 1) (x .status) 2 1 0 (λ q. omega arith) (λ q. omega arith)),
+        );
         bytes-least = omega (arith, T .2);
         bytes-most =
-            omega (arith, T .2, few-sum markedSize (2 ^ 14) F (λ x s. eq-both (λ (a : ℕ). a ≤ 2 ^ 14) (x .status) 2 (x .size) 0 (λ q. omega arith) (λ q. omega arith)));
+            omega (
+              arith,
+              T .2,
+              few-sum markedSize (2 ^ 14) F (λ x s. eq-both (λ (a : ℕ). a ≤ 2 ^ 14) (x .status) 2 (x .size) 0
+                  (λ q. omega arith) (λ q. omega arith)),
+            );
         flown = T .3;
       }
 
@@ -393,7 +416,8 @@ module _ (mtu clock : ℕ) (r : Ring) (C : Cap (capOf r)) (low : ℕ) where
   unfolding queueOf
   queue-low n = ap (λ (f : ℕ → Packet). tabulate f n) (fun-ext (λ k. ap (packetAt r) (place-low (capOf r) C low k)))
 
-  pub tally-low : (a m n : ℕ) (s : Bool) (x y z : ℕ) → a ≡ low % capOf r → m ≡ n → Tallied mtu clock r a m s x y z → Tallied mtu clock r low n s x y z
+  pub tally-low : (a m n : ℕ) (s : Bool) (x y z : ℕ) → a ≡ low % capOf r → m ≡ n → Tallied mtu clock r a m s x y z
+      → Tallied mtu clock r low n s x y z
   tally-low a m n s x y z ea em T =
       let U : Tallied mtu clock r (low % capOf r) n s x y z = rw (ea, em) at T in
       record {
@@ -456,14 +480,16 @@ module _ (mtu maxwnd clock : ℕ) (f : Flow) (t : Totals) (r : Ring) (n : ℕ) (
   pub all-tests : isRing r ≡ true → n ≤ capOf r → (s a h b : Bool) (x y z : ℕ) → Tallied mtu clock r (f .low) n s x y z
       → a ≡ allTo (slotOk mtu clock r (f .low) n) (capOf r) → h ≡ headOk r (f .low) n → b ≡ inBounds maxwnd (t .«in_flight»)
       → f .low < psns → f .next < psns
-      → (a && h && ltb (f .held) counts && leb (f .backlog) backlogMost && eqb (t .flying) x && eqb (t .marked) y && eqb (t .«marked_bytes») z && b)
+      → (a && h && ltb (f .held) counts && leb (f .backlog) backlogMost && eqb (t .flying) x && eqb (t .marked) y
+      && eqb (t .«marked_bytes») z && b)
       ≡ soundLedger mtu maxwnd clock (ledger f t r)
   unfolding soundLedger stands tallies packets
   all-tests ok l s a h b x y z T ea eh eb low next =
       rw (ea, eh, eb, T .flying-is, T .marked-is, T .bytes-is, e, ok, le-leb (longOf f) (capOf r) (rw e at l))
       (simp (lt-ltb (f .low) psns low, lt-ltb (f .next) psns next, and-true)
       (regroup
-      (allTo (slotOk mtu clock r (f .low) (longOf f)) (capOf r) && headOk r (f .low) (longOf f) && ltb (f .held) counts && leb (f .backlog) backlogMost)
+      (allTo (slotOk mtu clock r (f .low) (longOf f)) (capOf r) && headOk r (f .low) (longOf f) && ltb (f .held) counts
+      && leb (f .backlog) backlogMost)
       (eqb (t .flying) (sumOf flyingOne (packets f r)))
       (eqb (t .marked) (sumOf markedOne (packets f r)))
       (eqb (t .«marked_bytes») (sumOf markedSize (packets f r)))

@@ -1,12 +1,13 @@
--- The ring's geometry: a packet's place, and a queue laid over the slots and read back. Each law is proved for one slice (`lay`), by the slices'
--- elements at the places of the packets 0 to cap - 1 after low; the four slices are then put together.
+-- The ring's geometry: a packet's place, and a queue laid over the slots and read back. Each law is proved for one slice (`lay`), by the
+-- slices' elements at the places of the packets 0 to cap - 1 after low; the four slices are then put together.
 -- Assumes nothing.
 use mathlib.Core.Path.{_≡_, refl, sym, ap, _∙_, subst}
 use mathlib.Core.Bool.{Bool, true, false, _||_}
 use mathlib.Core.Logic.{_⊎_, inl, inr, ⊎-elim, by-cases}
 use mathlib.Core.List.{List, [], _∷_, _++_}
 use Prim.Native.Nat.{ℕ, suc, _+_, _-_, _^_, _%_, _≤_, _<_}
-use native.Mathlib.Nat.{mod-eq-of-lt, mod-eq-sub-mod, mod-lt, mod-mod, mod-add-mod, mod-mod-of-dvd, dvd-of-mod-eq-zero, add-mod-right, add-zero, add-assoc}
+use native.Mathlib.Nat.{mod-eq-of-lt, mod-eq-sub-mod, mod-lt, mod-mod, mod-add-mod, mod-mod-of-dvd, dvd-of-mod-eq-zero, add-mod-right}
+use native.Mathlib.Nat.{add-zero, add-assoc}
 use native.Mathlib.Decide.{decLe}
 use native.Mathlib.Omega.{arith}
 use lib.ListN.{length, getD, set, length-set, length-append, List·getD-append, List·getD-eq-default}
@@ -18,7 +19,8 @@ use Rattle.serial.specs.Wrap.{minus}
 use Rattle.serial.specs.Psn.{psns, plus}
 use Rattle.serial.proofs.Cover.{plus-plus, plus-minus}
 use Rattle.ledger.specs.Packets.{noPacket, withStatus}
-use Rattle.ledger.specs.Ring.{Ring, ring, packetAt, putAt, placeOf, ageOf, lay, laid, queueOf, capOf, longOf, packets, offsetOf, packetOf}
+use Rattle.ledger.specs.Ring.{Ring, ring, packetAt, putAt, placeOf, ageOf, lay, laid, queueOf, capOf, longOf, packets, offsetOf}
+use Rattle.ledger.specs.Ring.{packetOf}
 use Rattle.ledger.specs.Sound.{isCapacity, Even}
 use Rattle.ledger.specs.declared.Packet.{Packet}
 use Rattle.ledger.specs.declared.Flow.{Flow}
@@ -26,7 +28,8 @@ use Rattle.ledger.proofs.Walks.{length-tabulate, getD-tabulate, tabulat
 
 -- ---- capacities
 
--- what the laws use of a capacity: its bounds, that it divides 2^32, so that PSNs that wrap keep their places, and that a remainder is a mask
+-- what the laws use of a capacity: its bounds, that it divides 2^32, so that PSNs that wrap keep their places,
+-- and that a remainder is a mask
 pub record Cap (n : ℕ) : Type 0 where
   pub least : 64 ≤ n
   pub most : n ≤ 4096
@@ -238,16 +241,19 @@ module _ (field : Packet → ℕ) where
         lay-of low (set (lay field cap low xs) (placeOf cap low k) (field x)) ys (simp (length-set, length-lay cap low xs))
         (λ j l. eq-cases j k (λ s. same j s) (λ n. other j l n))
       where
-        same : (j : ℕ) → j ≡ k → getD (set (lay field cap low xs) (placeOf cap low k) (field x)) (placeOf cap low j) 0 ≡ field (getD ys j noPacket)
+        same : (j : ℕ) → j ≡ k → getD (set (lay field cap low xs) (placeOf cap low k) (field x)) (placeOf cap low j) 0
+            ≡ field (getD ys j noPacket)
         same j s =
             rw s
-            (getD-set-same (lay field cap low xs) (placeOf cap low k) (field x) 0 (omega (arith, place-lt cap C low k, length-lay cap low xs))
+            (getD-set-same (lay field cap low xs) (placeOf cap low k) (field x) 0
+            (omega (arith, place-lt cap C low k, length-lay cap low xs))
             ∙ ap field (sym e))
 
         other : (j : ℕ) → j < cap → (j ≡ k → ⊥)
             → getD (set (lay field cap low xs) (placeOf cap low k) (field x)) (placeOf cap low j) 0 ≡ field (getD ys j noPacket)
         other j l n =
-            getD-set-other (lay field cap low xs) (placeOf cap low k) (placeOf cap low j) (field x) 0 (λ q. n (place-inj cap C low j k l h q))
+            getD-set-other (lay field cap low xs) (placeOf cap low k) (placeOf cap low j) (field x) 0
+            (λ q. n (place-inj cap C low j k l h q))
             ∙ lay-at low xs j l
             ∙ ap field (o j l n)
 
@@ -262,9 +268,11 @@ module _ (field : Packet → ℕ) where
             ap (λ (i : ℕ). getD (lay field cap low (noPacket ∷ xs)) i 0) (place-plus cap low 1 k ∙ ap (placeOf cap low) (omega arith))
             ∙ lay-at low (noPacket ∷ xs) (suc k) l
 
-        last : (k : ℕ) → k < cap → cap ≤ suc k → getD (lay field cap low (noPacket ∷ xs)) (placeOf cap (plus low 1) k) 0 ≡ field (getD xs k noPacket)
+        last : (k : ℕ) → k < cap → cap ≤ suc k → getD (lay field cap low (noPacket ∷ xs)) (placeOf cap (plus low 1) k) 0
+            ≡ field (getD xs k noPacket)
         last k l p =
-            ap (λ (i : ℕ). getD (lay field cap low (noPacket ∷ xs)) i 0) (place-plus cap low 1 k ∙ ap (placeOf cap low) (omega arith) ∙ place-round cap C low)
+            ap (λ (i : ℕ). getD (lay field cap low (noPacket ∷ xs)) i 0)
+            (place-plus cap low 1 k ∙ ap (placeOf cap low) (omega arith) ∙ place-round cap C low)
             ∙ lay-at low (noPacket ∷ xs) 0 (omega arith)
             ∙ ap field (sym (List·getD-eq-default xs noPacket (omega arith)))
 

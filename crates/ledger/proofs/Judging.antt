@@ -51,7 +51,8 @@ module _ (f : Flow) (cap psn size : ℕ) where
 module _ (f : Flow) (r : Ring) (psn size : ℕ) where
   -- the row's test, of the packet that the code finds
   test-8 : (x : Packet) → x ≡ packetOf f r psn
-      → (not (eqb (x .status) markedStatus) || not (eqb size (x .size))) ≡ (not (isMarked (packetOf f r psn)) || not (eqb size (packetOf f r psn .size)))
+      → (not (eqb (x .status) markedStatus) || not (eqb size (x .size)))
+      ≡ (not (isMarked (packetOf f r psn)) || not (eqb size (packetOf f r psn .size)))
   unfolding isMarked
   test-8 x e = ap (λ (y : Packet). not (eqb (y .status) markedStatus) || not (eqb size (y .size))) e
 
@@ -82,7 +83,8 @@ module _ (f : Flow) (z : ℤ) (cum map count : ℕ) where
     pub ack-0 : sinks z (newlyOf count (f .held)) ≡ false → 0 ≡ firstOf (ackRows f z cum map count)
     ack-0 t = first-later 0 9 _ _ n9 (first-later 0 11 _ _ t first-none)
 
-  pub ack-facts : firstOf (ackRows f z cum map count) ≡ 0 → (unsentOrOld (f .next) cum map ≡ false) × (sinks z (newlyOf count (f .held)) ≡ false)
+  pub ack-facts : firstOf (ackRows f z cum map count) ≡ 0 → (unsentOrOld (f .next) cum map ≡ false)
+      × (sinks z (newlyOf count (f .held)) ≡ false)
   ack-facts e =
       let a = none-here 9 _ _ (omega arith) e in
       (a .0, none-here 11 _ _ (omega arith) (a .1) .0)

@@ -14,7 +14,8 @@ use lib.Seq.{drop-cons}
 use Rattle.rules.specs.Branch.{ifSo, ifEq, so-both, eq-both}
 use Rattle.serial.specs.Psn.{psns, plus}
 use Rattle.serial.proofs.Cover.{plus-plus, plus-lt}
-use Rattle.ledger.specs.Packets.{flyingStatus, markedStatus, doneStatus, noPacket, withStatus, isFlying, isMarked, isDone, isOut, flyingOne, markedOne, markedSize, sumOf, coverOne, coverAll, coveredSum, doneRun}
+use Rattle.ledger.specs.Packets.{flyingStatus, markedStatus, doneStatus, noPacket, withStatus, isFlying, isMarked, isDone, isOut}
+use Rattle.ledger.specs.Packets.{flyingOne, markedOne, markedSize, sumOf, coverOne, coverAll, coveredSum, doneRun}
 use Rattle.ledger.specs.declared.Packet.{Packet}
 
 -- ---- PSNs of a queue: packet 0 has the first one, packet k + 1 is packet k of the rest
@@ -158,7 +159,8 @@ module _ (cov : ℕ → Bool) where
   to-whole p (suc k) (x ∷ xs) b h =
       ap (λ (ys : List Packet). coverOne (cov p) x ∷ ys) (to-whole (plus p 1) k xs (plus-lt p 1) (beyond-next p k (length xs) h))
 
--- ---- what a queue adds up to: of the flying packets, the marked packets, the marked bytes, and anything that only packets that are out add to
+-- ---- what a queue adds up to: of the flying packets, the marked packets, the marked bytes,
+-- and anything that only packets that are out add to
 
 abbrev pub OfOut : (Packet → ℕ) → Type 0
 OfOut adds = (x : Packet) → isOut x ≡ false → adds x ≡ 0
@@ -226,7 +228,8 @@ module _ (adds : Packet → ℕ) (cov : ℕ → Bool) where
   taken-more p k xs b h = ap (λ (j : ℕ). coveredSum adds cov p (take j xs)) (add-one k) ∙ go p k xs b h
     where
       go : (p k : ℕ) (xs : List Packet) → p < psns → k < length xs
-          → coveredSum adds cov p (take (suc k) xs) ≡ coveredSum adds cov p (take k xs) + ifSo (cov (plus p k)) (adds (getD xs k noPacket)) 0
+          → coveredSum adds cov p (take (suc k) xs) ≡ coveredSum adds cov p (take k xs)
+          + ifSo (cov (plus p k)) (adds (getD xs k noPacket)) 0
       go p k [] b h = absurd (not-suc-le-zero h)
       go p zero (x ∷ xs) b h = rw (plus-none p b) (add-comm (ifSo (cov p) (adds x) 0) 0)
       go p (suc k) (x ∷ xs) b h = rw (← (plus-next p k)) (omega (arith, go (plus p 1) k xs (plus-lt p 1) (le-of-suc-le-suc h)))
@@ -245,7 +248,8 @@ module _ (adds : Packet → ℕ) (cov : ℕ → Bool) where
   taken-whole p zero (x ∷ xs) b h =
       so-both (λ (v : ℕ). 0 ≡ v + coveredSum adds cov (plus p 1) xs) (cov p) (adds x) 0
       (λ e. absurd (false≢true (sym (beyond-here cov p (length xs) b h) ∙ e)))
-      (λ e. taken-whole (plus p 1) zero xs (plus-lt p 1) (beyond-none cov p (length xs) h) ∙ sym (zero-add (coveredSum adds cov (plus p 1) xs)))
+      (λ e. taken-whole (plus p 1) zero xs (plus-lt p 1) (beyond-none cov p (length xs) h)
+      ∙ sym (zero-add (coveredSum adds cov (plus p 1) xs)))
   taken-whole p (suc k) [] b h = refl
   taken-whole p (suc k) (x ∷ xs) b h =
       ap (λ (s : ℕ). ifSo (cov p) (adds x) 0 + s) (taken-whole (plus p 1) k xs (plus-lt p 1) (beyond-next cov p k (length xs) h))
@@ -263,7 +267,8 @@ pub run-next : (xs : List Packet) → doneRun xs < length xs → isDone (getD xs
 unfolding doneRun isDone
 run-next [] h = absurd (not-suc-le-zero h)
 run-next (x ∷ xs) h =
-    eq-both (λ (g : ℕ). g < suc (length xs) → eqb (getD (x ∷ xs) g noPacket .status) doneStatus ≡ false) (x .status) doneStatus (suc (doneRun xs)) 0
+    eq-both (λ (g : ℕ). g < suc (length xs) → eqb (getD (x ∷ xs) g noPacket .status) doneStatus ≡ false) (x .status) doneStatus
+    (suc (doneRun xs)) 0
     (λ e l. run-next xs (le-of-suc-le-suc l)) (λ n l. ne-eqb (x .status) doneStatus n) h
 
 -- it goes on behind a done packet, and ends before one that is not and at the queue's end
@@ -321,7 +326,8 @@ module _ (c d : ℕ → Bool) where
       (doneRun ys + goneOf d q (drop (doneRun ys) ys) ≡ doneRun zs) × (leftOf d q (drop (doneRun ys) ys) ≡ drop (doneRun zs) zs)
 
   -- a done packet more in front
-  alike-more : (p : ℕ) (y z : Packet) (ys zs : List Packet) → isDone y ≡ true → isDone z ≡ true → Alike (plus p 1) ys zs → Alike p (y ∷ ys) (z ∷ zs)
+  alike-more : (p : ℕ) (y z : Packet) (ys zs : List Packet) → isDone y ≡ true → isDone z ≡ true → Alike (plus p 1) ys zs
+      → Alike p (y ∷ ys) (z ∷ zs)
   alike-more p y z ys zs e f ih = rw (run-one y ys e, run-one z zs f, ← (plus-next p (doneRun ys))) (suc-add _ _ ∙ ap suc (ih .0), ih .1)
 
   -- nothing leaves before d comes

@@ -1,5 +1,5 @@
--- The loop that clears the done packets at the front, over lists and numbers: its invariant, where it starts, one turn, and where it ends. By the
--- laws of queues and of the ring.
+-- The loop that clears the done packets at the front, over lists and numbers: its invariant, where it starts, one turn, and where it ends.
+-- By the laws of queues and of the ring.
 -- Assumes nothing.
 use mathlib.Core.Path.{_≡_, sym, ap, ap₂, _∙_, subst}
 use mathlib.Core.List.{_∷_}
@@ -16,7 +16,8 @@ use Rattle.ledger.specs.Ring.{Ring, capOf, packetAt, putAt, placeOf, lai
 use Rattle.ledger.specs.Sound.{Even}
 use Rattle.ledger.specs.Delivery.{Laid, Retired}
 use Rattle.ledger.specs.declared.Packet.{Packet}
-use Rattle.ledger.proofs.Geometry.{Cap, cap-facts, place-first, place-plus, place-lt, place-next, queue-long, laid-cap, laid-even, laid-at, laid-tail}
+use Rattle.ledger.proofs.Geometry.{Cap, cap-facts, place-first, place-plus, place-lt, place-next, queue-long, laid-cap, laid-even}
+use Rattle.ledger.proofs.Geometry.{laid-at, laid-tail}
 use Rattle.ledger.proofs.Queues.{plus-none, run-more, run-stop, run-end}
 
 -- the first k packets, all done, are gone; i is the slot of the next

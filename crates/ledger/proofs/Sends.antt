@@ -1,5 +1,5 @@
--- New data, a new packet and a resend: what the code's stores leave is the definition's ledger, and it holds together. A resend changes one packet of
--- the queue; the laws of one packet changed serve a mark too. By the ring's geometry and the keeping theorem.
+-- New data, a new packet and a resend: what the code's stores leave is the definition's ledger, and it holds together. A resend changes one
+-- packet of the queue; the laws of one packet changed serve a mark too. By the ring's geometry and the keeping theorem.
 -- Assumes nothing.
 use mathlib.Core.Path.{_≡_, refl, sym, ap, _∙_, subst}
 use mathlib.Core.Bool.{true, false}
@@ -22,7 +22,8 @@ use Rattle.serial.proofs.Cover.{plus-lt}
 use Rattle.ledger.specs.declared.Flow.{Flow}
 use Rattle.ledger.specs.declared.Totals.{Totals}
 use Rattle.ledger.specs.declared.Packet.{Packet}
-use Rattle.ledger.specs.Packets.{flyingStatus, markedStatus, noPacket, withStatus, isFlying, isMarked, isDone, flyingOne, markedOne, markedSize, sumOf}
+use Rattle.ledger.specs.Packets.{flyingStatus, markedStatus, noPacket, withStatus, isFlying, isMarked, isDone, flyingOne, markedOne}
+use Rattle.ledger.specs.Packets.{markedSize, sumOf}
 use Rattle.ledger.specs.Bounds.{sizeLeast, backlogMost, resentMost, Flown}
 use Rattle.ledger.specs.Ring.{Ring, ring, Ledger, ledger, capOf, putAt, placeOf, laid, longOf, packets, offsetOf, packetOf}
 use Rattle.ledger.specs.Sound.{stands, soundLedger, SoundLedger}
@@ -100,7 +101,8 @@ module _ (mtu clock : ℕ) (f : Flow) (r : Ring) (F : Facts mtu clock f r) (psn 
         ∙ ap (λ (j : ℕ). putAt (laid (capOf r) (f .low) (packets f r)) j y) here
         ∙ laid-put (capOf r) (cap-facts (capOf r) (F .cap)) (f .low) (packets f r) (offsetOf f psn) y within fit
 
-    pub status-changed : (s : ℕ) → ring (set (r .status) i s) (r .size) (r .sent) (r .resent) ≡ changed f r psn (withStatus s (packetOf f r psn))
+    pub status-changed : (s : ℕ) → ring (set (r .status) i s) (r .size) (r .sent) (r .resent)
+        ≡ changed f r psn (withStatus s (packetOf f r psn))
     unfolding changed packetOf
     status-changed s =
         ap (λ (q : Ring). ring (set (q .status) i s) (q .size) (q .sent) (q .resent)) (F .laid-so)
@@ -115,7 +117,8 @@ module _ (mtu clock : ℕ) (f : Flow) (r : Ring) (F : Facts mtu clock f r) (psn 
         packets-laid (capOf r) f (set (packets f r) (offsetOf f psn) y) (F .cap) (omega (arith, packets-long f r)) (omega (arith, fit))
 
     -- the sums, with what it added before and what it adds now
-    pub changed-sum : (adds : Packet → ℕ) → sumOf adds (packets f (changed f r psn y)) + adds (packetOf f r psn) ≡ sumOf adds (packets f r) + adds y
+    pub changed-sum : (adds : Packet → ℕ) → sumOf adds (packets f (changed f r psn y)) + adds (packetOf f r psn)
+        ≡ sumOf adds (packets f r) + adds y
     unfolding packetOf
     changed-sum adds = rw changed-packets (sum-set adds (packets f r) (offsetOf f psn) y within)
 
@@ -172,7 +175,8 @@ supply-stands mtu clock time bytes f r F later few =
     (λ k l. live-later later (F .live k (omega arith))) (λ l. F .head (omega arith)) (sym n) (F .low-psn) (F .next-psn) (F .held) few)
 
 pub supply-keeps : (mtu maxwnd clock time bytes : ℕ) (l : Ledger) → soundLedger mtu maxwnd clock l ≡ true → clock ≤ time
-    → l .flow .backlog + bytes ≤ backlogMost → soundLedger mtu maxwnd time (ledger (suppliedOf bytes (l .flow)) (l .totals) (l .slots)) ≡ true
+    → l .flow .backlog + bytes ≤ backlogMost → soundLedger mtu maxwnd time (ledger (suppliedOf bytes (l .flow)) (l .totals) (l .slots))
+    ≡ true
 unfolding suppliedOf longOf packets
 supply-keeps mtu maxwnd clock time bytes l co later few =
     let p = sound-ledger-parts mtu maxwnd clock l co in
@@ -204,7 +208,8 @@ module _ (mtu clock : ℕ) (f : Flow) (r : Ring) (F : Facts mtu clock f r) (room
   longer-long : (size : ℕ) (x : Packet) → longOf (longer size) ≡ length (packets f r ++ (x ∷ []))
   unfolding longOf
   longer-long size x =
-      long-more (f .low) (f .next) (omega (arith, F .even .few, room)) ∙ omega (arith, packets-long f r, length-append (packets f r) (x ∷ []))
+      long-more (f .low) (f .next) (omega (arith, F .even .few, room))
+      ∙ omega (arith, packets-long f r, length-append (packets f r) (x ∷ []))
 
   -- the slot of next overwritten
   pub put-behind : (i : ℕ) → i ≡ f .next % capOf r → (x : Packet) → putAt r i x ≡ laid (capOf r) (f .low) (packets f r ++ (x ∷ []))
@@ -226,7 +231,8 @@ module _ (mtu clock : ℕ) (f : Flow) (r : Ring) (F : Facts mtu clock f r) (room
   push-is t time size i next z s ei en ez es = rw (en, ez, es, put-behind i ei (newPacket time size))
 
   -- the packets of the longer flow
-  longer-packets : (size : ℕ) (x : Packet) → packets (longer size) (laid (capOf r) (f .low) (packets f r ++ (x ∷ []))) ≡ packets f r ++ (x ∷ [])
+  longer-packets : (size : ℕ) (x : Packet) → packets (longer size) (laid (capOf r) (f .low) (packets f r ++ (x ∷ []))) ≡ packets f r
+      ++ (x ∷ [])
   longer-packets size x =
       packets-laid (capOf r) (longer size) (packets f r ++ (x ∷ [])) (F .cap) (longer-long size x)
       (omega (arith, packets-long f r, length-append (packets f r) (x ∷ []), room))
@@ -234,7 +240,8 @@ module _ (mtu clock : ℕ) (f : Flow) (r : Ring) (F : Facts mtu clock f r) (room
   pub push-sum : (size : ℕ) (x : Packet) (adds : Packet → ℕ)
       → sumOf adds (packets (longer size) (laid (capOf r) (f .low) (packets f r ++ (x ∷ [])))) ≡ sumOf adds (packets f r) + adds x
   push-sum size x adds =
-      ap (sumOf adds) (longer-packets size x) ∙ sum-append adds (packets f r) (x ∷ []) ∙ ap (λ (n : ℕ). sumOf adds (packets f r) + n) (sum-one adds x)
+      ap (sumOf adds) (longer-packets size x) ∙ sum-append adds (packets f r) (x ∷ [])
+      ∙ ap (λ (n : ℕ). sumOf adds (packets f r) + n) (sum-one adds x)
 
   -- a live packet that is not done may stand behind the others
   pub push-stands : (time size : ℕ) (x : Packet) → clock ≤ time → Live mtu time x → isDone x ≡ false
@@ -316,7 +323,8 @@ resend-keeps mtu maxwnd clock time psn size l co rows later under =
     let live = packet-live mtu clock f r (k .0) psn h in
     let a = marked-adds x w in
     let b = flying-adds (resentPacket time x) refl in
-    change-keeps mtu maxwnd clock time psn l co later h (resentPacket time x) (resent-live mtu clock time x live) refl (resentOf time psn l .totals)
+    change-keeps mtu maxwnd clock time psn l co later h (resentPacket time x) (resent-live mtu clock time x live) refl
+    (resentOf time psn l .totals)
     (λ s e. omega (arith, a .0, b .0)) (λ s e. omega (arith, a .1, b .1)) (λ s e. omega (arith, a .2, b .2))
     (flown-more maxwnd mtu (l .totals .«in_flight») (x .size) (k .1) under (live .size-most))
 

@@ -11,7 +11,8 @@ use Rattle.serial.specs.Psn.{psns, plus}
 use Rattle.serial.proofs.Cover.{plus-lt}
 use Rattle.ledger.specs.Packets.{doneStatus, noPacket, withStatus, isFlying, isMarked, isOut, sumOf, coverOne, coverAll, coveredSum}
 use Rattle.ledger.specs.declared.Packet.{Packet}
-use Rattle.ledger.proofs.Queues.{plus-none, plus-next, cover-out, cover-stays, cover-again, done-in, now-done, spared, coverTo, OfOut, spared-adds, cover-adds, cover-sum}
+use Rattle.ledger.proofs.Queues.{plus-none, plus-next, cover-out, cover-stays, cover-again, done-in, now-done, spared, coverTo}
+use Rattle.ledger.proofs.Queues.{OfOut, spared-adds, cover-adds, cover-sum}
 
 neither : (o : Bool) → (o && false) ≡ false
 neither true = refl

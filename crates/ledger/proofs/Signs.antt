@@ -1,5 +1,5 @@
--- Signed in-flight in two naturals, how far it stands above zero and how far below: sums and differences are then linear, its bounds are kept
--- by what the rows leave, and it fits the machine's signed word.
+-- Signed in-flight in two naturals, how far it stands above zero and how far below: sums and differences are then linear, its bounds are
+-- kept by what the rows leave, and it fits the machine's signed word.
 -- Assumes nothing.
 use mathlib.Core.Path.{_≡_, refl, sym, ap, _∙_}
 use mathlib.Core.Bool.{Bool, true, false, and-true}
@@ -64,7 +64,8 @@ flown-less maxwnd z n f e =
     (λ o. record { low = sinks-not z n e; high = omega (arith, less-split z n, f .high) })
     (one-side (z -ℤ pos n))
 
-pub flown-more : (maxwnd mtu : ℕ) (z : ℤ) (n : ℕ) → Flown maxwnd z → leZ (z +ℤ pos mtu) (pos maxwnd) ≡ true → n ≤ mtu → Flown maxwnd (z +ℤ pos n)
+pub flown-more : (maxwnd mtu : ℕ) (z : ℤ) (n : ℕ) → Flown maxwnd z → leZ (z +ℤ pos mtu) (pos maxwnd) ≡ true → n ≤ mtu
+    → Flown maxwnd (z +ℤ pos n)
 flown-more maxwnd mtu z n f e l =
     let h = at-most (z +ℤ pos mtu) maxwnd e in
     ⊎-elim

@@ -1,4 +1,5 @@
--- Stretches of slots that lie beside each other: how their tests and sums go on slot by slot, and what those of the four slices say of the packets together.
+-- Stretches of slots that lie beside each other: how their tests and sums go on slot by slot, and what those of the four
+-- slices say of the packets together.
 -- Assumes nothing.
 use mathlib.Core.Path.{_≡_, refl, sym, ap, _∙_}
 use mathlib.Core.Bool.{Bool, true, false, _&&_}
@@ -33,7 +34,8 @@ pub one-at : (status from i : ℕ) (xs : List ℕ) → from ≤ i → ifEq (getD
 unfolding oneAt
 one-at status from i xs h = ap (λ (j : ℕ). ifEq {A = ℕ} (getD xs j 0) status 1 0) (omega arith)
 
-pub size-at : (from i : ℕ) (statuses sizes : List ℕ) → from ≤ i → ifEq (getD statuses i 0) markedStatus (getD sizes i 0) 0 ≡ sizeAt statuses sizes from (i - from)
+pub size-at : (from i : ℕ) (statuses sizes : List ℕ) → from ≤ i
+    → ifEq (getD statuses i 0) markedStatus (getD sizes i 0) 0 ≡ sizeAt statuses sizes from (i - from)
 unfolding sizeAt
 size-at from i statuses sizes h = ap (λ (j : ℕ). ifEq (getD statuses j 0) markedStatus (getD sizes j 0) 0) (omega arith)
 
@@ -107,7 +109,8 @@ shuffle false b x y = refl
 all-and : (f a b : ℕ → Bool) (n : ℕ) → ((k : ℕ) → k < n → f k ≡ (a k && b k)) → allTo f n ≡ (allTo a n && allTo b n)
 unfolding allTo
 all-and f a b zero h = refl
-all-and f a b (suc n) h = rw (all-and f a b n (λ k l. h k (omega arith)), h n (le-refl (suc n))) (shuffle (allTo a n) (allTo b n) (a n) (b n))
+all-and f a b (suc n) h = rw (all-and f a b n (λ k l. h k (omega arith)), h n (le-refl (suc n)))
+    (shuffle (allTo a n) (allTo b n) (a n) (b n))
 
 all-four : (f a b c d : ℕ → Bool) (n : ℕ) → ((k : ℕ) → k < n → f k ≡ (((a k && b k) && c k) && d k))
     → (((allTo a n && allTo b n) && allTo c n) && allTo d n) ≡ allTo f n
@@ -124,7 +127,8 @@ module _ (r : Ring) (E : Even r) (from m : ℕ) (fits : from + m ≤ capOf r) wh
 
   live-at : (mtu clock k : ℕ) → k < m
       → slotOk mtu clock r from m k
-      ≡ (((between flyingStatus doneStatus (r .status) from k && between sizeLeast mtu (r .size) from k) && between 0 clock (r .sent) from k) && between 0 resentMost (r .resent) from k)
+      ≡ (((between flyingStatus doneStatus (r .status) from k && between sizeLeast mtu (r .size) from k)
+      && between 0 clock (r .sent) from k) && between 0 resentMost (r .resent) from k)
   unfolding isLive packetAt between
   live-at mtu clock k h =
       slot-live mtu clock r from m k h ∙ ap (λ (p : ℕ). isLive mtu clock (packetAt r p)) (at k h)
@@ -132,17 +136,25 @@ module _ (r : Ring) (E : Even r) (from m : ℕ) (fits : from + m ≤ capOf r) wh
 
   zero-at : (k : ℕ) → k < m
       → slotOk 0 0 r from 0 k
-      ≡ (((between 0 0 (r .status) from k && between 0 0 (r .size) from k) && between 0 0 (r .sent) from k) && between 0 0 (r .resent) from k)
+      ≡ (((between 0 0 (r .status) from k && between 0 0 (r .size) from k) && between 0 0 (r .sent) from k)
+      && between 0 0 (r .resent) from k)
   unfolding isZero packetAt between
   zero-at k h =
       slot-zero 0 0 r from 0 k (omega arith) ∙ ap (λ (p : ℕ). isZero (packetAt r p)) (at k h)
-      ∙ rw (just-zero (getD (r .status) (from + k) 0), just-zero (getD (r .size) (from + k) 0), just-zero (getD (r .sent) (from + k) 0), just-zero (getD (r .resent) (from + k) 0)) refl
+      ∙ rw (
+        just-zero (getD (r .status) (from + k) 0),
+        just-zero (getD (r .size) (from + k) 0),
+        just-zero (getD (r .sent) (from + k) 0),
+        just-zero (getD (r .resent) (from + k) 0),
+      ) refl
 
   pub zero-all : (a b c d : Bool) → a ≡ allTo (between 0 0 (r .status) from) m → b ≡ allTo (between 0 0 (r .size) from) m
-      → c ≡ allTo (between 0 0 (r .sent) from) m → d ≡ allTo (between 0 0 (r .resent) from) m → (((a && b) && c) && d) ≡ allTo (slotOk 0 0 r from 0) m
+      → c ≡ allTo (between 0 0 (r .sent) from) m → d ≡ allTo (between 0 0 (r .resent) from) m
+      → (((a && b) && c) && d) ≡ allTo (slotOk 0 0 r from 0) m
   zero-all a b c d ea eb ec ed =
       rw (ea, eb, ec, ed)
-      (all-four (slotOk 0 0 r from 0) (between 0 0 (r .status) from) (between 0 0 (r .size) from) (between 0 0 (r .sent) from) (between 0 0 (r .resent) from) m zero-at)
+      (all-four (slotOk 0 0 r from 0) (between 0 0 (r .status) from) (between 0 0 (r .size) from) (between 0 0 (r .sent) from)
+      (between 0 0 (r .resent) from) m zero-at)
 
   summed : (adds : Packet → ℕ) (one : ℕ → ℕ) → ((k : ℕ) → k < m → adds (packetAt r (placeOf (capOf r) from k)) ≡ one k) → (j : ℕ) → j ≤ m
       → sumTo one j ≡ sumOf adds (queueOf r from j)
@@ -157,17 +169,23 @@ module _ (r : Ring) (E : Even r) (from m : ℕ) (fits : from + m ≤ capOf r) wh
       ∙ ap (sumOf adds) (sym more)
 
   pub live-all : (mtu clock : ℕ) (a b c d : Bool) (fl mk by : ℕ) → a ≡ allTo (between flyingStatus doneStatus (r .status) from) m
-      → b ≡ allTo (between sizeLeast mtu (r .size) from) m → c ≡ allTo (between 0 clock (r .sent) from) m → d ≡ allTo (between 0 resentMost (r .resent) from) m
-      → fl ≡ sumTo (oneAt flyingStatus (r .status) from) m → mk ≡ sumTo (oneAt markedStatus (r .status) from) m → by ≡ sumTo (sizeAt (r .status) (r .size) from) m
+      → b ≡ allTo (between sizeLeast mtu (r .size) from) m → c ≡ allTo (between 0 clock (r .sent) from) m
+      → d ≡ allTo (between 0 resentMost (r .resent) from) m
+      → fl ≡ sumTo (oneAt flyingStatus (r .status) from) m → mk ≡ sumTo (oneAt markedStatus (r .status) from) m
+      → by ≡ sumTo (sizeAt (r .status) (r .size) from) m
       → Tallied mtu clock r from m (((a && b) && c) && d) fl mk by
   unfolding flyingOne markedOne markedSize packetAt oneAt sizeAt
   live-all mtu clock a b c d fl mk by ea eb ec ed ef em eb2 =
       record {
         sound-is =
             rw (ea, eb, ec, ed)
-            (all-four (slotOk mtu clock r from m) (between flyingStatus doneStatus (r .status) from) (between sizeLeast mtu (r .size) from) (between 0 clock (r .sent) from)
+            (all-four (slotOk mtu clock r from m) (between flyingStatus doneStatus (r .status) from)
+            (between sizeLeast mtu (r .size) from) (between 0 clock (r .sent) from)
             (between 0 resentMost (r .resent) from) m (live-at mtu clock));
-        flying-is = ef ∙ summed flyingOne (oneAt flyingStatus (r .status) from) (λ k h. ap (λ (p : ℕ). flyingOne (packetAt r p)) (at k h)) m (le-refl m);
-        marked-is = em ∙ summed markedOne (oneAt markedStatus (r .status) from) (λ k h. ap (λ (p : ℕ). markedOne (packetAt r p)) (at k h)) m (le-refl m);
-        bytes-is = eb2 ∙ summed markedSize (sizeAt (r .status) (r .size) from) (λ k h. ap (λ (p : ℕ). markedSize (packetAt r p)) (at k h)) m (le-refl m);
+        flying-is = ef ∙ summed flyingOne (oneAt flyingStatus (r .status) from)
+            (λ k h. ap (λ (p : ℕ). flyingOne (packetAt r p)) (at k h)) m (le-refl m);
+        marked-is = em ∙ summed markedOne (oneAt markedStatus (r .status) from)
+            (λ k h. ap (λ (p : ℕ). markedOne (packetAt r p)) (at k h)) m (le-refl m);
+        bytes-is = eb2 ∙ summed markedSize (sizeAt (r .status) (r .size) from)
+            (λ k h. ap (λ (p : ℕ). markedSize (packetAt r p)) (at k h)) m (le-refl m);
       }

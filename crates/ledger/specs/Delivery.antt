@@ -33,7 +33,8 @@ pub record Covered (l : Ledger) (cum map : ℕ) (t : Totals) (r : Ring) : Type 0
   pub ring-is : r ≡ laid (capOf (l .slots)) (l .flow .low) (coverAll (covered cum map) (l .flow .low) (packets (l .flow) (l .slots)))
   pub flying : t .flying ≡ l .totals .flying - coveredSum flyingOne (covered cum map) (l .flow .low) (packets (l .flow) (l .slots))
   pub marked : t .marked ≡ l .totals .marked - coveredSum markedOne (covered cum map) (l .flow .low) (packets (l .flow) (l .slots))
-  pub bytes : t .«marked_bytes» ≡ l .totals .«marked_bytes» - coveredSum markedSize (covered cum map) (l .flow .low) (packets (l .flow) (l .slots))
+  pub bytes : t .«marked_bytes» ≡ l .totals .«marked_bytes» - coveredSum markedSize (covered cum map) (l .flow .low)
+      (packets (l .flow) (l .slots))
   pub in-flight : t .«in_flight» ≡ l .totals .«in_flight»
 
 -- of the first k packets none is left to be delivered

@@ -1,6 +1,7 @@
--- The ledger's part of refusal 2: "Number 2 is: bad lengths; .. numbers outside the bounds here; .. next - low (modulo 2^32) over capacity; a slot in
--- low..next-1 that isn't flying, marked or done, or has size outside 41..MTU, send time past the clock or resend count over 2; another slot not all
--- zero; low done while low and next differ; totals of flying packets, marked packets or marked bytes that differ from the ring's".
+-- The ledger's part of refusal 2: "Number 2 is: bad lengths; .. numbers outside the bounds here; .. next - low (modulo 2^32) over
+-- capacity; a slot in low..next-1 that isn't flying, marked or done, or has size outside 41..MTU, send time past the clock or
+-- resend count over 2; another slot not all zero; low done while low and next differ; totals of flying packets, marked packets or
+-- marked bytes that differ from the ring's".
 -- Assumes nothing.
 use mathlib.Core.Bool.{Bool, true, not, _&&_, _||_}
 use mathlib.Core.List.{List}
@@ -58,8 +59,8 @@ slotOk mtu clock r low n k =
 unfoldable pub headOk : Ring → ℕ → ℕ → Bool
 headOk r low n = eqb n 0 || not (isDone (packetAt r (placeOf (capOf r) low 0)))
 
--- a flow and its ring: lengths, the window of PSNs, every slot, the first one; and "numbers outside the bounds here": low and next, "PSN: 32 bits"; the
--- held count, "24 bits"; "Backlog at most 2^40"
+-- a flow and its ring: lengths, the window of PSNs, every slot, the first one; and "numbers outside the bounds here": low and next, "PSN:
+-- 32 bits"; the held count, "24 bits"; "Backlog at most 2^40"
 unfoldable pub stands : ℕ → ℕ → Flow → Ring → Bool
 stands mtu clock f r =
     isRing r

@@ -7,7 +7,8 @@ use lib.IntN.{ℤ, pos, _+ℤ_}
 use Rattle.rules.specs.Branch.{ifSo}
 use Rattle.serial.specs.Psn.{plus, covered}
 use Rattle.serial.specs.Count.{isOld, forwardOf}
-use Rattle.ledger.specs.Packets.{flyingStatus, markedStatus, withStatus, flyingOne, markedOne, markedSize, coverAll, coveredSum, doneRun}
+use Rattle.ledger.specs.Packets.{flyingStatus, markedStatus, withStatus, flyingOne, markedOne, markedSize, coverAll, coveredSum}
+use Rattle.ledger.specs.Packets.{doneRun}
 use Rattle.ledger.specs.Bounds.{resentMost, unit, fallen}
 use Rattle.ledger.specs.Ring.{Ring, Ledger, ledger, capOf, laid, packets, offsetOf, packetOf}
 use Rattle.ledger.specs.declared.Flow.{Flow}
@@ -79,7 +80,8 @@ heldOf count held = ifSo (isOld count held) held count
 unfoldable pub newlyOf : ℕ → ℕ → ℕ
 newlyOf count held = unit * forwardOf count held
 
--- "Covered flying or marked packets become done; low then moves past done slots, which become zero and are used again. .. in-flight falls by 256·f"
+-- "Covered flying or marked packets become done; low then moves past done slots, which become zero and are used
+-- again. .. in-flight falls by 256·f"
 unfoldable pub ackedOf : ℕ → ℕ → ℕ → Ledger → Ledger
 ackedOf cum map count l =
     let f = l .flow in

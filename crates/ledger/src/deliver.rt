@@ -23,8 +23,8 @@ ghost use Rattle.ledger.specs.Steps.{heldOf, ackedOf};
 ghost use Rattle.ledger.specs.Rows.{ackRows};
 ghost use Rattle.ledger.specs.Delivery.{Laid, Cover, Covered, Run, Spent, Onward, Retired};
 
-// Whether an ACK delivers a packet: "Covered flying or marked packets become done". The status is asked first: most slots of a walk are done, and
-// coverage need not be worked out for them.
+// Whether an ACK delivers a packet: "Covered flying or marked packets become done". The status is asked first: most slots of a walk are
+// done, and coverage need not be worked out for them.
 fn delivers(status: u8, cum: u32, map: u64, psn: u32) -> bool
     ensures { λ r. ⌜ r ≡ ((eqb status flyingStatus || eqb status markedStatus) && covered cum map psn) ⌝ }
 {
@@ -34,8 +34,8 @@ fn delivers(status: u8, cum: u32, map: u64, psn: u32) -> bool
     false
 }
 
-// The packets in the slots from..to-1, which lie beside each other; the first comes k after low. What is covered leaves the totals. Of the packets
-// before the run none is to be delivered, and after it none of its own; what then covers the rest covers all.
+// The packets in the slots from..to-1, which lie beside each other; the first comes k after low. What is covered leaves the totals. Of the
+// packets before the run none is to be delivered, and after it none of its own; what then covers the rest covers all.
 fn cover_run<'a, 'b>(
     status: &'a mut [u8],
     size: &'b [u32],
@@ -55,7 +55,8 @@ fn cover_run<'a, 'b>(
     requires { ⌜ Spent (ledger flow totals (ringGiven status size sent resent)) cum map k ⌝ }
     ensures { λ r. ⌜ Cover (ledger flow r (ringAfter status size sent resent)) reach cum map ⌝ }
     ensures { λ r. ⌜ Spent (ledger flow r (ringAfter status size sent resent)) cum map (k + (to - from)) ⌝ }
-    ensures { λ r. ⌜ Onward (ledger flow totals (ringBefore status size sent resent)) (ledger flow r (ringAfter status size sent resent)) cum map ⌝ }
+    ensures { λ r. ⌜ Onward (ledger flow totals (ringBefore status size sent resent)) (ledger flow r (ringAfter status size sent resent))
+        cum map ⌝ }
 {
     let mut flying = totals.flying;
     let mut marked = totals.marked;
@@ -87,8 +88,8 @@ fn cover_run<'a, 'b>(
     }
 }
 
-// The first `reach` packets from low on are looked at; the ACK covers none beyond. What is covered leaves the totals. The slots from that of low to
-// the ring's end are one run, those from slot 0 on the other: no index wraps in a loop.
+// The first `reach` packets from low on are looked at; the ACK covers none beyond. What is covered leaves the totals. The slots from that
+// of low to the ring's end are one run, those from slot 0 on the other: no index wraps in a loop.
 fn cover<'a, 'b>(
     status: &'a mut [u8],
     size: &'b [u32],
@@ -224,7 +225,8 @@ pub fn ack<'a, 'b, 'c, 'd>(
 ) -> Books
     requires { ⌜ SoundLedger (ledger (books .flow) (books .totals) (ringGiven status size sent resent)) ⌝ }
     requires { ⌜ firstOf (ackRows (books .flow) (books .totals .«in_flight») cum map count) ≡ 0 ⌝ }
-    ensures { λ r. ⌜ ledger (r .flow) (r .totals) (ringAfter status size sent resent) ≡ ackedOf cum map count (ledger (books .flow) (books .totals) (ringBefore status size sent resent)) ⌝ }
+    ensures { λ r. ⌜ ledger (r .flow) (r .totals) (ringAfter status size sent resent)
+        ≡ ackedOf cum map count (ledger (books .flow) (books .totals) (ringBefore status size sent resent)) ⌝ }
 {
     let mut flow = books.flow;
     let low = flow.low;

@@ -1,5 +1,5 @@
-// The ledger of sent packets: document 01, "The ledger". The ring is lent as four slices of one length: a slot's status, size, send time and
-// resend count; PSN p lives at p mod capacity.
+// The ledger of sent packets: document 01, "The ledger". The ring is lent as four slices of one length: a slot's status, size, send time
+// and resend count; PSN p lives at p mod capacity.
 pub mod deliver;
 pub mod judge;
 pub mod mark;

@@ -23,7 +23,8 @@ pub fn mark<'a, 'b>(
 ) -> Books
     requires { ⌜ SoundLedger (ledger (books .flow) (books .totals) (ringGiven status size sent resent)) ⌝ }
     requires { ⌜ isFlying (packetOf (books .flow) (ringGiven status size sent resent) psn) ≡ true ⌝ }
-    ensures { λ r. ⌜ ledger (r .flow) (r .totals) (ringAfter status size sent resent) ≡ markedOf psn (ledger (books .flow) (books .totals) (ringBefore status size sent resent)) ⌝ }
+    ensures { λ r. ⌜ ledger (r .flow) (r .totals) (ringAfter status size sent resent)
+        ≡ markedOf psn (ledger (books .flow) (books .totals) (ringBefore status size sent resent)) ⌝ }
 {
     let flow = books.flow;
     let mut totals = books.totals;

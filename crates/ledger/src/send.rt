@@ -48,7 +48,8 @@ pub fn push<'a, 'b, 'c, 'd>(
 ) -> Books
     requires { ⌜ SoundLedger (ledger (books .flow) (books .totals) (ringGiven status size sent resent)) ⌝ }
     requires { ⌜ (bytes ≤ books .flow .backlog) × (longOf (books .flow) < capOf (ringGiven status size sent resent)) ⌝ }
-    ensures { λ r. ⌜ ledger (r .flow) (r .totals) (ringAfter status size sent resent) ≡ pushedOf time bytes (ledger (books .flow) (books .totals) (ringBefore status size sent resent)) ⌝ }
+    ensures { λ r. ⌜ ledger (r .flow) (r .totals) (ringAfter status size sent resent)
+        ≡ pushedOf time bytes (ledger (books .flow) (books .totals) (ringBefore status size sent resent)) ⌝ }
 {
     let mut flow = books.flow;
     let mut totals = books.totals;
@@ -99,7 +100,8 @@ pub fn resend<'a, 'b, 'c, 'd>(
 ) -> Books
     requires { ⌜ SoundLedger (ledger (books .flow) (books .totals) (ringGiven status size sent resent)) ⌝ }
     requires { ⌜ isMarked (packetOf (books .flow) (ringGiven status size sent resent) psn) ≡ true ⌝ }
-    ensures { λ r. ⌜ ledger (r .flow) (r .totals) (ringAfter status size sent resent) ≡ resentOf time psn (ledger (books .flow) (books .totals) (ringBefore status size sent resent)) ⌝ }
+    ensures { λ r. ⌜ ledger (r .flow) (r .totals) (ringAfter status size sent resent)
+        ≡ resentOf time psn (ledger (books .flow) (books .totals) (ringBefore status size sent resent)) ⌝ }
 {
     let flow = books.flow;
     let mut totals = books.totals;

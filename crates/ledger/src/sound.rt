@@ -39,7 +39,8 @@ pub fn is_ring<'a>(status: &'a [u8], size: &'a [u32], sent: &'a [u64], resent: &
     is_capacity(cap) & (size.len() == cap) & (sent.len() == cap) & (resent.len() == cap)
 }
 
-// The slots from..to-1 as packets, slice by slice. "PSN p lives at p mod capacity", so that slot i is that of PSN i, and these are the packets from PSN `from` on.
+// The slots from..to-1 as packets, slice by slice. "PSN p lives at p mod capacity", so that slot i is that of PSN i, and these are
+// the packets from PSN `from` on.
 fn run<'a>(
     status: &'a [u8],
     size: &'a [u32],
@@ -52,7 +53,8 @@ fn run<'a>(
 ) -> Sums
     requires { ⌜ Even (ringGiven status size sent resent) ⌝ }
     requires { ⌜ (from ≤ to) × (to ≤ capOf (ringGiven status size sent resent)) ⌝ }
-    ensures { λ r. ⌜ Tallied mtu clock (ringBefore status size sent resent) from (to - from) (r .sound) (r .flying) (r .marked) (r .«marked_bytes») ⌝ }
+    ensures { λ r. ⌜ Tallied mtu clock (ringBefore status size sent resent) from (to - from) (r .sound) (r .flying) (r .marked)
+        (r .«marked_bytes») ⌝ }
     ensures { λ r. ⌜ (r .flying ≤ 4096) × (r .marked ≤ 4096) × (r .«marked_bytes» ≤ 4096 * 2 ^ 32) ⌝ }
 {
     let sound = bytes_within(status, crate::FLYING, crate::DONE, from, to)
@@ -134,7 +136,8 @@ fn rest<'a>(
     requires { ⌜ n ≤ capOf (ringGiven status size sent resent) ⌝ }
     requires { ⌜ isCapacity (capOf (ringGiven status size sent resent)) ≡ true ⌝ }
     requires { ⌜ sound ≡ allTo (slotOk mtu clock (ringGiven status size sent resent) low n) n ⌝ }
-    ensures { λ r. ⌜ r ≡ allTo (slotOk mtu clock (ringBefore status size sent resent) low n) (capOf (ringBefore status size sent resent)) ⌝ }
+    ensures { λ r. ⌜ r ≡ allTo (slotOk mtu clock (ringBefore status size sent resent) low n)
+        (capOf (ringBefore status size sent resent)) ⌝ }
 {
     let cap = status.len();
     let i = place(cap, low);

@@ -1,5 +1,6 @@
-// Tests and sums over a stretch of slots, from..to-1, that lie beside each other: what number 2's walks are made of. Each looks at one of the ring's slices (the
-// marked bytes at two), so that the compiler takes as many elements at a time as their width allows. Inner steps: the caller proves that there are the slots.
+// Tests and sums over a stretch of slots, from..to-1, that lie beside each other: what number 2's walks are made of. Each looks at one of
+// the ring's slices (the marked bytes at two), so that the compiler takes as many elements at a time as their width allows. Inner steps:
+// the caller proves that there are the slots.
 ghost use mathlib.Core.Path.{_≡_};
 ghost use Prim.Native.Nat.{_-_, _*_, _^_, _≤_, _<_, min};
 ghost use lib.ListN.{length};

@@ -125,7 +125,7 @@ fn tell_unknown(index: usize) -> u8 {
 }
 
 // Does what is asked for, and answers how that ended.
-fn carry_out(o: Options) -> u8 {
+fn perform(o: Options) -> u8 {
     if o.unknown != 0 {
         return tell_unknown(o.unknown);
     }
@@ -146,7 +146,7 @@ fn carry_out(o: Options) -> u8 {
 
 fn main() {
     let o = options::read();
-    let status = carry_out(o);
+    let status = perform(o);
     if o.status {
         io::write_all(STATUS_FILENO, &[status]);
     }

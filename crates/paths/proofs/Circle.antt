@@ -33,11 +33,13 @@ module _ (cursor : ℕ) (evs : List ℕ) (inside : cursor < length evs) where
   from-at k h =
       let tail = length-drop cursor evs in
       by-cases (decLt (cursor + k) (length evs))
-      (λ l. List·getD-append (drop cursor evs) (take cursor evs) 0 k (omega arith) ∙ getD-drop cursor evs k 0 ∙ ap (λ (x : ℕ). getD evs x 0) (sym (mod-eq-of-lt l)))
+      (λ l. List·getD-append (drop cursor evs) (take cursor evs) 0 k (omega arith) ∙ getD-drop cursor evs k 0
+      ∙ ap (λ (x : ℕ). getD evs x 0) (sym (mod-eq-of-lt l)))
       (λ l.
       let j = cursor + k - length evs in
       let e : k ≡ length (drop cursor evs) + j = omega arith in
-      ap (λ (x : ℕ). getD (from cursor evs) x 0) e ∙ getD-append-add (drop cursor evs) (take cursor evs) j 0 ∙ getD-take cursor evs j 0 (omega arith)
+      ap (λ (x : ℕ). getD (from cursor evs) x 0) e ∙ getD-append-add (drop cursor evs) (take cursor evs) j 0
+      ∙ getD-take cursor evs j 0 (omega arith)
       ∙ ap (λ (x : ℕ). getD evs x 0) (once-round (cursor + k) (length evs) (omega arith) (omega arith)))
 
   -- the two parts that are lent are that order
@@ -58,14 +60,17 @@ module _ (cursor : ℕ) (evs : List ℕ) (inside : cursor < length evs) where
     -- where the EV at the cursor is free, no EV is passed
     pub cursor-free : getD evs cursor 0 ≤ time → 0 ≡ steps time (from cursor evs)
     cursor-free free =
-        let first : firstFree time (from cursor evs) ≡ 0 = rw (drop-cons evs cursor 0) (stops time (getD evs cursor 0) (drop (suc cursor) evs ++ take cursor evs) free) in
+        let first : firstFree time (from cursor evs) ≡ 0 = rw (drop-cons evs cursor 0)
+        (stops time (getD evs cursor 0) (drop (suc cursor) evs ++ take cursor evs) free) in
         by-cases (decLt (length evs) (2 * avoided time evs)) over-half (λ few. omega (arith, half-or-less (omega arith)))
 
     -- the round over the two parts that are lent
-    pub free-parts : (s : ℕ) → s ≡ firstFree time (take (length evs - cursor) (drop cursor evs) ++ take (cursor - 0) evs) → s ≡ firstFree time (from cursor evs)
+    pub free-parts : (s : ℕ) → s ≡ firstFree time (take (length evs - cursor) (drop cursor evs) ++ take (cursor - 0) evs)
+        → s ≡ firstFree time (from cursor evs)
     free-parts s e = e ∙ ap (firstFree time) parts
 
-    pub avoided-parts : (m : ℕ) → m ≡ avoided time (take (length evs - cursor) (drop cursor evs) ++ take (cursor - 0) evs) → m ≡ avoided time evs
+    pub avoided-parts : (m : ℕ) → m ≡ avoided time (take (length evs - cursor) (drop cursor evs) ++ take (cursor - 0) evs)
+        → m ≡ avoided time evs
     avoided-parts m e = e ∙ ap (avoided time) parts ∙ avoided-from time
 
     -- what so many steps make of the choice

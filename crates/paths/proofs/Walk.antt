@@ -18,7 +18,8 @@ unfolding avoids
 avoids-le time until = lt-both (λ (r : ℕ). r ≤ 1) time until 1 0 (λ h. omega arith) (λ h. omega arith)
 
 -- the highest bit of a wrapped difference of times
-pub sign-tells : (time until d : ℕ) → time < timeMost → until < timeMost → d < 2 ^ 64 → (d + until) % 2 ^ 64 ≡ time → d / timeMost ≡ avoids time until
+pub sign-tells : (time until d : ℕ) → time < timeMost → until < timeMost → d < 2 ^ 64 → (d + until) % 2 ^ 64 ≡ time
+    → d / timeMost ≡ avoids time until
 unfolding avoids
 sign-tells time until d ht hu hd e =
     by-cases (decLt time until)
@@ -47,12 +48,15 @@ module _ (time : ℕ) where
 
   -- ---- one entry more
 
-  pub avoided-next : (evs : List ℕ) (i : ℕ) → i < length evs → avoided time (drop i evs) ≡ avoids time (getD evs i 0) + avoided time (drop (i + 1) evs)
+  pub avoided-next : (evs : List ℕ) (i : ℕ) → i < length evs → avoided time (drop i evs) ≡ avoids time (getD evs i 0)
+      + avoided time (drop (i + 1) evs)
   unfolding avoided
   avoided-next evs i h = rw (add-one, drop-cons evs i 0)
 
-  pub free-next : (evs : List ℕ) (i : ℕ) → i < length evs → time < getD evs i 0 → firstFree time (drop i evs) ≡ firstFree time (drop (i + 1) evs) + 1
-  free-next evs i h a = rw (add-one (firstFree time (drop (i + 1) evs)), add-one, drop-cons evs i 0 h) (passes (getD evs i 0) (drop (suc i) evs) a)
+  pub free-next : (evs : List ℕ) (i : ℕ) → i < length evs → time < getD evs i 0
+      → firstFree time (drop i evs) ≡ firstFree time (drop (i + 1) evs) + 1
+  free-next evs i h a = rw (add-one (firstFree time (drop (i + 1) evs)), add-one, drop-cons evs i 0 h)
+      (passes (getD evs i 0) (drop (suc i) evs) a)
 
   pub free-here : (evs : List ℕ) (i : ℕ) → i < length evs → getD evs i 0 ≤ time → firstFree time (drop i evs) ≡ 0
   free-here evs i h a = rw (drop-cons evs i 0 h) (stops (getD evs i 0) (drop (suc i) evs) a)
@@ -149,9 +153,11 @@ module _ (time : ℕ) where
       (λ h. rw (stops until evs (omega arith)) (zero-add _))
 
   -- the same of the rest as it is lent on
-  pub avoided-lent : (evs : List ℕ) (k m : ℕ) → k ≡ firstFree time evs → m ≡ avoided time (take (length evs - k) (drop k evs)) → k + m ≡ avoided time evs
+  pub avoided-lent : (evs : List ℕ) (k m : ℕ) → k ≡ firstFree time evs → m ≡ avoided time (take (length evs - k) (drop k evs))
+      → k + m ≡ avoided time evs
   avoided-lent evs k m first rest =
-      let all : m ≡ avoided time (drop k evs) = rest ∙ ap (avoided time) (take-all (length evs - k) (drop k evs) (le-of-eq (length-drop k evs))) in
+      let all : m ≡ avoided time (drop k evs) = rest ∙ ap (avoided time)
+      (take-all (length evs - k) (drop k evs) (le-of-eq (length-drop k evs))) in
       rw (all, first) (avoided-past evs)
 
   -- the same over two parts, as the walk goes over them

@@ -1,4 +1,5 @@
--- The next path: document 01, "Next path". Entry e of the list is the time of EV e; n is the list's length: by request M-110 "any power of two from 256 to 4,096", and here any.
+-- The next path: document 01, "Next path". Entry e of the list is the time of EV e; n is the list's length: by request M-110 "any power of
+-- two from 256 to 4,096", and here any.
 -- Assumes nothing.
 use mathlib.Core.List.{List, [], _∷_, _++_}
 use Prim.Native.Nat.{ℕ, suc, _+_, _*_, _%_, _^_, _<_}
@@ -28,7 +29,8 @@ firstFree time (until ∷ evs) = ifLt time until (suc (firstFree time evs)) 0
 abbrev pub from : ℕ → List ℕ → List ℕ
 from cursor evs = drop cursor evs ++ take cursor evs
 
--- "Twice the avoided count over 256: take the cursor. Else the first EV from the cursor on", and M-110: "compares twice the avoided count with" n: how many EVs, of those in that order, are passed
+-- "Twice the avoided count over 256: take the cursor. Else the first EV from the cursor on", and M-110: "compares twice the avoided count
+-- with" n: how many EVs, of those in that order, are passed
 unfoldable pub steps : ℕ → List ℕ → ℕ
 steps time evs = ifLt (length evs) (2 * avoided time evs) 0 (firstFree time evs)
 

@@ -15,7 +15,8 @@ pub struct Choice {
     pub cursor: usize,
 }
 
-// What one round of the EVs from the cursor on tells: how many are passed before the first that is not avoided, and how many are avoided in all.
+// What one round of the EVs from the cursor on tells: how many are passed before the first that is not avoided,
+// and how many are avoided in all.
 struct Round {
     passed: usize,
     avoided: usize,
@@ -29,8 +30,8 @@ pub fn avoid_until(evs: &mut [u64], ev: usize, until: u64)
     evs[ev] = until;
 }
 
-// 1 for an EV that is avoided, 0 for another. Below 2^63 the highest bit of the wrapped difference is set exactly where it is below zero: no comparison of 64-bit
-// numbers, of which x86-64 has none that takes several at a time.
+// 1 for an EV that is avoided, 0 for another. Below 2^63 the highest bit of the wrapped difference is set exactly where it is below zero:
+// no comparison of 64-bit numbers, of which x86-64 has none that takes several at a time.
 fn one_avoided(until: u64, time: u64) -> usize
     requires { ⌜ (until < timeMost) × (time < timeMost) ⌝ }
     ensures { λ r. ⌜ r ≡ avoids time until ⌝ }
@@ -77,12 +78,13 @@ fn wrap(x: usize, n: usize) -> usize
     x - n
 }
 
-// One round, over two parts: `tail` are the EVs from the cursor on, `head` those before it. Every EV that is passed is avoided, so the count goes on from the
-// first free one (request M-102): that one alone is looked at twice.
+// One round, over two parts: `tail` are the EVs from the cursor on, `head` those before it. Every EV that is passed is avoided, so the
+// count goes on from the first free one (request M-102): that one alone is looked at twice.
 fn go_round(tail: &[u64], head: &[u64], time: u64) -> Round
     requires { ⌜ length (now tail) + length (now head) < 2 ^ 60 ⌝ }
     requires { ⌜ Early (now tail) × Early (now head) × (time < timeMost) ⌝ }
-    ensures { λ r. ⌜ (r .passed ≡ firstFree time (now (tail .entry) ++ now (head .entry))) × (r .avoided ≡ avoided time (now (tail .entry) ++ now (head .entry))) ⌝ }
+    ensures { λ r. ⌜ (r .passed ≡ firstFree time (now (tail .entry) ++ now (head .entry)))
+        × (r .avoided ≡ avoided time (now (tail .entry) ++ now (head .entry))) ⌝ }
 {
     let k = first_free(tail, time);
     if k < tail.len() {

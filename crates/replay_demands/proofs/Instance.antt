@@ -1,4 +1,5 @@
--- Document 01's worked example, settings E and its four events as the log's bytes: a log that meets the premises, so that the theorems are not empty.
+-- Document 01's worked example, settings E and its four events as the log's bytes: a log that meets the premises, so
+-- that the theorems are not empty.
 -- Assumes nothing.
 use mathlib.Core.Path.{_≡_, refl, ap, _∙_}
 use mathlib.Core.Bool.{false}
@@ -98,7 +99,16 @@ events =
     newData 0 8192
     ∷ send 10 (record { psn = 0; size = 4096; resend = false })
     ∷ send 20 (record { psn = 2; size = 4096; resend = false })
-    ∷ ack 110 (record { cum = 0; map = 0; trigger = 0; count = 16; service = 4; ev = 0; marked = false; retx = false })
+    ∷ ack 110 (record {
+      cum = 0;
+      map = 0;
+      trigger = 0;
+      count = 16;
+      service = 4;
+      ev = 0;
+      marked = false;
+      retx = false;
+    })
     ∷ []
 
 worked-events : eventsOf behind ≡ events
@@ -110,17 +120,25 @@ abbrev given : List Answered
 given = told 0 (opened settingsE lent) ∷ answers (opened settingsE lent) events
 
 given-numbers : map (λ (a : Answered). a .number) given ≡ 0 ∷ 0 ∷ 0 ∷ 8 ∷ 0 ∷ []
-unfolding lent settingsE answers onSetUp freshState freshOf firstOf inRange inside isEvCount isRing isCapacity ifSo ifEq ifLt onNewData onSend onAck
-    decided newDataStep newDataState sendStep settled stateOf suppliedOf pushedOf putAt changed sound soundWindow maxWndOf soundLedger stands longOf minus
-    allTo slotOk isLive isZero headOk tallies sumOf flyingOne markedOne markedSize inBounds packets queueOf tabulate packetAt placeOf plus ageOf lay
-    laid isDone timesOk namedOk phaseOf phaseNumber hasRoom covered bitOf unsentOrOld backOf spanOf leadingZeros newlyOf forwardOf aheadOf isOld sinks
+unfolding lent settingsE answers onSetUp freshState freshOf firstOf inRange inside isEvCount isRing isCapacity ifSo ifEq ifLt onNewData
+    onSend onAck
+    decided newDataStep newDataState sendStep settled stateOf suppliedOf pushedOf putAt changed sound soundWindow maxWndOf soundLedger
+    stands longOf minus
+    allTo slotOk isLive isZero headOk tallies sumOf flyingOne markedOne markedSize inBounds packets queueOf tabulate packetAt placeOf
+    plus ageOf lay
+    laid isDone timesOk namedOk phaseOf phaseNumber hasRoom covered bitOf unsentOrOld backOf spanOf leadingZeros newlyOf forwardOf
+    aheadOf isOld sinks
 given-numbers = refl
 
 given-flights : map (λ (a : Answered). a .after .state .totals .«in_flight») given ≡ pos 0 ∷ pos 0 ∷ pos 4096 ∷ pos 4096 ∷ pos 0 ∷ []
-unfolding lent settingsE answers onSetUp freshState freshOf firstOf inRange inside isEvCount isRing isCapacity ifSo ifEq ifLt onNewData onSend onAck
-    decided newDataStep newDataState sendStep settled stateOf suppliedOf pushedOf putAt changed sound soundWindow maxWndOf soundLedger stands longOf minus
-    allTo slotOk isLive isZero headOk tallies sumOf flyingOne markedOne markedSize inBounds packets queueOf tabulate packetAt placeOf plus ageOf lay
-    laid isDone timesOk namedOk phaseOf phaseNumber hasRoom covered bitOf unsentOrOld backOf spanOf leadingZeros newlyOf forwardOf aheadOf isOld sinks
+unfolding lent settingsE answers onSetUp freshState freshOf firstOf inRange inside isEvCount isRing isCapacity ifSo ifEq ifLt onNewData
+    onSend onAck
+    decided newDataStep newDataState sendStep settled stateOf suppliedOf pushedOf putAt changed sound soundWindow maxWndOf soundLedger
+    stands longOf minus
+    allTo slotOk isLive isZero headOk tallies sumOf flyingOne markedOne markedSize inBounds packets queueOf tabulate packetAt placeOf
+    plus ageOf lay
+    laid isDone timesOk namedOk phaseOf phaseNumber hasRoom covered bitOf unsentOrOld backOf spanOf leadingZeros newlyOf forwardOf
+    aheadOf isOld sinks
     ackStep ackedOf coverOne coverAll doneRun isFlying isOut heldOf
 given-flights = refl
 
@@ -129,10 +147,14 @@ abbrev summed : (Event → Past → ℕ) → ℕ
 summed by = sum by (opened settingsE lent) noPast events
 
 given-sums : summed sentBy ∷ summed reportedBy ∷ summed lostBy ∷ [] ≡ 4096 ∷ 4096 ∷ 0 ∷ []
-unfolding lent settingsE answers onSetUp freshState freshOf firstOf inRange inside isEvCount isRing isCapacity ifSo ifEq ifLt onNewData onSend onAck
-    decided newDataStep newDataState sendStep settled stateOf suppliedOf pushedOf putAt changed sound soundWindow maxWndOf soundLedger stands longOf minus
-    allTo slotOk isLive isZero headOk tallies sumOf flyingOne markedOne markedSize inBounds packets queueOf tabulate packetAt placeOf plus ageOf lay
-    laid isDone timesOk namedOk phaseOf phaseNumber hasRoom covered bitOf unsentOrOld backOf spanOf leadingZeros newlyOf forwardOf aheadOf isOld sinks
+unfolding lent settingsE answers onSetUp freshState freshOf firstOf inRange inside isEvCount isRing isCapacity ifSo ifEq ifLt onNewData
+    onSend onAck
+    decided newDataStep newDataState sendStep settled stateOf suppliedOf pushedOf putAt changed sound soundWindow maxWndOf soundLedger
+    stands longOf minus
+    allTo slotOk isLive isZero headOk tallies sumOf flyingOne markedOne markedSize inBounds packets queueOf tabulate packetAt placeOf
+    plus ageOf lay
+    laid isDone timesOk namedOk phaseOf phaseNumber hasRoom covered bitOf unsentOrOld backOf spanOf leadingZeros newlyOf forwardOf
+    aheadOf isOld sinks
     sum sentBy reportedBy lostBy remember heldOf
 given-sums = refl
 
@@ -144,11 +166,13 @@ worked-given = replayed worked lent settingsE behind worked-opened ∙ rw (worke
 pub worked-numbers : map (λ (a : Answered). a .number) (map answerOf (turns worked lent)) ≡ 0 ∷ 0 ∷ 0 ∷ 8 ∷ 0 ∷ []
 worked-numbers = ap (map (λ (a : Answered). a .number)) worked-given ∙ given-numbers
 
-pub worked-flights : map (λ (a : Answered). a .after .state .totals .«in_flight») (map answerOf (turns worked lent)) ≡ pos 0 ∷ pos 0 ∷ pos 4096 ∷ pos 4096 ∷ pos 0 ∷ []
+pub worked-flights : map (λ (a : Answered). a .after .state .totals .«in_flight») (map answerOf (turns worked lent)) ≡ pos 0 ∷ pos 0
+    ∷ pos 4096 ∷ pos 4096 ∷ pos 0 ∷ []
 worked-flights = ap (map (λ (a : Answered). a .after .state .totals .«in_flight»)) worked-given ∙ given-flights
 
 -- and `turn-history` speaks of the last
-pub worked-history : (t : Turning) → getElem? (turns worked lent) 4 ≡ some t → t .after .state .totals .«in_flight» ≡ pos 4096 -ℤ pos 4096 -ℤ pos 0
+pub worked-history : (t : Turning) → getElem? (turns worked lent) 4 ≡ some t
+    → t .after .state .totals .«in_flight» ≡ pos 4096 -ℤ pos 4096 -ℤ pos 0
 unfolding eventsOf
 worked-history t there =
     turn-history worked lent settingsE behind worked-opened 4 t there

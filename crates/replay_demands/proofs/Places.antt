@@ -23,7 +23,8 @@ use Rattle.replay.specs.declared.records.Event.the-variants as event
 use Rattle.replay.specs.declared.Shown.{Shown}
 use Rattle.replay.proofs.Progress.{turn-cases, turns-none, turns-more}
 use Rattle.demands.specs.Events.{Event, answer, run}
-use Rattle.replay_demands.specs.Histories.{start, turns, eventsOf, withStop, stopsWith, Opened, opened, lastOf, answerOf, told, answers, stop}
+use Rattle.replay_demands.specs.Histories.{start, turns, eventsOf, withStop, stopsWith, Opened, opened, lastOf, answerOf, told}
+use Rattle.replay_demands.specs.Histories.{answers, stop}
 use Rattle.replay_demands.specs.Recorded.{RecordCounted, WorldAfter, NumberOf, NoEvent}
 use Rattle.replay_demands.proofs.Replays.{stopped-turns, replayed}
 
@@ -62,7 +63,8 @@ turn-counts f p w =
 module _ (log : List ℕ) (p : Place) (w : World) (t : Turning) where
   -- no turn, or one and those behind it
   by-turn : (k : ℕ) (P : Type 0) → (turnOf (logged log) p w .ended ≡ false
-      → getElem? (turnOf (logged log) p w ∷ turnsOf (logged log) (turnOf (logged log) p w .place) (turnOf (logged log) p w .after)) k ≡ some t → P)
+      → getElem? (turnOf (logged log) p w ∷ turnsOf (logged log) (turnOf (logged log) p w .place) (turnOf (logged log) p w .after)) k
+      ≡ some t → P)
       → getElem? (turnsOf (logged log) p w) k ≡ some t → P
   by-turn k P some-turn = by (turnOf (logged log) p w .ended) refl
     where
@@ -85,7 +87,8 @@ module _ (log : List ℕ) (p : Place) (w : World) (t : Turning) where
       (λ halted. absurd (no-element k t (rw (stopped-turns log (u .place) (u .after) halted) at is)))
       (turn-counts (logged log) p w go .1))
 
-counted : (log : List ℕ) (k : ℕ) (p : Place) (w : World) (t : Turning) → getElem? (turnsOf (logged log) p w) k ≡ some t → t .rec ≡ p .done + 1 + k
+counted : (log : List ℕ) (k : ℕ) (p : Place) (w : World) (t : Turning) → getElem? (turnsOf (logged log) p w) k ≡ some t
+    → t .rec ≡ p .done + 1 + k
 counted log zero p w t there = omega (arith, first-counted log p w t there)
 counted log (suc k) p w t there = later-counted log p w t k (λ q v. counted log k q v t) there
 
@@ -94,10 +97,12 @@ record-counted log lent k t there = omega (arith, counted log k start lent t the
 
 -- ---- the world and the number
 
-at-answer : (es : List Event) (w : World) (n k : ℕ) (a : Answered) → getElem? (answers w es ++ stop n (run w es)) k ≡ some a → a .after ≡ run w (take (suc k) es)
+at-answer : (es : List Event) (w : World) (n k : ℕ) (a : Answered) → getElem? (answers w es ++ stop n (run w es)) k ≡ some a
+    → a .after ≡ run w (take (suc k) es)
 unfolding answers
 at-answer [] w n k a is =
-    eq-both (λ (l : List Answered). getElem? l k ≡ some a → a .after ≡ w) n 0 [] (told n w ∷ []) (λ _ e. absurd (no-element k a e)) (λ _. one k) is
+    eq-both (λ (l : List Answered). getElem? l k ≡ some a → a .after ≡ w) n 0 [] (told n w ∷ []) (λ _ e. absurd (no-element k a e))
+    (λ _. one k) is
   where
     one : (k : ℕ) → getElem? (told n w ∷ []) k ≡ some a → a .after ≡ w
     one zero e = ap (λ (x : Answered). x .after) (same-element (told n w) a e)
@@ -109,7 +114,8 @@ number-at : (es : List Event) (w : World) (rest : List Answered) (k : ℕ) (e : 
     → getElem? (answers w es ++ rest) k ≡ some a → a .number ≡ answer e (run w (take k es)) .number
 unfolding answers
 number-at [] w rest k e a there is = absurd (no-element k e there)
-number-at (d ∷ es) w rest zero e a there is = rw (same-element d e there) (ap (λ (x : Answered). x .number) (same-element (answer d w) a is))
+number-at (d ∷ es) w rest zero e a there is = rw (same-element d e there)
+    (ap (λ (x : Answered). x .number) (same-element (answer d w) a is))
 number-at (d ∷ es) w rest (suc k) e a there is = number-at es (answer d w .after) rest k e a there is
 
 -- a replay stops with 12 or at the log's end
@@ -118,7 +124,8 @@ unfolding stopsWith
 stops-so [] n so = so
 stops-so (r ∷ rs) n so = by (eventOf r) (stops-so rs n so)
   where
-    by : (e : Logged) → (stopsWith rs n ≡ 0) ⊎ (stopsWith rs n ≡ 12) → (withStop e (stopsWith rs n) ≡ 0) ⊎ (withStop e (stopsWith rs n) ≡ 12)
+    by : (e : Logged) → (stopsWith rs n ≡ 0) ⊎ (stopsWith rs n ≡ 12)
+        → (withStop e (stopsWith rs n) ≡ 0) ⊎ (withStop e (stopsWith rs n) ≡ 12)
     by (event.NewData time bytes) more = more
     by (event.Send time a) more = more
     by (event.Ack time a) more = more
@@ -138,7 +145,8 @@ no-event-at : (es : List Event) (w : World) (n k : ℕ) (a : Answered) → (n �
     → getElem? (answers w es ++ stop n (run w es)) k ≡ some a → a .number ≡ 12
 unfolding answers
 no-event-at [] w n k a so past is =
-    eq-both (λ (l : List Answered). getElem? l k ≡ some a → a .number ≡ 12) n 0 [] (told n w ∷ []) (λ _ e. absurd (no-element k a e)) (λ not. one not k) is
+    eq-both (λ (l : List Answered). getElem? l k ≡ some a → a .number ≡ 12) n 0 [] (told n w ∷ []) (λ _ e. absurd (no-element k a e))
+    (λ not. one not k) is
   where
     one : (n ≡ 0 → ⊥) → (k : ℕ) → getElem? (told n w ∷ []) k ≡ some a → a .number ≡ 12
     one not zero e = ap (λ (x : Answered). x .number) (same-element (told n w) a e) ∙ ⊎-elim (λ z. absurd (not z)) (λ t. t) so
@@ -163,12 +171,14 @@ world-after log lent s behind O k t there = by k (answer-at log lent s behind O 
     es : List Event
     es = eventsOf behind
 
-    by : (k : ℕ) → getElem? (told 0 w ∷ (answers w es ++ stop (stopsWith behind (lastOf log)) (run w es))) k ≡ some (answerOf t) → t .after ≡ run w (take k es)
+    by : (k : ℕ) → getElem? (told 0 w ∷ (answers w es ++ stop (stopsWith behind (lastOf log)) (run w es))) k ≡ some (answerOf t)
+        → t .after ≡ run w (take k es)
     by zero is = ap (λ (x : Answered). x .after) (same-element (told 0 w) (answerOf t) is)
     by (suc k) is = at-answer es w _ k (answerOf t) is
 
 pub number-of : NumberOf
-number-of log lent s behind O k t e there is = number-at (eventsOf behind) (opened s lent) _ k e (answerOf t) is (answer-at log lent s behind O (suc k) t there)
+number-of log lent s behind O k t e there is = number-at (eventsOf behind) (opened s lent) _ k e (answerOf t) is
+    (answer-at log lent s behind O (suc k) t there)
 
 pub no-event : NoEvent
 no-event log lent s behind O k t there past =

@@ -1,5 +1,5 @@
--- A log's replay is a history: each turn behind record 1 answers what the sender answers to its record's event, and leaves the world that the event leaves.
--- By induction over the records that the log is read as.
+-- A log's replay is a history: each turn behind record 1 answers what the sender answers to its record's event, and leaves the world that
+-- the event leaves. By induction over the records that the log is read as.
 -- Assumes nothing.
 use mathlib.Core.Path.{_≡_, refl, sym, ap, _∙_}
 use mathlib.Core.Bool.{Bool, true, false, not, _&&_, false≢true}
@@ -49,14 +49,16 @@ other (x ∷ xs) = not (eqb (x .number) 12) && other xs
 not-here : (before : List Row) (here : Row) (after : List Row) → here .number ≡ 12 → other (before ++ (here ∷ after)) ≡ true → ⊥
 unfolding other
 not-here [] here after is e = let z : false ≡ true = rw is at e in false≢true z
-not-here (x ∷ before) here after is e = not-here before here after is (both (not (eqb (x .number) 12)) (other (before ++ (here ∷ after))) e .1)
+not-here (x ∷ before) here after is e = not-here before here after is
+    (both (not (eqb (x .number) 12)) (other (before ++ (here ∷ after))) e .1)
 
 rows-other : (e : Event) (w : World) → other (rowsOf e w) ≡ true
 unfolding other
 rows-other (newData time bytes) w = refl
 rows-other (send time a) w = by (a .resend)
   where
-    by : (again : Bool) → other (withSound w (sendAllRows time (record { psn = a .psn; size = a .size; resend = again }) (w .state) (w .slots))) ≡ true
+    by : (again : Bool) → other (withSound w (sendAllRows time (record { psn = a .psn; size = a .size; resend = again }) (w .state)
+        (w .slots))) ≡ true
     by true = refl
     by false = refl
 rows-other (ack time a) w = refl
@@ -120,14 +122,16 @@ found-twelve Malformed n = refl
 pub refused-turn : (log : List ℕ) (at done : ℕ) (w : World) → parsedNumber (parseAt log at) ≡ 12
     → turnOf (logged log) (place at done) w ≡ turned (place at done) at (malformed w)
 unfolding onFound
-refused-turn log at done w n = turn-at log at done w (parseAt log at) refl ∙ ap (onFound (place at done) w) (found-twelve (parseAt log at) n)
+refused-turn log at done w n = turn-at log at done w (parseAt log at) refl
+    ∙ ap (onFound (place at done) w) (found-twelve (parseAt log at) n)
 
 pub twelve-turns : (log : List ℕ) (p : Place) (next : ℕ) (w : World) → turnOf (logged log) p w ≡ turned p next (malformed w)
     → turnsOf (logged log) p w ≡ turned p next (malformed w) ∷ []
 unfolding placeAfter ifEq
 twelve-turns log p next w e =
     let t : Turning = turned p next (malformed w) in
-    rw e at (turns-more (logged log) p w (ap (λ (x : Turning). x .ended) e)) ∙ ap (λ (ts : List Turning). t ∷ ts) (stopped-turns log (t .place) w refl)
+    rw e at (turns-more (logged log) p w (ap (λ (x : Turning). x .ended) e))
+    ∙ ap (λ (ts : List Turning). t ∷ ts) (stopped-turns log (t .place) w refl)
 
 -- a record behind record 1
 module _ (log : List ℕ) (at next done : ℕ) (w : World) (r : Record) (past : done ≡ 0 → ⊥) (reads : parseAt log at ≡ Whole r next) where
@@ -139,7 +143,8 @@ module _ (log : List ℕ) (at next done : ℕ) (w : World) (r : Record) (past : 
 
   -- one that is an event
   event-turns : (e : Logged) (d : Event) → eventOf r ≡ e → Goes e d w
-      → map answerOf (turnsOf (logged log) (place at done) w) ≡ answer d w ∷ map answerOf (turnsOf (logged log) (place next (done + 1)) (answer d w .after))
+      → map answerOf (turnsOf (logged log) (place at done) w) ≡ answer d w
+      ∷ map answerOf (turnsOf (logged log) (place next (done + 1)) (answer d w .after))
   unfolding placeAfter
   event-turns e d is G =
       let t : Turning = turned (place at done) next (onLater e w) in
@@ -149,7 +154,8 @@ module _ (log : List ℕ) (at next done : ℕ) (w : World) (r : Record) (past : 
       ∙ rw (there, G .number, G .after)
 
   -- a second settings record
-  settings-turns : (s : Settings) → eventOf r ≡ event.SetUp s → turnsOf (logged log) (place at done) w ≡ turned (place at done) next (malformed w) ∷ []
+  settings-turns : (s : Settings) → eventOf r ≡ event.SetUp s → turnsOf (logged log) (place at done) w
+      ≡ turned (place at done) next (malformed w) ∷ []
   unfolding onLater
   settings-turns s is = twelve-turns log (place at done) next w (later-turn (event.SetUp s) is)
 
@@ -160,7 +166,8 @@ module _ (log : List ℕ) (at next done : ℕ) (w : World) (r : Record) (past : 
       → map answerOf (turnsOf (logged log) (place at done) w) ≡ answers w (withEvent e es) ++ stop (withStop e n) (run w (withEvent e es))
   unfolding answers onLater ifEq
   by-event es n more (event.NewData time bytes) is =
-      event-turns _ (newData time bytes) is (record { number = refl; after = refl; on = refl }) ∙ rw (more (answer (newData time bytes) w .after))
+      event-turns _ (newData time bytes) is (record { number = refl; after = refl; on = refl })
+      ∙ rw (more (answer (newData time bytes) w .after))
   by-event es n more (event.Send time a) is =
       event-turns _ (send time a) is (record { number = refl; after = refl; on = refl }) ∙ rw (more (answer (send time a) w .after))
   by-event es n more (event.Ack time a) is =
@@ -180,14 +187,16 @@ abbrev behindOf : World → List Record → ℕ → List Answered
 behindOf w rs n = answers w (eventsOf rs) ++ stop (stopsWith rs n) (run w (eventsOf rs))
 
 later : {log : List ℕ} {at : ℕ} → Run log at → (done : ℕ) → (done ≡ 0 → ⊥) → (w : World)
-    → let R = readFrom log at in map answerOf (turnsOf (logged log) (place at done) w) ≡ behindOf w (R .records) (parsedNumber (parseAt log (R .stop)))
+    → let R = readFrom log at in map answerOf (turnsOf (logged log) (place at done) w)
+    ≡ behindOf w (R .records) (parsedNumber (parseAt log (R .stop)))
 unfolding answers eventsOf stopsWith ifEq
 later {log} {at} (ended past e) done behind w = rw (read-end log at e, end-turns log at done w e, e)
 later {log} {at} (refused i n) done behind w =
     rw (read-twelve log at n, n) (ap (map answerOf) (twelve-turns log (place at done) at w (refused-turn log at done w n)))
 later {log} {at} (onward {next = next} {r = r} e a b on) done behind w =
     rw (read-on log at (Whole r next) e)
-    (by-event log at next done w r behind e (eventsOf (readFrom log next .records)) _ (later on (done + 1) (λ z. omega arith)) (eventOf r) refl)
+    (by-event log at next done w r behind e (eventsOf (readFrom log next .records)) _ (later on (done + 1) (λ z. omega arith))
+    (eventOf r) refl)
 
 -- ---- record 1
 
@@ -202,12 +211,16 @@ record Front (log : List ℕ) (first : Record) (behind : List Record) : Type 0 w
 nothing-read : (first : Record) (behind : List Record) → _≡_ {A = List Record} [] (first ∷ behind) → ⊥
 nothing-read first behind e = let z : _≡_ {A = ℕ} 0 1 = cc in omega arith
 
-front-of : (log : List ℕ) (at : ℕ) → at ≡ 0 → Run log at → (first : Record) (behind : List Record) → recordsOf log ≡ first ∷ behind → Front log first behind
-front-of log at z (ended past e) first behind is = absurd (nothing-read first behind (ap (λ (R : Reading). R .records) (sym (read-end log 0 (rw z at e))) ∙ is))
-front-of log at z (refused i n) first behind is = absurd (nothing-read first behind (ap (λ (R : Reading). R .records) (sym (read-twelve log 0 (rw z at n))) ∙ is))
+front-of : (log : List ℕ) (at : ℕ) → at ≡ 0 → Run log at → (first : Record) (behind : List Record) → recordsOf log ≡ first ∷ behind
+    → Front log first behind
+front-of log at z (ended past e) first behind is = absurd (nothing-read first behind
+    (ap (λ (R : Reading). R .records) (sym (read-end log 0 (rw z at e))) ∙ is))
+front-of log at z (refused i n) first behind is = absurd (nothing-read first behind
+    (ap (λ (R : Reading). R .records) (sym (read-twelve log 0 (rw z at n))) ∙ is))
 front-of log at z (onward {next = next} {r = r} e a b on) first behind is =
     let reads : parseAt log 0 ≡ Whole r next = rw z at e in
-    let both : r ∷ readFrom log next .records ≡ first ∷ behind = ap (λ (R : Reading). R .records) (sym (read-on log 0 (Whole r next) reads)) ∙ is in
+    let both : r ∷ readFrom log next .records ≡ first ∷ behind =
+    ap (λ (R : Reading). R .records) (sym (read-on log 0 (Whole r next) reads)) ∙ is in
     let same : r ≡ first = cc in
     record {
       next = next;
@@ -236,4 +249,10 @@ replayed log lent s behind O =
     let set = onSetUp s (lent .slots) (lent .times) in
     let t : Turning = turned start (F .next) (onFirst (event.SetUp s) lent) in
     ap (map answerOf) (one-turn log 0 0 lent t (first-turn log (F .next) lent (O .first) (event.SetUp s) (F .reads) (O .settings)) refl)
-    ∙ rw (accepted-place (set .number) (F .next) (O .accepted), later (F .on) 1 (λ z. omega arith) (set .after), F .rest, F .stop-is, O .accepted)
+    ∙ rw (
+      accepted-place (set .number) (F .next) (O .accepted),
+      later (F .on) 1 (λ z. omega arith) (set .after),
+      F .rest,
+      F .stop-is,
+      O .accepted,
+    )

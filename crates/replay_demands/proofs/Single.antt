@@ -37,7 +37,8 @@ no-bytes : (log : List ℕ) → length log ≤ 0 → log ≡ []
 no-bytes [] h = refl
 no-bytes (b ∷ log) h = absurd (let wrong : ⊥ = omega arith in wrong)
 
-twelve-refused : (log : List ℕ) (lent : World) (next : ℕ) → turnOf (logged log) start lent ≡ turned start next (malformed lent) → Refused log lent
+twelve-refused : (log : List ℕ) (lent : World) (next : ℕ) → turnOf (logged log) start lent ≡ turned start next (malformed lent)
+    → Refused log lent
 unfolding placeAfter ifEq
 twelve-refused log lent next e = (turned start next (malformed lent), twelve-turns log start next lent e, (λ z. omega arith), refl)
 
@@ -63,10 +64,20 @@ module _ (log : List ℕ) (lent : World) (next : ℕ) (r : Record) (reads : pars
       by-cases (ℕ-discrete (set .number) 0)
       (λ z.
       let behind = readFrom log next .records in
-      absurd (none s behind (record { first = r; reads = ap (λ (R : Reading). R .records) (read-on log 0 (Whole r next) reads); settings = is; accepted = z })))
+      absurd (none s behind (record {
+        first = r;
+        reads = ap (λ (R : Reading). R .records) (read-on log 0 (Whole r next) reads);
+        settings = is;
+        accepted = z;
+      })))
       (λ z.
-      let halts : t .place .stopped ≡ true = stopped-first next (set .number) z in
-      (t, one-turn log 0 0 lent t (first-turn log next lent r _ reads is) refl ∙ ap (λ (ts : List Turning). t ∷ ts) (stopped-turns log (t .place) (t .after) halts), z, halts))
+      let halts : t .place .stopped ≡ true = stopped-first next (set .number) z in (
+        t,
+        one-turn log 0 0 lent t (first-turn log next lent r _ reads is) refl
+            ∙ ap (λ (ts : List Turning). t ∷ ts) (stopped-turns log (t .place) (t .after) halts),
+        z,
+        halts,
+      ))
 
 pub unopened : Unopened
 unopened log lent none = by 0 refl (every-log log 0)

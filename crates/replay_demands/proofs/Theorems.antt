@@ -37,7 +37,8 @@ no-event = places.no-event
 -- ---- the demands
 
 -- record 1 is an accepted setting up
-set-up : {log : List ℕ} {lent : World} {s : Settings} {behind : List Record} → Opened log lent s behind → SetUp s (lent .slots) (lent .times) (opened s lent)
+set-up : {log : List ℕ} {lent : World} {s : Settings} {behind : List Record} → Opened log lent s behind
+    → SetUp s (lent .slots) (lent .times) (opened s lent)
 set-up O = record { accepted = O .accepted; gives = refl }
 
 pub turn-sound : recorded.TurnSound
@@ -75,7 +76,8 @@ turn-burst log lent s behind O before more ds is t u there then at newest others
     ∙ ap (run w) (ap (take (length before)) is ∙ take-append-seam before (acks ds ++ more)) in
     let stretch : take (length before + length ds) (eventsOf behind) ≡ before ++ acks ds
     = ap (take (length before + length ds)) is
-    ∙ (take-append-add before (acks ds ++ more) (length ds) ∙ ap (λ (es : List Event). before ++ es) (take-at (acks ds) more (length ds) (long-acks ds))) in
+    ∙ (take-append-add before (acks ds ++ more) (length ds) ∙ ap (λ (es : List Event). before ++ es)
+    (take-at (acks ds) more (length ds) (long-acks ds))) in
     let delivered : u .after ≡ deliver (t .after) ds
     = world-after log lent s behind O (length before + length ds) u then
     ∙ (ap (run w) stretch ∙ (run-append before (acks ds) w ∙ (ap (λ (v : World). run v (acks ds)) (sym here) ∙ run-acks ds (t .after)))) in

@@ -1,6 +1,6 @@
--- The demands over a replayed log, sentence by sentence: whoever reads a line of a replay knows that they hold of the state that the line shows. Each statement
--- is a type; the theorem of the same name, in small letters, in proofs/Theorems has that type.
--- The turns are those of `replay::replay`, and of what is printed and reported of them, in batches of any size and in chunks cut anywhere: `turns-split` (replay),
+-- The demands over a replayed log, sentence by sentence: whoever reads a line of a replay knows that they hold of the state that the line
+-- shows. Each statement is a type; the theorem of the same name, in small letters, in proofs/Theorems has that type. The turns are those of
+-- `replay::replay`, and of what is printed and reported of them, in batches of any size and in chunks cut anywhere: `turns-split` (replay),
 -- `log-joined` (chunks) and `log-text-joined` (lines) say that these have the same turns.
 -- Assumes nothing.
 use mathlib.Core.Path.{_≡_}
@@ -26,8 +26,8 @@ use Rattle.replay_demands.specs.Histories.{turns, eventsOf, stopsWith, O
 
 -- ---- a log's replay is a history
 
--- The turns of a log whose record 1 is accepted settings: what they give; then the events of the records behind it, one after another, as the sender answers
--- them; then, where replay stops before the log's end, a 12 that changes nothing. There is no other turn.
+-- The turns of a log whose record 1 is accepted settings: what they give; then the events of the records behind it, one after another, as
+-- the sender answers them; then, where replay stops before the log's end, a 12 that changes nothing. There is no other turn.
 abbrev pub Replayed : Type 0
 Replayed = (log : List ℕ) (lent : World) (s : Settings) (behind : List Record) → Opened log lent s behind
     → let w = opened s lent in let es = eventsOf behind in
@@ -78,8 +78,8 @@ TurnHistory = (log : List ℕ) (lent : World) (s : Settings) (behind : List Reco
     → let w = opened s lent in let es = take k (eventsOf behind) in
     t .after .state .totals .«in_flight» ≡ pos (sum sentBy w noPast es) -ℤ pos (sum reportedBy w noPast es) -ℤ pos (sum lostBy w noPast es)
 
--- DEMAND 3. "Take a burst of acknowledgements with no other event between .. The ledger then equals the one that the newest alone leaves": neighbouring ACK
--- records ds of the log, behind the records of the turns up to t; u is the turn of the last of them
+-- DEMAND 3. "Take a burst of acknowledgements with no other event between .. The ledger then equals the one that the newest alone leaves":
+-- neighbouring ACK records ds of the log, behind the records of the turns up to t; u is the turn of the last of them
 abbrev pub TurnBurst : Type 0
 TurnBurst = (log : List ℕ) (lent : World) (s : Settings) (behind : List Record) → Opened log lent s behind
     → (before more : List Event) (ds : List Arrival) → eventsOf behind ≡ before ++ (acks ds ++ more)

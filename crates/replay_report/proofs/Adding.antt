@@ -20,7 +20,8 @@ use Rattle.replay.specs.declared.turns.Found.{Found}
 use Rattle.replay.specs.declared.turns.Found.the-variants as found
 use Rattle.replay.proofs.Batching.{kind-most}
 use Rattle.report_text.specs.Places.{answers, kindsAt, figureCount, bucketsAt, leastAt, greatestAt}
-use Rattle.replay_report.specs.Figures.{raised, answerCounted, kindCounted, bucketOf, lesser, leastKept, greatestKept, ticksCounted, sampleCounted, sentAt, sendCounted, eventCounted, bytesCounted, counted}
+use Rattle.replay_report.specs.Figures.{raised, answerCounted, kindCounted, bucketOf, lesser, leastKept, greatestKept, ticksCounted}
+use Rattle.replay_report.specs.Figures.{sampleCounted, sentAt, sendCounted, eventCounted, bytesCounted, counted}
 
 -- ---- answers
 
@@ -92,13 +93,15 @@ module _ (number : ℕ) (figures : List ℕ) where
   stands-none found.End n = refl
   stands-none found.Malformed n = refl
 
-  pub stands-one : (x : Found) (e : Event) (next : ℕ) → x ≡ found.Whole e next → {r : List ℕ} → r ≡ eventCounted number e figures → r ≡ bytesCounted number x figures
+  pub stands-one : (x : Found) (e : Event) (next : ℕ) → x ≡ found.Whole e next → {r : List ℕ} → r ≡ eventCounted number e figures
+      → r ≡ bytesCounted number x figures
   unfolding bytesCounted
   stands-one x e next is h = rw is h
 
 -- ---- all of it
 
-pub all-counted : (stands : Found) (number : ℕ) (shown : Shown) (figures x y r : List ℕ) → x ≡ answerCounted number figures → y ≡ sampleCounted shown x
+pub all-counted : (stands : Found) (number : ℕ) (shown : Shown) (figures x y r : List ℕ) → x ≡ answerCounted number figures
+    → y ≡ sampleCounted shown x
     → r ≡ bytesCounted number stands y → r ≡ counted stands number shown figures
 unfolding counted
 all-counted stands number shown figures x y r a b e = rw (← a, ← b) e

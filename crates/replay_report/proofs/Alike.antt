@@ -1,5 +1,5 @@
--- Two logs of equal length whose bytes are alike, request M-106: a record stays where all its bytes are (`parse-alike`), and an ACK stays but for its service time
--- where its other bytes are (`ack-alike`). Assumes nothing.
+-- Two logs of equal length whose bytes are alike, request M-106: a record stays where all its bytes are (`parse-alike`), and an ACK stays
+-- but for its service time where its other bytes are (`ack-alike`). Assumes nothing.
 use mathlib.Core.Path.{_≡_, refl, sym, ap, _∙_}
 use mathlib.Core.Bool.{true}
 use mathlib.Core.List.{List, [], _∷_}
@@ -9,7 +9,8 @@ use lib.Seq.{ext-getD, getD-take, getD-drop}
 use native.Mathlib.Omega.{arith}
 use Rattle.rules.specs.Branch.{ifLt, ifEq, so-yes, so-both, lt-yes, lt-no, lt-both}
 use Rattle.log_bytes.specs.Little.{littleEndian, numberAt}
-use Rattle.log_records.specs.Layout.{Row, Maker, newData, send, ack, nack, loss, path, settings, settingsEvs, table, key, keyOf, lookUp, readFields, read}
+use Rattle.log_records.specs.Layout.{Row, Maker, newData, send, ack, nack, loss, path, settings, settingsEvs, table, key, keyOf, lookUp}
+use Rattle.log_records.specs.Layout.{readFields, read}
 use Rattle.log_records.specs.Parse.{lenAt, kindAt, properOf, checkOf, wholeOf, frontOf, parseAt}
 use Rattle.log_records.specs.declared.record.Record.{Record}
 use Rattle.log_records.specs.declared.record.Record.the-variants.{Ack}
@@ -42,9 +43,11 @@ module _ (bs cs : List ℕ) (long : length bs ≡ length cs) where
       (λ i h.
       let near : i < width = omega (arith, length-take width (drop at bs)) in
       getD-take width (drop at bs) i 0 near
-      ∙ (getD-drop at bs i 0 ∙ (same (at + i) (omega arith) (omega arith) ∙ sym (getD-take width (drop at cs) i 0 near ∙ getD-drop at cs i 0)))))
+      ∙ (getD-drop at bs i 0 ∙ (same (at + i) (omega arith) (omega arith)
+      ∙ sym (getD-take width (drop at cs) i 0 near ∙ getD-drop at cs i 0)))))
 
-  fields-alike : (ws : List ℕ) (make : Maker Record ws) (at : ℕ) → Alike bs cs at (at + total ws) → readFields ws make bs at ≡ readFields ws make cs at
+  fields-alike : (ws : List ℕ) (make : Maker Record ws) (at : ℕ) → Alike bs cs at (at + total ws)
+      → readFields ws make bs at ≡ readFields ws make cs at
   fields-alike [] make at same = refl
   fields-alike (w ∷ ws) make at same =
       ap (λ (n : ℕ). readFields ws (make n) bs (at + w)) (number-alike at w (λ i from past. same i from (omega arith)))
@@ -88,7 +91,8 @@ module _ (at : ℕ) (bs : List ℕ) (x : Row) (r : Record) (next : ℕ) where
   unfolding wholeOf checkOf
   whole-of t =
       sym (lt-no (length bs) (x .len + 2) (Whole r next) Cut _ (t .there)
-      (so-yes (properOf (read x bs)) _ _ Malformed (ap properOf (t .is) ∙ t .proper) (sym (ap (Whole (read x bs)) (sym (t .past)) ∙ ap (λ (y : Record). Whole y next) (t .is)))))
+      (so-yes (properOf (read x bs)) _ _ Malformed (ap properOf (t .is) ∙ t .proper)
+      (sym (ap (Whole (read x bs)) (sym (t .past)) ∙ ap (λ (y : Record). Whole y next) (t .is)))))
 
 -- the fields of each row end where its length says
 ends : Each (λ x. headSize + total (x .fields) ≤ x .len + 2) table
@@ -115,7 +119,8 @@ module _ (at : ℕ) (bs cs : List ℕ) (long : length bs ≡ length cs) (r : Rec
       sym (lt-no (length cs) 4 (Whole r next) Cut _ (omega arith)
       (sym (ap (λ (n : ℕ). lookUp table n (wholeOf at cs) Malformed) (sym (key-alike bs cs long head))
       ∙ look-two (λ (p q : Parsed). p ≡ Whole r next → q ≡ Whole r next) k (wholeOf at bs) (wholeOf at cs) Malformed Malformed table
-      (each-map (λ x. headSize + total (x .fields) ≤ x .len + 2) (λ x. k ≡ keyOf x → wholeOf at bs x ≡ Whole r next → wholeOf at cs x ≡ Whole r next)
+      (each-map (λ x. headSize + total (x .fields) ≤ x .len + 2)
+      (λ x. k ≡ keyOf x → wholeOf at bs x ≡ Whole r next → wholeOf at cs x ≡ Whole r next)
       (λ x fits _. row-alike x fits) table ends)
       (λ e. e) e))))
 
@@ -145,7 +150,13 @@ module _ (at : ℕ) (bs : List ℕ) (time cum map trigger count service ev flags
           (λ _. not-acked send (λ e. cc)),
           (
             (λ is e. (is, told at bs ack heard next e)),
-            ((λ _. not-acked nack (λ e. cc)), ((λ _. not-acked loss (λ e. cc)), ((λ _. not-acked path (λ e. cc)), ((λ _. not-acked settings (λ e. cc)), ((λ _. not-acked settingsEvs (λ e. cc)), tt))))),
+            (
+              (λ _. not-acked nack (λ e. cc)),
+              (
+                (λ _. not-acked loss (λ e. cc)),
+                ((λ _. not-acked path (λ e. cc)), ((λ _. not-acked settings (λ e. cc)), ((λ _. not-acked settingsEvs (λ e. cc)), tt))),
+              ),
+            ),
           ),
         ),
       )
@@ -166,7 +177,16 @@ module _ (at : ℕ) (bs : List ℕ) (time cum map trigger count service ev flags
         = λ from width h l. number-alike bs cs long from width (λ i a b. behind i (omega arith) (omega (arith, t .past))) in
         record {
           -- its fields in the table's order
-          is = cc (same 4 8 (omega arith), same 12 4 (omega arith), same 16 8 (omega arith), same 24 4 (omega arith), same 28 4 (omega arith), later 36 2 (omega arith) (omega arith), later 38 1 (omega arith) (omega arith));
+          is = cc (
+            same 4 8 (omega arith),
+            same 12 4 (omega arith),
+            same 16 8 (omega arith),
+            same 24 4 (omega arith),
+            same 28 4
+                (omega arith),
+            later 36 2 (omega arith) (omega arith),
+            later 38 1 (omega arith) (omega arith),
+          );
           proper = t .proper;
           past = t .past;
           there = omega (arith, t .there);
@@ -178,7 +198,8 @@ module _ (at : ℕ) (bs : List ℕ) (time cum map trigger count service ev flags
         let a = ack-told e in
         let t = told-other (a .1) in
         sym (lt-no (length cs) 4 (Whole other next) Cut _ (omega (arith, t .there))
-        (sym (ap (λ (n : ℕ). lookUp table n (wholeOf at cs) Malformed) (sym (key-alike bs cs long (λ i from past. before i from (omega arith))) ∙ a .0)
+        (sym (ap (λ (n : ℕ). lookUp table n (wholeOf at cs) Malformed)
+        (sym (key-alike bs cs long (λ i from past. before i from (omega arith))) ∙ a .0)
         ∙ whole-of at cs ack other next t)))
 
 -- ---- in a log
@@ -206,11 +227,13 @@ module _ (log other : List ℕ) (at : ℕ) (long : length log ≡ length other) 
   pub rest-alike : ((i : ℕ) → at ≤ i → getD log i 0 ≡ getD other i 0) → parseAt log at ≡ parseAt other at
   unfolding parseAt
   rest-alike same =
-      let rest : drop at log ≡ drop at other = ext-getD 0 (drop at log) (drop at other) drop-long (λ i _. drop-alike i (same (at + i) (omega arith))) in
+      let rest : drop at log ≡ drop at other = ext-getD 0 (drop at log) (drop at other) drop-long
+      (λ i _. drop-alike i (same (at + i) (omega arith))) in
       ap (λ (n : ℕ). ifLt at n (frontOf at (drop at log)) End) long ∙ ap (λ (l : List ℕ). ifLt at (length other) (frontOf at l) End) rest
 
   -- a record whose bytes are alike is the same
-  pub parse-alike : (r : Record) (next : ℕ) → Alike log other at (at + headSize) → Alike log other at next → parseAt log at ≡ Whole r next → parseAt other at ≡ Whole r next
+  pub parse-alike : (r : Record) (next : ℕ) → Alike log other at (at + headSize) → Alike log other at next
+      → parseAt log at ≡ Whole r next → parseAt other at ≡ Whole r next
   parse-alike r next head same e =
       let f = parse-front log at r next e in
       front-parse other at r next (omega (arith, f .0))
@@ -218,7 +241,8 @@ module _ (log other : List ℕ) (at : ℕ) (long : length log ≡ length other) 
       (λ i _ h. drop-alike i (head (at + i) (omega arith) (omega arith))) (f .1))
 
   -- an ACK whose bytes are alike but for its service time is the same but for that
-  module _ (time cum map trigger count service ev flags next : ℕ) (e : parseAt log at ≡ Whole (Ack time cum map trigger count service ev flags) next) where
+  module _ (time cum map trigger count service ev flags next : ℕ)
+      (e : parseAt log at ≡ Whole (Ack time cum map trigger count service ev flags) next) where
     pub ack-past : next ≡ at + ackSize
     ack-past = ack-told at (drop at log) time cum map trigger count service ev flags next (parse-front log at _ next e .1) .1 .past
 

@@ -1,5 +1,6 @@
--- REQUEST M-106, "Ambiguous packets must not matter" (`ambiguous-does-not-matter`): turn by turn, what stands in the two logs is the same or an ACK with another
--- service time whose outcome is ambiguous, so the turn is the same and so are the bytes that may differ from there on. Assumes nothing.
+-- REQUEST M-106, "Ambiguous packets must not matter" (`ambiguous-does-not-matter`): turn by turn, what stands in the two logs is the
+-- same or an ACK with another service time whose outcome is ambiguous, so the turn is the same and so are the bytes that may differ
+-- from there on. Assumes nothing.
 use mathlib.Core.Path.{_≡_, refl, sym, ap, _∙_}
 use mathlib.Core.Bool.{Bool, true, false, _&&_, _||_}
 use mathlib.Core.List.{List, [], _∷_}
@@ -20,7 +21,8 @@ use Rattle.log_records.specs.declared.parse.Parsed.{Parsed}
 use Rattle.log_records.specs.declared.parse.Parsed.the-variants as parsed
 use Rattle.replay.specs.Answers.{onEvent}
 use Rattle.replay.specs.Batches.{kindOf, fillRoomOf, batchOf}
-use Rattle.replay.specs.Places.{logged, foundIn, foundFrom, foundAt, endFrom, Turning, over, placeAfter, turned, onFound, turnOf, turnsIn, turnsOf, lastPlace, lastWorld}
+use Rattle.replay.specs.Places.{logged, foundIn, foundFrom, foundAt, endFrom, Turning, over, placeAfter, turned, onFound, turnOf, turnsIn}
+use Rattle.replay.specs.Places.{turnsOf, lastPlace, lastWorld}
 use Rattle.replay.specs.Records.{eventOf, ackOf}
 use Rattle.replay.specs.declared.Place.{Place}
 use Rattle.replay.specs.declared.Shown.{Shown}
@@ -70,7 +72,8 @@ found-is : (l : List ℕ) (at : ℕ) (x : Parsed) → parseAt l at ≡ x → fou
 unfolding foundFrom
 found-is l at x e = ap foundIn e
 
-turn-is : (l : List ℕ) (p : Place) (w : World) (x : Found) → p .stopped ≡ false → foundAt (logged l) (p .at) ≡ x → turnOf (logged l) p w ≡ onFound p w x
+turn-is : (l : List ℕ) (p : Place) (w : World) (x : Found) → p .stopped ≡ false → foundAt (logged l) (p .at) ≡ x
+    → turnOf (logged l) p w ≡ onFound p w x
 unfolding turnOf
 turn-is l p w x s e = sym (so-no (p .stopped) (onFound p w x) (over p w) _ s (ap (onFound p w) (sym e)))
 
@@ -78,7 +81,8 @@ stopped-none : (l : List ℕ) (k : ℕ) (p : Place) (w : World) → p .stopped �
 unfolding turnsIn turnOf
 stopped-none l zero p w s = refl
 stopped-none l (suc k) p w s =
-    sym (so-yes (turnOf (logged l) p w .ended) [] [] _ (ap (λ (t : Turning). t .ended) (sym (so-yes (p .stopped) (over p w) (over p w) _ s refl))) refl)
+    sym (so-yes (turnOf (logged l) p w .ended) [] [] _ (ap (λ (t : Turning). t .ended)
+    (sym (so-yes (p .stopped) (over p w) (over p w) _ s refl))) refl)
 
 module _ (log : List ℕ) (k : ℕ) (p : Place) (w : World) (i : ℕ) where
   abbrev Kept : List Turning → Type 0
@@ -95,15 +99,18 @@ module _ (log : List ℕ) (k : ℕ) (p : Place) (w : World) (i : ℕ) where
       (λ go. none-of (ambiguousAck log p (turnOf (logged log) p w)) _ _ (λ a. outside _ i _ (here a)) (later go))
 
 -- none before the first service time
-kept-before : (log : List ℕ) (k : ℕ) (p : Place) (w : World) (i : ℕ) → i < p .at + serviceFirst → mayDiffer log p (turnsIn k (logged log) p w) i ≡ false
+kept-before : (log : List ℕ) (k : ℕ) (p : Place) (w : World) (i : ℕ) → i < p .at + serviceFirst
+    → mayDiffer log p (turnsIn k (logged log) p w) i ≡ false
 unfolding turnsIn mayDiffer
 kept-before log zero p w i h = refl
 kept-before log (suc k) p w i h =
     let t = turnOf (logged log) p w in
-    kept-turn log k p w i (λ _ low _. omega arith) (λ _. kept-before log k (t .place) (t .after) i (omega (arith, turn-forward (logged log) p w)))
+    kept-turn log k p w i (λ _ low _. omega arith) (λ _. kept-before log k (t .place) (t .after) i
+    (omega (arith, turn-forward (logged log) p w)))
 
 -- none where replay has stopped
-kept-stopped : (log : List ℕ) (k : ℕ) (p : Place) (w : World) (i : ℕ) → p .stopped ≡ true → mayDiffer log p (turnsIn k (logged log) p w) i ≡ false
+kept-stopped : (log : List ℕ) (k : ℕ) (p : Place) (w : World) (i : ℕ) → p .stopped ≡ true
+    → mayDiffer log p (turnsIn k (logged log) p w) i ≡ false
 unfolding mayDiffer
 kept-stopped log k p w i s = ap (λ (ts : List Turning). mayDiffer log p ts i) (stopped-none log k p w s)
 
@@ -159,7 +166,8 @@ module _ (log other : List ℕ) (long : length log ≡ length other) where
       turn-here = turn-is log p w _ go (found-is log (p .at) _ q)
 
       -- a byte of this record is the same but in its service time
-      of-record : (i : ℕ) → p .at ≤ i → i < next → (ambiguousAck log p here ≡ true → p .at + serviceFirst ≤ i → i ≤ p .at + serviceLast → ⊥) → getD log i 0 ≡ getD other i 0
+      of-record : (i : ℕ) → p .at ≤ i → i < next → (ambiguousAck log p here ≡ true → p .at + serviceFirst ≤ i → i ≤ p .at + serviceLast
+          → ⊥) → getD log i 0 ≡ getD other i 0
       of-record i from past free = agree i from (kept-turn log k p w i free (λ _. rw turn-here (kept-past log k p _ next _ _ i past)))
 
       of-front : (i : ℕ) → p .at ≤ i → i < p .at + serviceFirst → getD log i 0 ≡ getD other i 0
@@ -177,10 +185,12 @@ module _ (log other : List ℕ) (long : length log ≡ length other) where
       unfolding foundIn ackStands
       match-other no-ack = match-same (rw (found-is log (p .at) _ q, no-ack))
 
-    match-ack : (time cum map trigger count service ev flags next : ℕ) → parseAt log (p .at) ≡ parsed.Whole (rec.Ack time cum map trigger count service ev flags) next
+    match-ack : (time cum map trigger count service ev flags next : ℕ)
+        → parseAt log (p .at) ≡ parsed.Whole (rec.Ack time cum map trigger count service ev flags) next
         → (b : Bool) → ambiguousAck log p (turnOf (logged log) p w) ≡ b → Match p w
     unfolding foundIn
-    match-ack time cum map trigger count service ev flags next q false amb = match-same (rec.Ack time cum map trigger count service ev flags) next q amb
+    match-ack time cum map trigger count service ev flags next q false amb =
+        match-same (rec.Ack time cum map trigger count service ev flags) next q amb
     match-ack time cum map trigger count service ev flags next q true amb =
         let r = rec.Ack time cum map trigger count service ev flags in
         let past = ack-past log other (p .at) long time cum map trigger count service ev flags next q in
@@ -255,7 +265,8 @@ module _ (log other : List ℕ) (long : length log ≡ length other) where
   abbrev Equal : ℕ → Place → World → Type 0
   Equal k p w =
       (turnsIn k (logged log) p w ≡ turnsIn k (logged other) p w)
-      × ((figures : List ℕ) → counting (logged log) p (turnsIn k (logged log) p w) figures ≡ counting (logged other) p (turnsIn k (logged log) p w) figures)
+      × ((figures : List ℕ) → counting (logged log) p (turnsIn k (logged log) p w) figures
+      ≡ counting (logged other) p (turnsIn k (logged log) p w) figures)
 
   equal-stopped : (k : ℕ) (p : Place) (w : World) → p .stopped ≡ true → Equal k p w
   unfolding counting
@@ -269,10 +280,12 @@ module _ (log other : List ℕ) (long : length log ≡ length other) where
         ap (λ (ts : List Turning). ifSo (t .ended) [] (t ∷ ts)) (rest .0)
             ∙ ap (λ (u : Turning). ifSo (u .ended) [] (u ∷ turnsIn k (logged other) (u .place) (u .after))) (turn-match p w go m),
         λ figures.
-            so-both (λ (ts : List Turning). counting (logged log) p ts figures ≡ counting (logged other) p ts figures) (t .ended) [] _ (λ _. refl)
+            so-both (λ (ts : List Turning). counting (logged log) p ts figures ≡ counting (logged other) p ts figures) (t .ended) [] _
+            (λ _. refl)
             (λ _.
             rest .1 _
-            ∙ ap (counting (logged other) (t .place) (turnsIn k (logged log) (t .place) (t .after))) (count-match p w m (t .number) (t .shown) figures)),
+            ∙ ap (counting (logged other) (t .place) (turnsIn k (logged log) (t .place) (t .after)))
+            (count-match p w m (t .number) (t .shown) figures)),
       )
 
   equal : (k : ℕ) (p : Place) (w : World) → Agree k p w → Equal k p w
@@ -281,10 +294,12 @@ module _ (log other : List ℕ) (long : length log ≡ length other) where
   equal (suc k) p w agree = by (p .stopped) refl (equal k (turnOf (logged log) p w .place) (turnOf (logged log) p w .after))
     where
       by : (b : Bool) → p .stopped ≡ b
-          → (Agree k (turnOf (logged log) p w .place) (turnOf (logged log) p w .after) → Equal k (turnOf (logged log) p w .place) (turnOf (logged log) p w .after))
+          → (Agree k (turnOf (logged log) p w .place) (turnOf (logged log) p w .after)
+          → Equal k (turnOf (logged log) p w .place) (turnOf (logged log) p w .after))
           → Equal (suc k) p w
       by true s later = equal-stopped (suc k) p w s
-      by false go later = let m = match-parsed k p w agree go (parseAt log (p .at)) refl in equal-on k p w go m (later (rest-agrees k p w agree go m))
+      by false go later = let m = match-parsed k p w agree go (parseAt log (p .at)) refl in
+          equal-on k p w go m (later (rest-agrees k p w agree go m))
 
 -- AMBIGUOUS PACKETS DO NOT MATTER, from any place of a replay on
 module _ (log other : List ℕ) (p : Place) (w : World) (d : DifferOnly log other p w) where
@@ -321,10 +336,12 @@ module _ (log other : List ℕ) (p : Place) (w : World) (d : DifferOnly log othe
       }
 
 -- so a byte that may differ may be anything
-pub any-byte : (log : List ℕ) (p : Place) (w : World) (i byte : ℕ) → mayDiffer log p (turnsOf (logged log) p w) i ≡ true → AllEqual log (set log i byte) p w
+pub any-byte : (log : List ℕ) (p : Place) (w : World) (i byte : ℕ) → mayDiffer log p (turnsOf (logged log) p w) i ≡ true
+    → AllEqual log (set log i byte) p w
 any-byte log p w i byte may =
     ambiguous-does-not-matter log (set log i byte) p w
     (record {
       long = sym (length-set log i byte);
-      only = λ j kept. sym (getD-set-other log i j byte 0 (λ e. wrong (sym kept ∙ (ap (mayDiffer log p (turnsOf (logged log) p w)) e ∙ may))));
+      only = λ j kept. sym (getD-set-other log i j byte 0 (λ e. wrong
+          (sym kept ∙ (ap (mayDiffer log p (turnsOf (logged log) p w)) e ∙ may))));
     })

@@ -1,6 +1,6 @@
--- REQUEST M-105, "Every figure has a definition over the log and the controller's answers": a figure that counts is the exact count of its turns, added to what was
--- there, up to the greatest word (`figure-counts`), and so are the bytes (`bytes-count`); the greatest and the least are those of the samples (`greatest-is`,
--- `least-is`). Assumes nothing.
+-- REQUEST M-105, "Every figure has a definition over the log and the controller's answers": a figure that counts is the exact count of its
+-- turns, added to what was there, up to the greatest word (`figure-counts`), and so are the bytes (`bytes-count`); the greatest and the
+-- least are those of the samples (`greatest-is`, `least-is`). Assumes nothing.
 use mathlib.Core.Path.{_≡_, refl, sym, ap, _∙_}
 use mathlib.Core.Bool.{Bool, true, false}
 use mathlib.Core.List.{List, [], _∷_}
@@ -60,7 +60,8 @@ pub counted-long : (x : Found) (number : ℕ) (shown : Shown) (fs : List ℕ) �
 unfolding counted
 counted-long x number shown fs = bytes-late number x 0 _ .0 ∙ (sample-long shown _ ∙ answer-long number fs)
 
-turn-counts : {i : ℕ} {test : Turning → Bool} → Counts i test → (x : Found) (t : Turning) (fs : List ℕ) → length fs ≡ figureCount → getD fs i 0 ≤ wordMost
+turn-counts : {i : ℕ} {test : Turning → Bool} → Counts i test → (x : Found) (t : Turning) (fs : List ℕ) → length fs ≡ figureCount
+    → getD fs i 0 ≤ wordMost
     → getD (counted x (t .number) (t .shown) fs) i 0 ≡ added (getD fs i 0) (one (test t))
 unfolding counted
 turn-counts (answer n h) x t fs l w =
@@ -70,12 +71,14 @@ turn-counts (kind k a b) x t fs l w =
     let gs = answerCounted (t .number) fs in
     let same : getD gs (kindsAt + k) 0 ≡ getD fs (kindsAt + k) 0 = answer-other (t .number) fs (kindsAt + k) (omega arith) in
     bytes-late (t .number) x (kindsAt + k) _ .1 (omega arith)
-    ∙ (kind-at (t .shown) gs k a b (answer-long (t .number) fs ∙ l) (omega arith) ∙ ap (λ (m : ℕ). added m (one (kindTest k (t .shown)))) same)
+    ∙ (kind-at (t .shown) gs k a b (answer-long (t .number) fs ∙ l) (omega arith)
+    ∙ ap (λ (m : ℕ). added m (one (kindTest k (t .shown)))) same)
 turn-counts (bucket k h) x t fs l w =
     let gs = answerCounted (t .number) fs in
     let same : getD gs (bucketsAt + k) 0 ≡ getD fs (bucketsAt + k) 0 = answer-other (t .number) fs (bucketsAt + k) (omega arith) in
     bytes-late (t .number) x (bucketsAt + k) _ .1 (omega arith)
-    ∙ (bucket-at (t .shown) gs k h (answer-long (t .number) fs ∙ l) (omega arith) ∙ ap (λ (m : ℕ). added m (one (ticksTest k (sampleShown (t .shown))))) same)
+    ∙ (bucket-at (t .shown) gs k h (answer-long (t .number) fs ∙ l) (omega arith)
+    ∙ ap (λ (m : ℕ). added m (one (ticksTest k (sampleShown (t .shown))))) same)
 
 added-more : (a b c : ℕ) → added (added a b) c ≡ added a (b + c)
 added-more a b c = omega arith
@@ -106,16 +109,19 @@ turn-bytes again x t fs l w =
     ∙ ap (λ (m : ℕ). added m (recordBytes again (t .number) x)) same
 
 -- THE BYTES ARE EXACT SUMS, up to the greatest word: those of the sends that were accepted, new or again
-pub bytes-count : (again : Bool) (f : Feed) (p : Place) (ts : List Turning) (fs : List ℕ) → length fs ≡ figureCount → getD fs (sentAt again) 0 ≤ wordMost
+pub bytes-count : (again : Bool) (f : Feed) (p : Place) (ts : List Turning) (fs : List ℕ) → length fs ≡ figureCount
+    → getD fs (sentAt again) 0 ≤ wordMost
     → getD (counting f p ts fs) (sentAt again) 0 ≡ added (getD fs (sentAt again) 0) (bytesSent again f p ts)
 unfolding counting bytesSent
 bytes-count again f p [] fs l w = omega arith
 bytes-count again f p (t ∷ ts) fs l w =
     let i = sentAt again in
     let x = foundAt f (p .at) in
-    let here : getD (counted x (t .number) (t .shown) fs) i 0 ≡ added (getD fs i 0) (recordBytes again (t .number) x) = turn-bytes again x t fs l w in
+    let here : getD (counted x (t .number) (t .shown) fs) i 0 ≡ added (getD fs i 0) (recordBytes again (t .number) x) =
+    turn-bytes again x t fs l w in
     bytes-count again f (t .place) ts (counted x (t .number) (t .shown) fs) (counted-long x (t .number) (t .shown) fs ∙ l) (omega arith)
-    ∙ (ap (λ (m : ℕ). added m (bytesSent again f (t .place) ts)) here ∙ added-more (getD fs i 0) (recordBytes again (t .number) x) (bytesSent again f (t .place) ts))
+    ∙ (ap (λ (m : ℕ). added m (bytesSent again f (t .place) ts)) here
+    ∙ added-more (getD fs i 0) (recordBytes again (t .number) x) (bytesSent again f (t .place) ts))
 
 -- ---- the greatest and the least
 
@@ -129,7 +135,8 @@ turn-greatest : (x : Found) (t : Turning) (fs : List ℕ) → length fs ≡ figu
 unfolding counted
 turn-greatest x t fs l =
     bytes-late (t .number) x greatestAt _ .1 (omega arith)
-    ∙ (greatest-at (t .shown) _ (answer-long (t .number) fs ∙ l) ∙ ap (withGreatest (sampleShown (t .shown))) (answer-other (t .number) fs greatestAt (omega arith)))
+    ∙ (greatest-at (t .shown) _ (answer-long (t .number) fs ∙ l)
+    ∙ ap (withGreatest (sampleShown (t .shown))) (answer-other (t .number) fs greatestAt (omega arith)))
 
 -- THE GREATEST: of what was there and of the turns' samples
 pub greatest-is : (f : Feed) (p : Place) (ts : List Turning) (fs : List ℕ) → length fs ≡ figureCount
@@ -139,14 +146,16 @@ greatest-is f p [] fs l = omega arith
 greatest-is f p (t ∷ ts) fs l =
     let x = foundAt f (p .at) in
     greatest-is f (t .place) ts (counted x (t .number) (t .shown) fs) (counted-long x (t .number) (t .shown) fs ∙ l)
-    ∙ (ap (λ (m : ℕ). max m (greatestOf ts)) (turn-greatest x t fs l) ∙ greatest-on (sampleShown (t .shown)) (getD fs greatestAt 0) (greatestOf ts))
+    ∙ (ap (λ (m : ℕ). max m (greatestOf ts)) (turn-greatest x t fs l)
+    ∙ greatest-on (sampleShown (t .shown)) (getD fs greatestAt 0) (greatestOf ts))
 
 turn-least : (x : Found) (t : Turning) (fs : List ℕ) → length fs ≡ figureCount
     → getD (counted x (t .number) (t .shown) fs) leastAt 0 ≡ withLeast (sampleShown (t .shown)) (getD fs leastAt 0)
 unfolding counted
 turn-least x t fs l =
     bytes-late (t .number) x leastAt _ .1 (omega arith)
-    ∙ (least-at (t .shown) _ (answer-long (t .number) fs ∙ l) ∙ ap (withLeast (sampleShown (t .shown))) (answer-other (t .number) fs leastAt (omega arith)))
+    ∙ (least-at (t .shown) _ (answer-long (t .number) fs ∙ l) ∙ ap (withLeast (sampleShown (t .shown)))
+    (answer-other (t .number) fs leastAt (omega arith)))
 
 -- the lesser of two, of which 0 is none
 lesser-none : (a t : ℕ) → a ≡ 0 → lesser a t ≡ t
@@ -173,7 +182,15 @@ least-order t a b h = by (eqb a 0) (eqb b 0) refl refl
     by true true e f =
         let x = lesser-none a t (eqb-true a 0 e) in
         let y = lesser-none b t (eqb-true b 0 f) in
-        omega (arith, x, y, both-first (lesser a t) b (eqb-true b 0 f), both-lesser a (lesser b t) (λ z. let no : ⊥ = omega (arith, y, z) in no), lesser-none a (lesser b t) (eqb-true a 0 e))
+        omega (
+          arith,
+          x,
+          y,
+          both-first (lesser a t) b (eqb-true b 0 f),
+          both-lesser a (lesser b t)
+              (λ z. let no : ⊥ = omega (arith, y, z) in no),
+          lesser-none a (lesser b t) (eqb-true a 0 e),
+        )
     by true false e f =
         let x = lesser-none a t (eqb-true a 0 e) in
         let y = lesser-some b t (eqb-false b 0 f) in
@@ -223,7 +240,8 @@ least-is f p [] fs h l = sym (both-first (getD fs leastAt 0) 0 refl)
 least-is f p (t ∷ ts) fs h l =
     let x = foundAt f (p .at) in
     least-is f (t .place) ts (counted x (t .number) (t .shown) fs) (h .1) (counted-long x (t .number) (t .shown) fs ∙ l)
-    ∙ (ap (λ (m : ℕ). leastOfBoth m (leastOf ts)) (turn-least x t fs l) ∙ least-on (sampleShown (t .shown)) (getD fs leastAt 0) (leastOf ts) (h .0))
+    ∙ (ap (λ (m : ℕ). leastOfBoth m (leastOf ts)) (turn-least x t fs l)
+    ∙ least-on (sampleShown (t .shown)) (getD fs leastAt 0) (leastOf ts) (h .0))
 
 -- from none, it is the least of the samples
 pub least-fresh : (b : ℕ) → leastOfBoth 0 b ≡ b

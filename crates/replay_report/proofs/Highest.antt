@@ -1,4 +1,5 @@
--- REQUEST M-105, "bucket k holds those whose highest set bit is k": of any sample that a turn shows, which is from 1 to 2^20 (`highest-bit`). Assumes nothing.
+-- REQUEST M-105, "bucket k holds those whose highest set bit is k": of any sample that a turn shows, which is from 1 to 2^20
+-- (`highest-bit`). Assumes nothing.
 use mathlib.Core.Path.{_≡_, refl, ap}
 use mathlib.Core.Bool.{Bool}
 use mathlib.Core.List.{List, []}
@@ -81,8 +82,10 @@ held-first : (n : ℕ) → Held (shownFirst n)
 unfolding shownFirst
 held-first n = eq-both Held n 0 State Nothing (λ _. not-shown refl) (λ _. not-shown refl)
 
-held-sampling : (out : Bool) (resent : ℕ) (retx : Bool) (time sent service : ℕ) → Sampled (sampleIn (samplingOf out resent retx time sent service))
-held-sampling out resent retx time sent service = rw (same-sample out resent retx time sent service) (sample-bounds out resent retx time sent service)
+held-sampling : (out : Bool) (resent : ℕ) (retx : Bool) (time sent service : ℕ)
+    → Sampled (sampleIn (samplingOf out resent retx time sent service))
+held-sampling out resent retx time sent service = rw (same-sample out resent retx time sent service)
+    (sample-bounds out resent retx time sent service)
 
 held-ack : (time : ℕ) (a : Ack) (w : World) → Sampled (sampleIn (ackSampling time a w))
 unfolding ackSampling

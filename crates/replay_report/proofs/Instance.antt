@@ -1,5 +1,6 @@
--- M-106 IS NOT EMPTY: a log, replayed from its start, whose ACK is ambiguous, so that its service time may be any (`any-service`); and the premise is needed: where the
--- packet went out once, another service time gives another sample (`ambiguous-needed`). By computation, on document 01's settings E.
+-- M-106 IS NOT EMPTY: a log, replayed from its start, whose ACK is ambiguous, so that its service time may be any (`any-service`); and
+-- the premise is needed: where the packet went out once, another service time gives another sample (`ambiguous-needed`). By
+-- computation, on document 01's settings E.
 -- Assumes nothing.
 use mathlib.Core.Path.{_≡_, refl, sym, ap, _∙_, subst}
 use mathlib.Core.Bool.{Bool, true, false, _||_}
@@ -57,7 +58,22 @@ use Rattle.replay_report.proofs.Ambiguous.{ambiguous-does-not-matter}
 -- "settings E = 4096, 614400, 96, 72, 4096, 1024, 224, 819, 512, 96, 32768, 288, PSN 0"
 abbrev settingsE : Settings
 settingsE =
-    record { mtu = 4096; maxwnd = 614400; «config_base_rtt» = 96; «target_qdelay» = 72; fi = 4096; eta = 1024; alpha = 224; gamma = 819; «max_md_jump» = 512; «adjust_period» = 96; «adjust_bytes» = 32768; «qa_threshold» = 288; «first_psn» = 0; flags = 0 }
+    record {
+      mtu = 4096;
+      maxwnd = 614400;
+      «config_base_rtt» = 96;
+      «target_qdelay» = 72;
+      fi = 4096;
+      eta = 1024;
+      alpha = 224;
+      gamma = 819;
+      «max_md_jump» = 512;
+      «adjust_period» = 96;
+      «adjust_bytes» = 32768;
+      «qa_threshold» = 288;
+      «first_psn» = 0;
+      flags = 0;
+    }
 
 abbrev written : List Record → List ℕ
 written [] = []
@@ -112,7 +128,8 @@ module _ (front xs ys back : List ℕ) (many : length xs ≡ length ys) where
   behind-middle k =
       getD-append-add front (xs ++ back) (length xs + k) 0
       ∙ (getD-append-add xs back k 0
-      ∙ sym (getD-append-add front (ys ++ back) (length xs + k) 0 ∙ (ap (λ (n : ℕ). getD (ys ++ back) (n + k) 0) many ∙ getD-append-add ys back k 0)))
+      ∙ sym (getD-append-add front (ys ++ back) (length xs + k) 0
+      ∙ (ap (λ (n : ℕ). getD (ys ++ back) (n + k) 0) many ∙ getD-append-add ys back k 0)))
 
   but-middle : (i : ℕ) → (length front ≤ i → i < length front + length xs → ⊥) → Alike i
   but-middle i out = by (ltb i (length front)) refl
@@ -149,7 +166,8 @@ service-only rs service other =
           λ i out.
           ap (λ (bs : List ℕ). getD bs i 0) (bytes service)
           ∙ (but-middle front (bytesOf 4 service) (bytesOf 4 other) ackBack refl i
-          (λ from past. outside (length (written rs) + serviceFirst) i (length (written rs) + serviceLast) out (omega (arith, size)) (omega (arith, size)))
+          (λ from past. outside (length (written rs) + serviceFirst) i (length (written rs) + serviceLast) out (omega (arith, size))
+          (omega (arith, size)))
           ∙ sym (ap (λ (bs : List ℕ). getD bs i 0) (bytes other)));
     }
 
@@ -182,18 +200,25 @@ pub record Replayed : Type 0 where
   -- every record is accepted, and the ACK's outcome is ambiguous, so that the bytes of its service time may differ
   pub accepted : howMany (answeredWith 0) (turnsFrom (resentLog 4)) ≡ 6
   pub ambiguous : lastShown (turnsFrom (resentLog 4)) ≡ Sample Ambiguous
-  pub may : (i : ℕ) → mayDiffer (resentLog 4) start (turnsFrom (resentLog 4)) i ≡ (inside (resentAck + serviceFirst) i (resentAck + serviceLast) || false)
+  pub may : (i : ℕ) → mayDiffer (resentLog 4) start (turnsFrom (resentLog 4)) i
+      ≡ (inside (resentAck + serviceFirst) i (resentAck + serviceLast) || false)
   -- where the packet went out once a sample is taken, and tells the service time
   pub near : lastShown (turnsFrom (onceLog 4)) ≡ Sample (Taken 126)
   pub far : lastShown (turnsFrom (onceLog 104)) ≡ Sample (Taken 26)
 
 pub replayed : Replayed
-unfolding resentLog onceLog lent recordBytes bytesOf littleEndian numberAt lookUp properOf checkOf wholeOf frontOf parseAt kindOf turnsOf turnsIn turnOf
-    onFound placeAfter foundIn foundFrom endFrom shownSays shownFirst onFirst onLater onEvent ifSo ifLt ifEq inside firstOf onSetUp freshState noSettings
-    freshOf inRange isEvCount isRing isCapacity allTo leadingZeros minus plus bitOf covered backOf spanOf unsentOrOld aheadOf forwardOf maxWndOf soundWindow
-    oneSend takeSampleOf samplingOf shrinkOf lossOf firesOf restartOf quickAdaptOf isFlying isMarked isDone isOut flyingOne markedOne markedSize sumOf inBounds
-    sinks packetAt tabulate placeOf ageOf lay laid queueOf longOf packets offsetOf packetOf isLive isZero slotOk headOk stands tallies soundLedger changed
-    suppliedOf pushedOf resentOf markedOf newlyOf hasRoom phaseOf phaseNumber timesOk namedOk sound stateOf settled avoidedIn newDataState newDataStep
+unfolding resentLog onceLog lent recordBytes bytesOf littleEndian numberAt lookUp properOf checkOf wholeOf frontOf parseAt kindOf
+    turnsOf turnsIn turnOf
+    onFound placeAfter foundIn foundFrom endFrom shownSays shownFirst onFirst onLater onEvent ifSo ifLt ifEq inside firstOf onSetUp
+    freshState noSettings
+    freshOf inRange isEvCount isRing isCapacity allTo leadingZeros minus plus bitOf covered backOf spanOf unsentOrOld aheadOf forwardOf
+    maxWndOf soundWindow
+    oneSend takeSampleOf samplingOf shrinkOf lossOf firesOf restartOf quickAdaptOf isFlying isMarked isDone isOut flyingOne markedOne
+    markedSize sumOf inBounds
+    sinks packetAt tabulate placeOf ageOf lay laid queueOf longOf packets offsetOf packetOf isLive isZero slotOk headOk stands tallies
+    soundLedger changed
+    suppliedOf pushedOf resentOf markedOf newlyOf hasRoom phaseOf phaseNumber timesOk namedOk sound stateOf settled avoidedIn
+    newDataState newDataStep
     sendStep ackSampling lossStep decided says onNewData onSend onAck onLoss howMany kindTest isAck ackStands mayDiffer
 replayed = record { accepted = refl; ambiguous = refl; may = λ i. refl; near = refl; far = refl }
 

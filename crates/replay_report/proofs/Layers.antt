@@ -24,8 +24,10 @@ use Rattle.replay.specs.declared.turns.Found.{Found}
 use Rattle.replay.specs.declared.turns.Found.the-variants as found
 use Rattle.replay.proofs.Batching.{kind-most}
 use Rattle.report_text.specs.Places.{answers, kindsAt, leastAt, greatestAt, bucketsAt, buckets, newAt, figureCount}
-use Rattle.replay_report.specs.Figures.{wordMost, added, raised, answerCounted, kindCounted, bucketOf, leastKept, greatestKept, ticksCounted, sampleCounted, sentAt, sendCounted, eventCounted, bytesCounted}
-use Rattle.replay_report.specs.Statements.{one, kindTest, sampleShown, ticksTest, withLeast, withGreatest, sendBytes, eventBytes, recordBytes}
+use Rattle.replay_report.specs.Figures.{wordMost, added, raised, answerCounted, kindCounted, bucketOf, leastKept, greatestKept}
+use Rattle.replay_report.specs.Figures.{ticksCounted, sampleCounted, sentAt, sendCounted, eventCounted, bytesCounted}
+use Rattle.replay_report.specs.Statements.{one, kindTest, sampleShown, ticksTest, withLeast, withGreatest, sendBytes, eventBytes}
+use Rattle.replay_report.specs.Statements.{recordBytes}
 use Rattle.replay_report.proofs.Buckets.{bucket-most}
 
 -- ---- one figure after a figure is raised
@@ -55,7 +57,8 @@ none-added : {a : ℕ} → a ≤ wordMost → a ≡ added a (one false)
 none-added h = omega (arith, one-no false refl)
 
 -- one that may be raised by one counts the test of whether it is
-one-added : (at : ℕ) (fs : List ℕ) (i : ℕ) (b : Bool) → (b ≡ true → i ≡ at) → (b ≡ false → i ≡ at → ⊥) → i < length fs → getD fs i 0 ≤ wordMost
+one-added : (at : ℕ) (fs : List ℕ) (i : ℕ) (b : Bool) → (b ≡ true → i ≡ at) → (b ≡ false → i ≡ at → ⊥) → i < length fs
+    → getD fs i 0 ≤ wordMost
     → getD (raised at 1 fs) i 0 ≡ added (getD fs i 0) (one b)
 one-added at fs i true y n h w = raised-same at 1 fs i (y refl) h ∙ ap (added (getD fs i 0)) (sym (one-yes true refl))
 one-added at fs i false y n h w = raised-other at 1 fs i (n refl) ∙ none-added w
@@ -116,7 +119,8 @@ pub greatest-other : (t : ℕ) (fs : List ℕ) (i : ℕ) → (i ≡ greatestAt �
 unfolding greatestKept
 greatest-other t fs i d = getD-set-other fs greatestAt i _ 0 d
 
-ticks-kept : (t : ℕ) (fs : List ℕ) (i : ℕ) → (i ≡ leastAt → ⊥) → (i ≡ greatestAt → ⊥) → getD (greatestKept t (leastKept t fs)) i 0 ≡ getD fs i 0
+ticks-kept : (t : ℕ) (fs : List ℕ) (i : ℕ) → (i ≡ leastAt → ⊥) → (i ≡ greatestAt → ⊥)
+    → getD (greatestKept t (leastKept t fs)) i 0 ≡ getD fs i 0
 ticks-kept t fs i l g = greatest-other t (leastKept t fs) i g ∙ least-other t fs i l
 
 ticks-other : (p : Sample) (fs : List ℕ) (i : ℕ) → i < leastAt → getD (ticksCounted p fs) i 0 ≡ getD fs i 0
@@ -199,7 +203,8 @@ ticks-least (Ticks t) fs l =
     ∙ (greatest-other t (leastKept t fs) leastAt (λ e. let no : ⊥ = omega (arith, e) in no) ∙ getD-set-same fs leastAt _ 0 (omega arith))
 ticks-least Absent fs l = refl
 
-pub least-at : (s : Shown) (fs : List ℕ) → length fs ≡ figureCount → getD (sampleCounted s fs) leastAt 0 ≡ withLeast (sampleShown s) (getD fs leastAt 0)
+pub least-at : (s : Shown) (fs : List ℕ) → length fs ≡ figureCount
+    → getD (sampleCounted s fs) leastAt 0 ≡ withLeast (sampleShown s) (getD fs leastAt 0)
 unfolding sampleCounted sampleShown withLeast
 least-at Nothing fs l = refl
 least-at State fs l = refl
@@ -208,7 +213,8 @@ least-at (Sampled q) fs l =
     ticks-least (sampleIn q) (kindCounted q fs) (kind-long q fs ∙ l)
     ∙ ap (withLeast (sampleIn q)) (kind-other q fs leastAt (λ e. let no : ⊥ = omega (arith, kind-most q refl) in no))
 
-ticks-greatest : (p : Sample) (fs : List ℕ) → length fs ≡ figureCount → getD (ticksCounted p fs) greatestAt 0 ≡ withGreatest p (getD fs greatestAt 0)
+ticks-greatest : (p : Sample) (fs : List ℕ) → length fs ≡ figureCount
+    → getD (ticksCounted p fs) greatestAt 0 ≡ withGreatest p (getD fs greatestAt 0)
 unfolding ticksCounted withGreatest greatestKept
 ticks-greatest (Ticks t) fs l =
     let long : greatestAt < length (leastKept t fs) = omega (arith, least-long t fs) in
@@ -259,8 +265,11 @@ send-late : (number : ℕ) (a : Send) (i : ℕ) (fs : List ℕ) → Late i fs (s
 unfolding sendCounted
 send-late number a i fs =
     eq-both (λ (l : List ℕ). Late i fs l) number 0 _ _
-    (λ _.
-    (raised-long (sentAt (a .resend)) (a .size) fs, λ h. raised-other (sentAt (a .resend)) (a .size) fs i (λ e. let no : ⊥ = omega (arith, sent-late (a .resend)) in no)))
+    (λ _. (
+      raised-long (sentAt (a .resend)) (a .size) fs,
+      λ h. raised-other (sentAt (a .resend)) (a .size) fs i
+          (λ e. let no : ⊥ = omega (arith, sent-late (a .resend)) in no),
+    ))
     (λ _. late-none i fs)
 
 event-late : (number : ℕ) (e : Event) (i : ℕ) (fs : List ℕ) → Late i fs (eventCounted number e fs)

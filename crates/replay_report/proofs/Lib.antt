@@ -1,4 +1,5 @@
--- The laws that the proofs of `replay_report` share, the theorems of requests M-105 and M-106, and that no two outcomes satisfy one promise.
+-- The laws that the proofs of `replay_report` share, the theorems of requests M-105 and M-106, and that no
+-- two outcomes satisfy one promise.
 pub mod Buckets
 pub mod Adding
 pub mod Tallies

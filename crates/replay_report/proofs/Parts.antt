@@ -1,4 +1,5 @@
--- REQUEST M-105 over a log in parts: a call for each part, with the same figures, leaves what one call over the joined bytes leaves (`parts-tallied`). Assumes nothing.
+-- REQUEST M-105 over a log in parts: a call for each part, with the same figures, leaves what one call over the joined bytes leaves
+-- (`parts-tallied`). Assumes nothing.
 use mathlib.Core.Path.{_≡_, refl, sym, ap, _∙_}
 use mathlib.Core.Bool.{Bool, false}
 use mathlib.Core.List.{List, [], _∷_, _++_}
@@ -29,7 +30,8 @@ counted-as : (f g : Feed) (p : Place) (t : Turning) (ts : List Turning) (fs : Li
     → ((gs : List ℕ) → counting f (t .place) ts gs ≡ counting g (t .place) ts gs) → counting f p (t ∷ ts) fs ≡ counting g p (t ∷ ts) fs
 unfolding counting
 counted-as f g p t ts fs e later =
-    later (counted (foundAt f (p .at)) (t .number) (t .shown) fs) ∙ ap (λ (x : Found). counting g (t .place) ts (counted x (t .number) (t .shown) fs)) e
+    later (counted (foundAt f (p .at)) (t .number) (t .shown) fs)
+    ∙ ap (λ (x : Found). counting g (t .place) ts (counted x (t .number) (t .shown) fs)) e
 
 -- ---- what is there of a log stays when more bytes come
 
@@ -59,7 +61,8 @@ module _ (f g : Feed) (kept : (at : ℕ) → Kept (foundAt f at) (foundAt g at))
 -- ---- where the same stands from an offset on
 
 module _ (f g : Feed) (from : ℕ) (same : (at : ℕ) → from ≤ at → foundAt f at ≡ foundAt g at) where
-  same-counting : (k : ℕ) (p : Place) (w : World) (fs : List ℕ) → from ≤ p .at → counting f p (turnsIn k f p w) fs ≡ counting g p (turnsIn k f p w) fs
+  same-counting : (k : ℕ) (p : Place) (w : World) (fs : List ℕ) → from ≤ p .at
+      → counting f p (turnsIn k f p w) fs ≡ counting g p (turnsIn k f p w) fs
   unfolding turnsIn counting
   same-counting zero p w fs h = refl
   same-counting (suc k) p w fs h =

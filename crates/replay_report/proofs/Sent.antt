@@ -1,5 +1,6 @@
--- REQUEST M-105, "the bytes sent new and sent again": from zeros each of the two figures is the exact sum (`report-bytes`). An accepted send is at most as large as the
--- greatest MTU, and a turn takes a byte of the log at least, so that no log of fewer than 2^50 bytes comes to the greatest word. Assumes nothing.
+-- REQUEST M-105, "the bytes sent new and sent again": from zeros each of the two figures is the exact sum (`report-bytes`). An accepted
+-- send is at most as large as the greatest MTU, and a turn takes a byte of the log at least, so that no log of fewer than 2^50 bytes comes
+-- to the greatest word. Assumes nothing.
 use mathlib.Core.Path.{_≡_, refl}
 use mathlib.Core.Bool.{Bool, true, false, not}
 use mathlib.Core.List.{List, [], _∷_}
@@ -89,7 +90,8 @@ module _ (again : Bool) where
   whole-small done e next w = eq-both Small (onEvent done e w .number) 0 _ 0 (λ accepted. event-small done e w accepted) (λ _. omega arith)
 
   -- a turn's bytes
-  turn-small : (f : Feed) (p : Place) (w : World) → turnOf f p w .ended ≡ false → Small (recordBytes again (turnOf f p w .number) (foundAt f (p .at)))
+  turn-small : (f : Feed) (p : Place) (w : World) → turnOf f p w .ended ≡ false
+      → Small (recordBytes again (turnOf f p w .number) (foundAt f (p .at)))
   turn-small f p w =
       turn-cases f p w (λ (t : Turning). t .ended ≡ false → Small (recordBytes again (t .number) (foundAt f (p .at))))
       (λ e. absurd (let z : _≡_ {A = ℕ} 0 1 = cc in let no : ⊥ = omega arith in no))

@@ -1,5 +1,5 @@
--- An ACK whose outcome is ambiguous, request M-106: another service time gives the same answer, says the same of the sample and leaves the same world, because the
--- ambiguous resend is told by the packet and the retx flag, and the window's rules see no sample. Assumes nothing.
+-- An ACK whose outcome is ambiguous, request M-106: another service time gives the same answer, says the same of the sample and leaves the
+-- same world, because the ambiguous resend is told by the packet and the retx flag, and the window's rules see no sample. Assumes nothing.
 use mathlib.Core.Path.{_≡_, refl, sym, ap, _∙_}
 use mathlib.Core.Bool.{Bool}
 use mathlib.Core.Option.{Option, none, some}
@@ -22,7 +22,16 @@ use Rattle.replay.specs.declared.records.Event.the-variants as event
 -- the same ACK with another service time
 abbrev pub served : ℕ → Ack → Ack
 served service a =
-    record { cum = a .cum; map = a .map; trigger = a .trigger; count = a .count; service = service; ev = a .ev; marked = a .marked; retx = a .retx }
+    record {
+      cum = a .cum;
+      map = a .map;
+      trigger = a .trigger;
+      count = a .count;
+      service = service;
+      ev = a .ev;
+      marked = a .marked;
+      retx = a .retx;
+    }
 
 never : {A : Type 0} {q : Sampling} → q ≡ Ambiguous → (q ≡ Ambiguous → _≡_ {A = ℕ} 0 1) → A
 never e f = absurd (let wrong : ⊥ = omega (arith, f e) in wrong)

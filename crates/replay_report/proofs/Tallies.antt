@@ -1,4 +1,5 @@
--- The loop of a report: `Going` is its invariant, and the turns that are left are its measure; the test of number 2 before it. Assumes nothing.
+-- The loop of a report: `Going` is its invariant, and the turns that are left are its measure; the test of
+-- number 2 before it. Assumes nothing.
 use mathlib.Core.Path.{_≡_, refl, sym, ap, _∙_}
 use mathlib.Core.Bool.{Bool, true, false, _&&_, _||_, not}
 use mathlib.Core.List.{List, [], _∷_}
@@ -25,11 +26,13 @@ pub record Going (f : Feed) (p₀ : Place) (w₀ : World) (figures₀ : List ℕ
   pub long : length figures ≡ figureCount
   pub is : tallyTurnsOf f p w figures ≡ tallyTurnsOf f p₀ w₀ figures₀
 
-pub going-none : (f : Feed) (p : Place) (w : World) (figures : List ℕ) → soundPlace p w ≡ true → length figures ≡ figureCount → Going f p w figures p w figures
+pub going-none : (f : Feed) (p : Place) (w : World) (figures : List ℕ) → soundPlace p w ≡ true → length figures ≡ figureCount
+    → Going f p w figures p w figures
 going-none f p w figures h l = record { good = h; long = l; is = refl }
 
 -- where there are no turns nothing is counted
-led-none : (f : Feed) (p : Place) (w : World) (figures : List ℕ) → led f p w [] figures ≡ record { number = 0; place = p; after = w; figures = figures }
+led-none : (f : Feed) (p : Place) (w : World) (figures : List ℕ)
+    → led f p w [] figures ≡ record { number = 0; place = p; after = w; figures = figures }
 unfolding lastPlace lastWorld counting
 led-none f p w figures = refl
 
@@ -40,14 +43,17 @@ unfolding lastPlace lastWorld counting
 led-more f p w figures t ts = refl
 
 -- the turns are this one and those after it
-rest-of : (f : Feed) (p : Place) (w : World) (t : Turning) → t ≡ turnOf f p w → t .ended ≡ false → turnsOf f p w ≡ t ∷ turnsOf f (t .place) (t .after)
+rest-of : (f : Feed) (p : Place) (w : World) (t : Turning) → t ≡ turnOf f p w → t .ended ≡ false
+    → turnsOf f p w ≡ t ∷ turnsOf f (t .place) (t .after)
 rest-of f p w t e d =
     let d′ : turnOf f p w .ended ≡ false = rw e at d in
     turns-more f p w d′ ∙ ap (λ (x : Turning). x ∷ turnsOf f (x .place) (x .after)) (sym e)
 
-module _ {f : Feed} {p₀ : Place} {w₀ : World} {figures₀ : List ℕ} {p : Place} {w : World} {figures : List ℕ} (g : Going f p₀ w₀ figures₀ p w figures)
+module _ {f : Feed} {p₀ : Place} {w₀ : World} {figures₀ : List ℕ} {p : Place} {w : World} {figures : List ℕ}
+    (g : Going f p₀ w₀ figures₀ p w figures)
     (t : Turning) (e : t ≡ turnOf f p w) where
-  pub going-ended : t .ended ≡ true → record { number = 0; place = t .place; after = t .after; figures = figures } ≡ tallyTurnsOf f p₀ w₀ figures₀
+  pub going-ended : t .ended ≡ true → record { number = 0; place = t .place; after = t .after; figures = figures }
+      ≡ tallyTurnsOf f p₀ w₀ figures₀
   unfolding tallyTurnsOf
   going-ended d =
       let d′ : turnOf f p w .ended ≡ true = rw e at d in
@@ -61,7 +67,8 @@ module _ {f : Feed} {p₀ : Place} {w₀ : World} {figures₀ : List ℕ} {p : P
   unfolding tallyTurnsOf
   going-more d stands s figures′ n l =
       let ts = turnsOf f (t .place) (t .after) in
-      let n′ : figures′ ≡ counted (foundAt f (p .at)) (t .number) (t .shown) figures = n ∙ ap (λ (x : Found). counted x (t .number) (t .shown) figures) s in
+      let n′ : figures′ ≡ counted (foundAt f (p .at)) (t .number) (t .shown) figures =
+      n ∙ ap (λ (x : Found). counted x (t .number) (t .shown) figures) s in
       record {
         good = rw (sym e) at (turn-sound-place f p w (g .good));
         long = l ∙ g .long;
@@ -94,7 +101,8 @@ module _ (f : Feed) (p : Place) (w : World) (figures : List ℕ) (r : Bool) (e :
 
   pub tally-refused : failed ≡ true → record { number = 2; place = p; after = w; figures = figures } ≡ tallyOf f p w figures
   unfolding tallyOf
-  tally-refused t = so-no (eqb (length figures) figureCount && soundPlace p w) _ (tallyTurnsOf f p w figures) _ (not-true _ (whole-is t)) refl
+  tally-refused t = so-no (eqb (length figures) figureCount && soundPlace p w) _ (tallyTurnsOf f p w figures) _
+      (not-true _ (whole-is t)) refl
 
   pub tally-made : failed ≡ false → (x : Tallying) → x ≡ tallyTurnsOf f p w figures → x ≡ tallyOf f p w figures
   unfolding tallyOf

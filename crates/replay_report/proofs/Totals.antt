@@ -1,5 +1,5 @@
--- REQUEST M-105, "the bucket counts add up to the samples taken, cut ones included": of any turns (`buckets-add-up`), and of the figures of a report
--- (`report-adds-up`). Assumes nothing.
+-- REQUEST M-105, "the bucket counts add up to the samples taken, cut ones included": of any turns (`buckets-add-up`), and of the figures of
+-- a report (`report-adds-up`). Assumes nothing.
 use mathlib.Core.Path.{_≡_, refl, _∙_}
 use mathlib.Core.Bool.{Bool, true, false}
 use mathlib.Core.List.{List, [], _∷_}
@@ -20,7 +20,8 @@ use Rattle.replay.specs.declared.Shown.{Shown}
 use Rattle.replay.specs.declared.Shown.the-variants.{Nothing, State, Path, Sample as Sampled}
 use Rattle.report_text.specs.Places.{kindsAt, leastAt, greatestAt, bucketsAt, buckets, figureCount}
 use Rattle.replay_report.specs.Figures.{bucketOf}
-use Rattle.replay_report.specs.Statements.{one, howMany, kindTest, ofKind, sampleShown, ticksTest, inBucket, total, Counts, kind, bucket, leastOf, greatestOf, zeros, reportFrom}
+use Rattle.replay_report.specs.Statements.{one, howMany, kindTest, ofKind, sampleShown, ticksTest, inBucket, total, Counts, kind}
+use Rattle.replay_report.specs.Statements.{bucket, leastOf, greatestOf, zeros, reportFrom}
 use Rattle.replay_report.proofs.Buckets.{bucket-most}
 use Rattle.replay_report.proofs.Exact.{figure-counts, least-is, least-fresh, greatest-is}
 use Rattle.replay_report.proofs.Highest.{turns-positive}
@@ -92,7 +93,8 @@ unfolding turnsIn
 turns-few zero f p w = omega arith
 turns-few (suc k) f p w =
     let t = turnOf f p w in
-    so-both (λ (ts : List Turning). length ts ≤ suc k) (t .ended) _ _ (λ _. omega arith) (λ _. omega (arith, turns-few k f (t .place) (t .after)))
+    so-both (λ (ts : List Turning). length ts ≤ suc k) (t .ended) _ _ (λ _. omega arith)
+    (λ _. omega (arith, turns-few k f (t .place) (t .after)))
 
 log-few : (log : List ℕ) (p : Place) (w : World) → length (turnsOf (logged log) p w) ≤ length log
 unfolding turnsOf endFrom
@@ -113,7 +115,13 @@ module _ (log : List ℕ) (p : Place) (w : World) (fits : length log < 2 ^ 64) w
       ≡ getD (reportFrom log p w) (kindsAt + 1) 0 + getD (reportFrom log p w) (kindsAt + 2) 0
   report-adds-up =
       total-same buckets _ (λ k. howMany (inBucket k) turns) (λ k h. report-counts (bucket k h) (omega arith))
-      ∙ omega (arith, buckets-add-up turns, report-counts (kind 1 (omega arith) (omega arith)) (omega arith), report-counts (kind 2 (omega arith) (omega arith)) (omega arith))
+      ∙ omega (
+        arith,
+        buckets-add-up turns,
+        report-counts (kind 1 (omega arith) (omega arith)) (omega arith),
+        report-counts
+            (kind 2 (omega arith) (omega arith)) (omega arith),
+      )
 
   -- "least and greatest sample (0 if none)"
   pub report-least : getD (reportFrom log p w) leastAt 0 ≡ leastOf turns

@@ -1,4 +1,5 @@
--- "Prove that no two outcomes satisfy one promise": of `tally`. Its outcome is the answer with the final contents of the ring, the EV times and the figures.
+-- "Prove that no two outcomes satisfy one promise": of `tally`. Its outcome is the answer with the final contents of the
+-- ring, the EV times and the figures.
 -- Assumes nothing.
 use mathlib.Core.Path.{refl}
 use mathlib.Core.List.{List}
@@ -32,6 +33,7 @@ back t =
       figures = t .figures;
     }
 
-pub tally-unique : (source : Source) (p : Place) (w : World) (log figures : List ℕ) → OneOutcome made (tallyOf (feed source log) p w figures)
+pub tally-unique : (source : Source) (p : Place) (w : World) (log figures : List ℕ)
+    → OneOutcome made (tallyOf (feed source log) p w figures)
 tally-unique source p w log figures = one-outcome made back (λ x. rw (number-back (x .answer .verdict)))
     (tallyOf (feed source log) p w figures)

@@ -1,4 +1,5 @@
--- REQUEST M-106, "Ambiguous packets must not matter", as a statement that can be read alone. The theorem `ambiguous-does-not-matter` stands in proofs/Ambiguous.
+-- REQUEST M-106, "Ambiguous packets must not matter", as a statement that can be read alone. The theorem
+-- `ambiguous-does-not-matter` stands in proofs/Ambiguous.
 -- Assumes nothing.
 use mathlib.Core.Path.{_≡_}
 use mathlib.Core.Bool.{Bool, true, false, _&&_, _||_}
@@ -39,7 +40,8 @@ ackStands found.Malformed = false
 abbrev pub ambiguousAck : List ℕ → Place → Turning → Bool
 ambiguousAck log p t = ackStands (foundAt (logged log) (p .at)) && ofKind (kindOf Ambiguous) t
 
--- "the service times" of such: in an ACK record the length 2, the kind 2, the time 8, cum 4, map 8, trigger 4 and count 4 stand before it, and it has 4 bytes
+-- "the service times" of such: in an ACK record the length 2, the kind 2, the time 8, cum 4, map 8, trigger 4 and count 4
+-- stand before it, and it has 4 bytes
 abbrev pub serviceFirst : ℕ
 serviceFirst = 2 + 2 + 8 + 4 + 8 + 4 + 4
 
@@ -52,8 +54,8 @@ mayDiffer log p [] i = false
 mayDiffer log p (t ∷ ts) i =
     (ambiguousAck log p t && inside (p .at + serviceFirst) i (p .at + serviceLast)) || mayDiffer log (t .place) ts i
 
--- "two logs of equal length that differ only in the service times of ACK records whose outcome under M-103 in the first log is ambiguous", in a replay from its
--- start or from another place on: every other byte is the same, the arrival times with them
+-- "two logs of equal length that differ only in the service times of ACK records whose outcome under M-103 in the first log is ambiguous",
+-- in a replay from its start or from another place on: every other byte is the same, the arrival times with them
 pub record DifferOnly (log other : List ℕ) (p : Place) (w : World) : Type 0 where
   pub long : length log ≡ length other
   pub only : (i : ℕ) → mayDiffer log p (turnsOf (logged log) p w) i ≡ false → getD log i 0 ≡ getD other i 0

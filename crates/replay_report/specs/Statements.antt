@@ -1,6 +1,6 @@
--- What the theorems on a report speak of, request M-105: exact counts over the turns of a replay. The theorems stand in proofs/Exact (`figure-counts`,
--- `bytes-count`, `least-is`, `greatest-is`), proofs/Totals (`buckets-add-up`, `report-counts`, `report-adds-up`), proofs/Sent (`report-bytes`), proofs/Highest
--- (`highest-bit`) and proofs/Parts (`parts-tallied`).
+-- What the theorems on a report speak of, request M-105: exact counts over the turns of a replay. The theorems stand in proofs/Exact
+-- (`figure-counts`, `bytes-count`, `least-is`, `greatest-is`), proofs/Totals (`buckets-add-up`, `report-counts`, `report-adds-up`),
+-- proofs/Sent (`report-bytes`), proofs/Highest (`highest-bit`) and proofs/Parts (`parts-tallied`).
 -- Assumes nothing.
 use mathlib.Core.Path.{_≡_}
 use mathlib.Core.Bool.{Bool, false}
@@ -125,7 +125,8 @@ unfoldable pub bytesSent : Bool → Feed → Place → List Turning → ℕ
 bytesSent again f p [] = 0
 bytesSent again f p (t ∷ ts) = recordBytes again (t .number) (foundAt f (p .at)) + bytesSent again f (t .place) ts
 
--- a log of fewer bytes sends fewer than 2^64: it has no more records than bytes, and a packet has at most 2^14. A log in chunks ends before 2^48 (request M-104)
+-- a log of fewer bytes sends fewer than 2^64: it has no more records than bytes, and a packet has at most 2^14. A log in chunks
+-- ends before 2^48 (request M-104)
 abbrev pub bytesEnd : ℕ
 bytesEnd = 2 ^ 50
 

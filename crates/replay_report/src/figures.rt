@@ -27,7 +27,8 @@ ghost use lib.ListN.{length};
 ghost use Rattle.rules.specs.Verdict.{numberOf};
 ghost use Rattle.replay.specs.Batches.{kindOf};
 ghost use Rattle.report_text.specs.Places.{figureCount, kindsAt};
-ghost use Rattle.replay_report.specs.Figures.{added, raised, answerCounted, bucketOf, lesser, ticksCounted, sampleCounted, sentAt, eventCounted, bytesCounted, counted};
+ghost use Rattle.replay_report.specs.Figures.{added, raised, answerCounted, bucketOf, lesser, ticksCounted, sampleCounted, sentAt};
+ghost use Rattle.replay_report.specs.Figures.{eventCounted, bytesCounted, counted};
 
 // A sum that stops at the greatest word.
 fn sum(a: u64, b: u64) -> u64

@@ -1,5 +1,5 @@
-// Request M-105, "A run report for the data sheet": what a log's records were answered, in figures. It stands above the controller and reads only what a turn of
-// a replay promises, and what stands in the log.
+// Request M-105, "A run report for the data sheet": what a log's records were answered, in figures. It stands above the controller and
+// reads only what a turn of a replay promises, and what stands in the log.
 pub mod figures;
 
 use crate::figures::count;
@@ -67,8 +67,8 @@ fn tally_turns<'a, 'b, 'c, 'd, 'e, 'f, 'g>(
     }
 }
 
-// Makes all turns of a log from a place on, and adds each to the figures. A report over one log is the call from a replay's start with zeros; of a log in parts
-// it is a call for each part, with the same figures. Number 2 is tested once, also where the figures are not 70.
+// Makes all turns of a log from a place on, and adds each to the figures. A report over one log is the call from a replay's start with
+// zeros; of a log in parts it is a call for each part, with the same figures. Number 2 is tested once, also where the figures are not 70.
 pub fn tally<'a, 'b, 'c, 'd, 'e, 'f, 'g>(
     source: Source,
     place: Place,

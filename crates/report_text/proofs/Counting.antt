@@ -20,14 +20,16 @@ pub count-none : (label : List ℕ) (number n : ℕ) → n ≡ 0 → countLine l
 unfolding countLine
 count-none label number n e = sym (eq-yes n 0 [] _ _ e refl)
 
-pub count-some : (label : List ℕ) (number n : ℕ) → (n ≡ 0 → ⊥) → label ++ (column number ++ (column n ++ (newline ∷ []))) ≡ countLine label number n
+pub count-some : (label : List ℕ) (number n : ℕ) → (n ≡ 0 → ⊥)
+    → label ++ (column number ++ (column n ++ (newline ∷ []))) ≡ countLine label number n
 unfolding countLine
 count-some label number n e = eq-no n 0 _ _ _ e refl
 
 -- ---- one after another
 
 -- k of them are put
-pub record Listed (out₀ : List ℕ) (at : ℕ) (label : List ℕ) (number place : ℕ) (figures : List ℕ) (count : ℕ) (out : List ℕ) (p k : ℕ) : Type 0 where
+pub record Listed (out₀ : List ℕ) (at : ℕ) (label : List ℕ) (number place : ℕ) (figures : List ℕ) (count : ℕ) (out : List ℕ) (p k : ℕ) :
+    Type 0 where
   pub within : k ≤ count
   pub words : Put out₀ at (countLines label number place figures k) out p
   pub most : p ≤ at + k * lineMost
@@ -37,7 +39,8 @@ module _ (label : List ℕ) (number place : ℕ) (figures : List ℕ) where
   unfolding countLines
   listed-none out at count = record { within = omega arith; words = put-none out at; most = omega arith }
 
-  pub listed-more : {out₀ : List ℕ} {at count : ℕ} {out : List ℕ} {p k : ℕ} → Listed out₀ at label number place figures count out p k → k < count
+  pub listed-more : {out₀ : List ℕ} {at count : ℕ} {out : List ℕ} {p k : ℕ} → Listed out₀ at label number place figures count out p k
+      → k < count
       → {after : List ℕ} {next : ℕ} → Put out p (countLine label (number + k) (getD figures (place + k) 0)) after next → next ≤ p + lineMost
       → Listed out₀ at label number place figures count after next (k + 1)
   unfolding countLines

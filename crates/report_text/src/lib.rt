@@ -21,7 +21,8 @@ ghost use lib.ListN.{length};
 ghost use Rattle.io.specs.Counts.{Counts};
 ghost use Rattle.text.specs.Decimal.{Put};
 ghost use Rattle.report_text.specs.Places.{figureCount};
-ghost use Rattle.report_text.specs.Sheet.{figureLine, countLine, countLines, answerLines, kindLines, sampleLines, byteLines, sheetText};
+ghost use Rattle.report_text.specs.Sheet.{figureLine, countLine, countLines, answerLines, kindLines, sampleLines, byteLines};
+ghost use Rattle.report_text.specs.Sheet.{sheetText};
 ghost use Rattle.report_text.specs.Sheet.{labelMost, lineMost, answersMost, kindsMost, samplesMost, bytesMost, sheetMost, sheeted};
 
 // The numbers of refusals go from 1 to 28.
@@ -67,8 +68,13 @@ fn put_counts(
     figures: &[u64],
     count: usize,
 ) -> usize
-    requires { ⌜ (length (now label) ≤ labelMost) × (at + count * lineMost ≤ length (now out)) × (number ≤ place) × (place + count ≤ length (now figures)) ⌝ }
-    ensures { λ r. ⌜ Put (now (out .entry)) at (countLines (now (label .entry)) number place (now (figures .entry)) count) (now (out .exit)) r × (r ≤ at + count * lineMost) ⌝ }
+    requires { ⌜ (length (now label) ≤ labelMost)
+        × (at + count * lineMost ≤ length (now out))
+        × (number ≤ place)
+        × (place + count ≤ length (now figures)) ⌝ }
+    ensures { λ r. ⌜ Put (now (out .entry)) at (countLines (now (label .entry)) number place (now (figures .entry)) count) (now (out .exit))
+        r
+        × (r ≤ at + count * lineMost) ⌝ }
 {
     let mut p = at;
     let mut k = 0;
@@ -130,7 +136,8 @@ fn put_sheet(out: &mut [u8], figures: &[u64]) -> usize
     put_bytes(out, p, figures)
 }
 
-// Puts the report at the buffer's front, and answers its bytes; 0, and nothing is put, where the figures are not 70 or the buffer has no room for a longest report.
+// Puts the report at the buffer's front, and answers its bytes; 0, and nothing is put, where the figures are not 70 or the buffer
+// has no room for a longest report.
 pub fn sheet(figures: &[u64], out: &mut [u8]) -> usize
     ensures { λ r. ⌜ (r, now (out .exit)) ≡ sheeted (now (figures .entry)) (now (out .entry)) ⌝ }
     ensures { λ r. ⌜ Counts r (now (out .exit)) ⌝ }

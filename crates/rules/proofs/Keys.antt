@@ -1,4 +1,5 @@
--- What the last arm of a `match`, `_`, tells of an enum: its place is one of those that no arm before has, so it is none that an arm before has.
+-- What the last arm of a `match`, `_`, tells of an enum: its place is one of those that no arm before has, so
+-- it is none that an arm before has.
 -- Assumes nothing.
 use mathlib.Core.Path.{_≡_}
 use mathlib.Core.Bool.{Bool, true, not, _&&_}

@@ -1,4 +1,5 @@
--- Refusals as rows: each has a test and the number that it gives. Of several that apply, the first row's number is given; 0 where none applies.
+-- Refusals as rows: each has a test and the number that it gives. Of several that apply, the first row's number
+-- is given; 0 where none applies.
 -- Assumes nothing.
 use mathlib.Core.Path.{_≡_, refl}
 use mathlib.Core.Bool.{Bool, true, false}

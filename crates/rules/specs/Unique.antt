@@ -1,4 +1,5 @@
--- "Prove that no two outcomes satisfy one promise": the laws for a promise of any type. A promise is an equation, "what is made of the outcome ≡ what is wanted".
+-- "Prove that no two outcomes satisfy one promise": the laws for a promise of any type. A promise is an equation, "what is made of
+-- the outcome ≡ what is wanted".
 -- Assumes nothing.
 use mathlib.Core.Path.{_≡_, sym, ap, _∙_}
 

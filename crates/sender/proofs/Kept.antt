@@ -1,6 +1,6 @@
--- Each event keeps state and buffers together: a sound world, stepped by an event that no row refuses, is sound (..-kept), and so what an event
--- leaves of a sound world is sound whatever it answers (..-lasts). From what the ledger's step and the window's rules keep (Stepping) and what makes
--- a world sound (Sounds).
+-- Each event keeps state and buffers together: a sound world, stepped by an event that no row refuses, is sound (..-kept), and so what an
+-- event leaves of a sound world is sound whatever it answers (..-lasts). From what the ledger's step and the window's rules keep (Stepping)
+-- and what makes a world sound (Sounds).
 -- Assumes nothing.
 use mathlib.Core.Path.{_≡_, refl, ap, _∙_}
 use mathlib.Core.Bool.{Bool, true, not, _||_}
@@ -20,14 +20,16 @@ use Rattle.ledger.specs.Steps.{suppliedOf, newlyOf}
 use Rattle.sender.specs.World.{World, Answered, Routing}
 use Rattle.sender.specs.Sound.{sound}
 use Rattle.sender.specs.Rows.{withSound, newDataRows, sendAllRows, ackAllRows, nackAllRows, lossAllRows, pathRows}
-use Rattle.sender.specs.Steps.{settled, avoidedIn, newDataState, newDataStep, sendStep, ackSample, ackStep, nackSample, nackStep, lossStep, routeOf, pathState, pathStep}
+use Rattle.sender.specs.Steps.{settled, avoidedIn, newDataState, newDataStep, sendStep, ackSample, ackStep, nackSample, nackStep}
+use Rattle.sender.specs.Steps.{lossStep, routeOf, pathState, pathStep}
 use Rattle.sender.specs.Events.{decided, onNewData, onSend, onAck, onNack, onLoss, onPath}
 use Rattle.sender.specs.declared.Send.{Send}
 use Rattle.sender.specs.declared.Ack.{Ack}
 use Rattle.sender.specs.declared.Nack.{Nack}
 use Rattle.sender.specs.declared.Loss.{Loss}
 use Rattle.sender.proofs.Sounds.{SoundFacts, sound-facts, stated-sound, settled-sound, avoided-long, avoided-ok}
-use Rattle.sender.proofs.Stepping.{Ready, time-facts, new-data-facts, send-facts, ack-facts, nack-facts, loss-facts, supply-ready, send-ready, ack-ready, marked-ready, path-ready, taken-inside}
+use Rattle.sender.proofs.Stepping.{Ready, time-facts, new-data-facts, send-facts, ack-facts, nack-facts, loss-facts, supply-ready}
+use Rattle.sender.proofs.Stepping.{send-ready, ack-ready, marked-ready, path-ready, taken-inside}
 
 -- after a ledger's step and the window's rules, with one EV's time changed or none
 kept-of : {w : World} (S : SoundFacts w) {time : ℕ} {l : Ledger} (R : Ready (w .state .settings) time (w .state .window) l) {v : Window}
@@ -36,7 +38,8 @@ kept-of : {w : World} (S : SoundFacts w) {time : ℕ} {l : Ledger} (R : Ready (w
 kept-of {w} S {time} {l} R {v} H on ev =
     settled-sound time (w .state) l v (avoidedIn on ev time (w .state .window .base) (w .times)) (R .range) H (R .sound-ledger) (R .early)
     (omega (arith, avoided-long on ev time (w .state .window .base) (w .times), S .times-long))
-    (avoided-ok on ev time (w .state .window .base) (w .times) (R .early) (omega (arith, S .sound-window .base-high, S .range .rtt-high)) (S .times-ok))
+    (avoided-ok on ev time (w .state .window .base) (w .times) (R .early)
+    (omega (arith, S .sound-window .base-high, S .range .rtt-high)) (S .times-ok))
     (S .cursor-ok)
 
 pub new-data-kept : (time bytes : ℕ) (w : World) → sound w ≡ true → firstOf (newDataRows time bytes (w .state)) ≡ 0
@@ -56,7 +59,8 @@ unfolding sendStep
 send-kept time a w e rows =
     let S = sound-facts w e in
     let R = send-ready S (send-facts time a (w .state) (w .slots) rows) in
-    settled-sound time (w .state) _ (w .state .window) (w .times) (R .range) (R .sound-window) (R .sound-ledger) (R .early) (S .times-long) (S .times-ok) (S .cursor-ok)
+    settled-sound time (w .state) _ (w .state .window) (w .times) (R .range) (R .sound-window) (R .sound-ledger) (R .early)
+    (S .times-long) (S .times-ok) (S .cursor-ok)
 
 pub ack-kept : (time : ℕ) (a : Ack) (w : World) → sound w ≡ true → firstOf (ackAllRows time a (w .state)) ≡ 0
     → sound (ackStep time a w) ≡ true
@@ -91,7 +95,8 @@ loss-kept time a w e rows =
     let c = w .state in
     let S = sound-facts w e in
     let R = marked-ready S (loss-facts time a c (w .slots) rows) in
-    kept-of S R (sound-loss (R .range) _ (R .early) (R .flown .high) (packetOf (c .flow) (w .slots) (a .psn) .size) (R .sound-window)) true (a .ev)
+    kept-of S R (sound-loss (R .range) _ (R .early) (R .flown .high) (packetOf (c .flow) (w .slots) (a .psn) .size) (R .sound-window))
+    true (a .ev)
 
 pub path-kept : (time : ℕ) (w : World) → sound w ≡ true → firstOf (pathRows time (w .state)) ≡ 0 → sound (pathStep time w) ≡ true
 unfolding pathStep pathState
@@ -106,7 +111,8 @@ path-kept time w e rows =
 -- ---- whatever is answered
 
 -- of two answers by the rows' number, the one leaves a sound world where no row refuses, the other the world as it was
-lasts : {A : Type 0} (leaves : A → World) (w : World) (xs : List Row) (done refused : A) → sound w ≡ true → (firstOf xs ≡ 0 → sound (leaves done) ≡ true)
+lasts : {A : Type 0} (leaves : A → World) (w : World) (xs : List Row) (done refused : A) → sound w ≡ true
+    → (firstOf xs ≡ 0 → sound (leaves done) ≡ true)
     → leaves refused ≡ w → sound (leaves (ifEq (firstOf (withSound w xs)) 0 done refused)) ≡ true
 lasts {A} leaves w xs done refused e kept same =
     eq-both (λ (a : A). sound (leaves a) ≡ true) (firstOf (withSound w xs)) 0 done refused

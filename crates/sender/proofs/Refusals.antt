@@ -1,7 +1,7 @@
--- What the refusals of document 01's table promise, over the definitions that the entry points' contracts cite: a refused event leaves everything
--- as it was (`refused-same`), the number is that of the first row whose test holds (`rows-exact`), a send for which 01 names no refusal is accepted
--- (`permitted-new`, `permitted-resend`), request M-100 refuses what was refused and tells which field (`ack-apart` and its like), and a number fixes the outcome
--- (`one-outcome`).
+-- What the refusals of document 01's table promise, over the definitions that the entry points' contracts cite: a refused event leaves
+-- everything as it was (`refused-same`), the number is that of the first row whose test holds (`rows-exact`), a send for which 01 names no
+-- refusal is accepted (`permitted-new`, `permitted-resend`), request M-100 refuses what was refused and tells which field (`ack-apart` and
+-- its like), and a number fixes the outcome (`one-outcome`).
 -- Assumes nothing.
 use mathlib.Core.Path.{_≡_, refl, sym, ap, ap₂, _∙_}
 use mathlib.Core.Bool.{Bool, true, false, not, _&&_, _||_, and-true, true≢false}
@@ -23,7 +23,8 @@ use Rattle.ledger.specs.Ring.{Ring, capOf, packetOf}
 use Rattle.ledger.specs.Rows.{sendRows}
 use Rattle.ledger.specs.declared.Flow.{Flow}
 use Rattle.ledger.proofs.Judging.{new-0, resend-0}
-use Rattle.sender.specs.Statements.{silent, First, Exact, Apart, plainNewData, plainAck, plainNack, plainLoss, Permitted, PermittedNew, PermittedResend}
+use Rattle.sender.specs.Statements.{silent, First, Exact, Apart, plainNewData, plainAck, plainNack, plainLoss, Permitted}
+use Rattle.sender.specs.Statements.{PermittedNew, PermittedResend}
 use Rattle.sender.specs.Limits.{timeEnd}
 use Rattle.sender.specs.World.{World, world, Answered, answered, Routing, routed}
 use Rattle.sender.specs.Bounds.{roomAfter}
@@ -37,14 +38,16 @@ use Rattle.sender.specs.declared.Send.{Send}
 use Rattle.sender.specs.declared.Ack.{Ack}
 use Rattle.sender.specs.declared.Nack.{Nack}
 use Rattle.sender.specs.declared.Loss.{Loss}
-use Rattle.sender.proofs.Rowing.{numbered, none-silent, first-past, send-numbered, send-all-numbered, rows-new, rows-resend, room-row, answer, taken, untaken, answer-number, answer-other, decided-yes}
+use Rattle.sender.proofs.Rowing.{numbered, none-silent, first-past, send-numbered, send-all-numbered, rows-new, rows-resend}
+use Rattle.sender.proofs.Rowing.{room-row, answer, taken, untaken, answer-number, answer-other, decided-yes}
 
 -- ---- "the state as given .., and lent memory untouched"
 
 -- whatever an event would have done, a number other than 0 leaves the world as it was
 pub refused-same : (n : ℕ) (w after : World) → (decided n w after .number ≡ 0 → ⊥) → decided n w after .after ≡ w
 unfolding decided
-refused-same n w after h = ap (λ (x : Answered). x .after) (answer-other (λ (x : Answered). x .number) n (answer 0 after) (answer n w) refl h)
+refused-same n w after h = ap (λ (x : Answered). x .after) (answer-other (λ (x : Answered). x .number) n (answer 0 after) (answer n w)
+    refl h)
 
 module _ (time : ℕ) (w : World) where
   pub new-data-same : (bytes : ℕ) → (onNewData time bytes w .number ≡ 0 → ⊥) → onNewData time bytes w .after ≡ w
@@ -98,7 +101,15 @@ found [] n h e = absurd (h (sym e))
 found (x ∷ xs) n h e = go (x .test) refl e (found xs n h)
   where
     go : (t : Bool) → x .test ≡ t → ifSo t (x .number) (firstOf xs) ≡ n → (firstOf xs ≡ n → First n xs) → First n (x ∷ xs)
-    go true q f later = record { before = []; here = x; after = xs; order = refl; number-is = f; applies = q; none-before = refl }
+    go true q f later = record {
+      before = [];
+      here = x;
+      after = xs;
+      order = refl;
+      number-is = f;
+      applies = q;
+      none-before = refl;
+    }
     go false q f later =
         let l = later f in
         record {
@@ -158,7 +169,8 @@ module _ (time : ℕ) (w : World) where
   unfolding onPath numbered inside
   path-exact =
       let n = firstOf (withSound w (pathRows time (w .state))) in
-      rw (← answer-number (λ (x : Routing). x .number) n (taken time w) (untaken n w) refl refl) (rows-exact (withSound w (pathRows time (w .state))) refl)
+      rw (← answer-number (λ (x : Routing). x .number) n (taken time w) (untaken n w) refl refl)
+      (rows-exact (withSound w (pathRows time (w .state))) refl)
 
 -- and of setting up
 pub set-up-exact : (g : Settings) (r : Ring) (times : List ℕ) → Exact (setUpRows g r times) (onSetUp g r times .number)
@@ -207,7 +219,8 @@ silent-append (x ∷ xs) ys = go (x .test) (silent-append xs ys)
     go false e = e
 
 -- Of any rows: one row 4, whose test holds exactly where one of the fields' does, or the fields in its place
-module _ (before fields rest : List Row) (t : Bool) (any : silent fields ≡ not t) (b : fourless before ≡ true) (r : fourless rest ≡ true) where
+module _ (before fields rest : List Row) (t : Bool) (any : silent fields ≡ not t) (b : fourless before ≡ true)
+    (r : fourless rest ≡ true) where
   abbrev old : List Row
   old = before ++ (row t 4 ∷ rest)
 
@@ -235,9 +248,14 @@ module _ (before fields rest : List Row) (t : Bool) (any : silent fields ≡ not
           let o : firstOf old ≡ firstOf rest = first-past before (row t 4 ∷ rest) e ∙ rw f in
           inl (first-past before (fields ++ rest) e ∙ first-past fields rest (any ∙ ap not f) ∙ sym o, λ z. not-four rest r (sym o ∙ z))
       go true true e f =
-          inr (first-past before (row t 4 ∷ rest) e ∙ rw f, first-past before (fields ++ rest) e ∙ first-before fields rest (any ∙ ap not f))
+          inr (
+            first-past before (row t 4 ∷ rest) e ∙ rw f,
+            first-past before (fields ++ rest) e
+                ∙ first-before fields rest (any ∙ ap not f),
+          )
 
-  decided-apart : (w after : World) → numbered new ≡ true → numbered fields ≡ true → Apart old fields (decided (firstOf new) w after .number)
+  decided-apart : (w after : World) → numbered new ≡ true → numbered fields ≡ true
+      → Apart old fields (decided (firstOf new) w after .number)
   decided-apart w after n f =
       rw (← decided-number (firstOf new) w after)
       (record {
@@ -261,7 +279,8 @@ unfolding silent
 any-three true b g i j k = refl
 any-three false b g i j k = any-two b g j k
 
-send-fourless : (f : Flow) (r : Ring) (psn size : ℕ) (resend : Bool) (xs : List Row) → fourless xs ≡ true → fourless (sendRows f r psn size resend ++ xs) ≡ true
+send-fourless : (f : Flow) (r : Ring) (psn size : ℕ) (resend : Bool) (xs : List Row) → fourless xs ≡ true
+    → fourless (sendRows f r psn size resend ++ xs) ≡ true
 unfolding fourless
 send-fourless f r psn size true xs e = e
 send-fourless f r psn size false xs e = e
@@ -281,7 +300,8 @@ module _ (time : ℕ) (w : World) where
   unfolding onSend fourless numbered inside
   send-apart a =
       decided-apart ahead (sendFields a (w .state)) _ _ (any-one _ 4) refl
-      (send-fourless (w .state .flow) (w .slots) (a .psn) (a .size) (a .resend) _ refl) w _ (send-all-numbered time a (w .state) (w .slots)) refl
+      (send-fourless (w .state .flow) (w .slots) (a .psn) (a .size) (a .resend) _ refl) w _
+      (send-all-numbered time a (w .state) (w .slots)) refl
 
   pub ack-apart : (a : Ack) → Apart (withSound w (plainAck time a (w .state))) (ackFields a (w .state)) (onAck time a w .number)
   unfolding onAck fourless numbered inside
@@ -300,7 +320,8 @@ module _ (time : ℕ) (w : World) where
 -- ---- a permitted send is accepted
 
 -- no row applies to a permitted send
-permitted-none : (time : ℕ) (a : Send) (w : World) → Permitted time a w → firstOf (sendRows (w .state .flow) (w .slots) (a .psn) (a .size) (a .resend)) ≡ 0
+permitted-none : (time : ℕ) (a : Send) (w : World) → Permitted time a w
+    → firstOf (sendRows (w .state .flow) (w .slots) (a .psn) (a .size) (a .resend)) ≡ 0
     → 0 ≡ firstOf (withSound w (sendAllRows time a (w .state) (w .slots)))
 unfolding roomAfter
 permitted-none time a w p e =
@@ -311,11 +332,13 @@ permitted-none time a w p e =
     ∙ room-row (w .state) (sendRows (w .state .flow) (w .slots) (a .psn) (a .size) (a .resend))
     (send-numbered (w .state .flow) (w .slots) (a .psn) (a .size) (a .resend)))))
 
-permitted-send : (time : ℕ) (a : Send) (w : World) → Permitted time a w → firstOf (sendRows (w .state .flow) (w .slots) (a .psn) (a .size) (a .resend)) ≡ 0
+permitted-send : (time : ℕ) (a : Send) (w : World) → Permitted time a w
+    → firstOf (sendRows (w .state .flow) (w .slots) (a .psn) (a .size) (a .resend)) ≡ 0
     → onSend time a w ≡ answer 0 (sendStep time a w)
 unfolding onSend
 permitted-send time a w p e =
-    sym (decided-yes (firstOf (withSound w (sendAllRows time a (w .state) (w .slots)))) w (sendStep time a w) (sym (permitted-none time a w p e)))
+    sym (decided-yes (firstOf (withSound w (sendAllRows time a (w .state) (w .slots)))) w (sendStep time a w)
+    (sym (permitted-none time a w p e)))
 
 pub permitted-new : (time : ℕ) (a : Send) (w : World) → PermittedNew time a w → onSend time a w ≡ answer 0 (sendStep time a w)
 permitted-new time a w p =

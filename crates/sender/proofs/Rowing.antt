@@ -1,5 +1,5 @@
--- Laws of rows of refusals: where no row applies, rows after rows, the numbers that rows give, the rows of each event as its judge walks them; and
--- what an event answers by their number.
+-- Laws of rows of refusals: where no row applies, rows after rows, the numbers that rows give, the rows of each event as its judge walks
+-- them; and what an event answers by their number.
 -- Assumes nothing.
 use mathlib.Core.Path.{_≡_, refl, sym, ap, ap₂, _∙_}
 use mathlib.Core.Bool.{Bool, true, false, not, _&&_}
@@ -71,7 +71,8 @@ none-silent (x ∷ xs) e f =
     let p = both (inside 1 (x .number) 24) (numbered xs) e in
     go (x .test) (inside-tells 1 (x .number) 24 (p .0) .0) f (none-silent xs (p .1))
   where
-    go : (t : Bool) → 1 ≤ x .number → ifSo t (x .number) (firstOf xs) ≡ 0 → (firstOf xs ≡ 0 → silent xs ≡ true) → (not t && silent xs) ≡ true
+    go : (t : Bool) → 1 ≤ x .number → ifSo t (x .number) (firstOf xs) ≡ 0 → (firstOf xs ≡ 0 → silent xs ≡ true)
+        → (not t && silent xs) ≡ true
     go true here f later = absurd (omega arith)
     go false here f later = later f
 
@@ -187,7 +188,8 @@ module _ {A : Type 0} (w : World) (xs : List Row) (yes : A) (no : ℕ → A) whe
     passed = first-later n 2 (not (sound w)) xs (ap not e) en
 
     pub entry-refused : (a : A) → (n ≡ 0 → ⊥) → a ≡ no n → a ≡ ifEq (firstOf (withSound w xs)) 0 yes (no (firstOf (withSound w xs)))
-    entry-refused a ne f = eq-no (firstOf (withSound w xs)) 0 a yes (no (firstOf (withSound w xs))) (λ z. ne (passed ∙ z)) (f ∙ ap no passed)
+    entry-refused a ne f = eq-no (firstOf (withSound w xs)) 0 a yes (no (firstOf (withSound w xs))) (λ z. ne (passed ∙ z))
+        (f ∙ ap no passed)
 
     pub entry-accepted : (a : A) → n ≡ 0 → a ≡ yes → a ≡ ifEq (firstOf (withSound w xs)) 0 yes (no (firstOf (withSound w xs)))
     entry-accepted a ez f = eq-yes (firstOf (withSound w xs)) 0 a yes (no (firstOf (withSound w xs))) (sym passed ∙ ez) f
@@ -213,14 +215,16 @@ module _ (n : ℕ) (w after : World) where
 
 -- the entry points that answer a state s and the outcome of a number m
 module _ (w : World) (xs : List Row) (after : World) (m : ℕ) (s : Controller) where
-  pub answer-unsound : sound w ≡ false → s ≡ w .state → m ≡ 2 → answered m s (w .slots) (w .times) ≡ decided (firstOf (withSound w xs)) w after
+  pub answer-unsound : sound w ≡ false → s ≡ w .state → m ≡ 2 → answered m s (w .slots) (w .times)
+      ≡ decided (firstOf (withSound w xs)) w after
   unfolding decided
   answer-unsound e es em =
       entry-unsound w xs (answer 0 after) (λ n. answer n w) (answered m s (w .slots) (w .times)) e
       (ap₂ (λ k c. answered k c (w .slots) (w .times)) em es)
 
   module _ (e : sound w ≡ true) (n : ℕ) (en : n ≡ firstOf xs) where
-    pub answer-refused : (n ≡ 0 → ⊥) → s ≡ w .state → m ≡ n → answered m s (w .slots) (w .times) ≡ decided (firstOf (withSound w xs)) w after
+    pub answer-refused : (n ≡ 0 → ⊥) → s ≡ w .state → m ≡ n → answered m s (w .slots) (w .times)
+        ≡ decided (firstOf (withSound w xs)) w after
     unfolding decided
     answer-refused ne es em =
         entry-refused w xs (answer 0 after) (λ n. answer n w) e n en (answered m s (w .slots) (w .times)) ne

@@ -1,5 +1,5 @@
--- What soundness (refusal 2) says, fact by fact, and the way back: a state that holds together, named by the rule, with EV times in their bounds,
--- is sound (`stated-sound`, `settled-sound`). By the laws of `window` and `ledger`.
+-- What soundness (refusal 2) says, fact by fact, and the way back: a state that holds together, named by the rule, with EV times in their
+-- bounds, is sound (`stated-sound`, `settled-sound`). By the laws of `window` and `ledger`.
 -- Assumes nothing.
 use mathlib.Core.Path.{_≡_, refl, sym, ap, _∙_}
 use mathlib.Core.Bool.{Bool, true, false, not, _&&_}
@@ -238,7 +238,8 @@ module _ (w : World) (range : Bool) (range-is : range ≡ inRange (w .state .set
         pub tests-left :
             (ok : Bool) (m n : ℕ) (name : Phase) → ok ≡ timesOk (w .times) → m ≡ phaseNumber (w .state .phase) → n ≡ phaseNumber name →
             name ≡ phaseOf (w .state .settings .mtu) (w .state .window .cwnd) (w .state .flow) (w .state .totals) →
-            (ltb (w .state .clock) timeEnd && eqb (length (w .times)) (w .state .settings .«ev_count») && ok && ltb (w .state .cursor) (w .state .settings .«ev_count») && eqb m n) ≡ sound w
+            (ltb (w .state .clock) timeEnd && eqb (length (w .times)) (w .state .settings .«ev_count») && ok
+            && ltb (w .state .cursor) (w .state .settings .«ev_count») && eqb m n) ≡ sound w
         unfolding sound namedOk
         tests-left ok m n name t p q is =
             rw (sym range-is ∙ not-false range r, sym window-is ∙ not-false window-ok h, sym books-is ∙ not-false books l, t, p, q, is)
@@ -249,7 +250,8 @@ module _ (w : World) (range : Bool) (range-is : range ≡ inRange (w .state .set
 pub stated-sound :
     (s : Settings) (f : Flow) (t : Totals) (v : Window) (time cursor : ℕ) (r : Ring) (times : List ℕ) →
     InRange s → SoundWindow s time v → soundLedger (s .mtu) (s .maxwnd) time (ledger f t r) ≡ true → time < timeEnd →
-    length times ≡ s .«ev_count» → timesOk times ≡ true → cursor < s .«ev_count» → sound (world (stateOf s f t v time cursor) r times) ≡ true
+    length times ≡ s .«ev_count» → timesOk times ≡ true → cursor < s .«ev_count»
+    → sound (world (stateOf s f t v time cursor) r times) ≡ true
 unfolding stateOf
 stated-sound s f t v time cursor r times range window-ok sound-ledger clock long ok at =
     facts-sound (world (stateOf s f t v time cursor) r times)
@@ -266,7 +268,9 @@ stated-sound s f t v time cursor r times range window-ok sound-ledger clock long
 
 pub settled-sound :
     (time : ℕ) (c : Controller) (l : Ledger) (v : Window) (times : List ℕ) →
-    InRange (c .settings) → SoundWindow (c .settings) time v → soundLedger (c .settings .mtu) (c .settings .maxwnd) time l ≡ true → time < timeEnd →
-    length times ≡ c .settings .«ev_count» → timesOk times ≡ true → c .cursor < c .settings .«ev_count» → sound (settled time c l v times) ≡ true
+    InRange (c .settings) → SoundWindow (c .settings) time v → soundLedger (c .settings .mtu) (c .settings .maxwnd) time l ≡ true
+    → time < timeEnd →
+    length times ≡ c .settings .«ev_count» → timesOk times ≡ true → c .cursor < c .settings .«ev_count»
+    → sound (settled time c l v times) ≡ true
 unfolding settled
 settled-sound time c l v times = stated-sound (c .settings) (l .flow) (l .totals) v time (c .cursor) (l .slots) times

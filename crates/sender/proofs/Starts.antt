@@ -1,4 +1,5 @@
--- Setting up: a lent slice overwritten with zeros, a cleared ring is the layout of no packets, and an accepted setting up leaves a sound world.
+-- Setting up: a lent slice overwritten with zeros, a cleared ring is the layout of no packets, and an accepted
+-- setting up leaves a sound world.
 -- Assumes nothing.
 use mathlib.Core.Path.{_≡_, refl, sym, ap, _∙_}
 use mathlib.Core.Bool.{Bool, true, false, not, _&&_}
@@ -90,13 +91,20 @@ clear-even r E =
 
 clear-at : (r : Ring) (i : ℕ) → packetAt (clearRing r) i ≡ noPacket
 unfolding packetAt
-clear-at r i = rw (zero-at (length (r .status)) i, zero-at (length (r .size)) i, zero-at (length (r .sent)) i, zero-at (length (r .resent)) i)
+clear-at r i = rw (
+  zero-at (length (r .status)) i,
+  zero-at (length (r .size)) i,
+  zero-at (length (r .sent)) i,
+  zero-at
+      (length (r .resent)) i,
+)
 
 -- "an empty ring of zeros": no packets, from any PSN on
 pub clear-laid : (r : Ring) (low : ℕ) → isCapacity (capOf r) ≡ true → Even r → clearRing r ≡ laid (capOf r) low []
 unfolding queueOf tabulate
 clear-laid r low ok E =
-    laid-queue (capOf r) (cap-facts (capOf r) ok) low (clearRing r) 0 (clear-even r E) (length-replicate {A = ℕ} (length (r .status)) 0) (omega arith)
+    laid-queue (capOf r) (cap-facts (capOf r) ok) low (clearRing r) 0 (clear-even r E) (length-replicate {A = ℕ} (length (r .status)) 0)
+    (omega arith)
     (λ k h l. clear-at r _)
 
 -- ---- an accepted setting up
@@ -109,7 +117,8 @@ ring-cap r e =
     both a _ (both b _ (both (b && eqb (length (r .sent)) (capOf r)) _ e .0) .0) .0
 
 fresh-ledger :
-    (mtu maxwnd psn : ℕ) (r : Ring) → psn < psns → isRing r ≡ true → soundLedger mtu maxwnd 0 (ledger (freshFlow psn) freshTotals (clearRing r)) ≡ true
+    (mtu maxwnd psn : ℕ) (r : Ring) → psn < psns → isRing r ≡ true
+    → soundLedger mtu maxwnd 0 (ledger (freshFlow psn) freshTotals (clearRing r)) ≡ true
 unfolding longOf sumOf
 fresh-ledger mtu maxwnd psn r fits e =
     let f = freshFlow psn in
@@ -117,7 +126,8 @@ fresh-ledger mtu maxwnd psn r fits e =
     let n : longOf f ≡ 0 = minus-self psns psn (omega arith) in
     rw (clear-laid r psn ok (ring-even r e))
     (sound-ledger-whole mtu maxwnd 0 (ledger f freshTotals (laid (capOf r) psn []))
-    (stands-laid (capOf r) f [] ok mtu 0 (omega arith) (λ k h. absurd (let z : ⊥ = omega arith in z)) (λ h. absurd (let z : ⊥ = omega arith in z)) n
+    (stands-laid (capOf r) f [] ok mtu 0 (omega arith) (λ k h. absurd (let z : ⊥ = omega arith in z))
+    (λ h. absurd (let z : ⊥ = omega arith in z)) n
     fits fits (omega arith) (omega arith))
     (rw (packets-laid (capOf r) f [] ok n (omega arith))
     (tallies-test maxwnd freshTotals [] refl refl refl (record { low = omega arith; high = omega arith }))))
@@ -128,7 +138,8 @@ module _ (s : Settings) (r : Ring) (times : List ℕ) where
   fresh-named = sym (so-yes _ _ _ _ refl (eq-yes _ _ _ _ _ refl refl))
 
   -- the fresh state with a cleared ring and cleared EV times holds together
-  pub fresh-sound : inRange s ≡ true → (isRing r && eqb (length times) (s .«ev_count»)) ≡ true → sound (world (freshState s) (clearRing r) (zeros times)) ≡ true
+  pub fresh-sound : inRange s ≡ true → (isRing r && eqb (length times) (s .«ev_count»)) ≡ true
+      → sound (world (freshState s) (clearRing r) (zeros times)) ≡ true
   unfolding freshState
   fresh-sound range lengths =
       let R = range-facts s range in

@@ -1,4 +1,5 @@
--- What the steps rely on: what holds of an event that no row refuses, and what its ledger's step leaves to the window's rules and to the state's name.
+-- What the steps rely on: what holds of an event that no row refuses, and what its ledger's step leaves to the window's
+-- rules and to the state's name.
 -- Assumes nothing.
 use mathlib.Core.Path.{_≡_, refl, ap, _∙_}
 use mathlib.Core.Bool.{Bool, true, false, not, _||_}
@@ -51,7 +52,8 @@ use Rattle.sender.specs.Limits.{timeEnd, reasonMost}
 use Rattle.sender.specs.World.{World, world, ledgerOf}
 use Rattle.sender.specs.Named.{hasRoom}
 use Rattle.sender.specs.Rows.{timeRow, newDataRows, sendAllRows, ackAllRows, nackAllRows, lossAllRows}
-use Rattle.sender.specs.Steps.{stateOf, settled, avoidedIn, ackSample, ackSampling, ackStep, nackSample, nackSampling, nackStep, lossStep}
+use Rattle.sender.specs.Steps.{stateOf, settled, avoidedIn, ackSample, ackSampling, ackStep, nackSample, nackSampling, nackStep}
+use Rattle.sender.specs.Steps.{lossStep}
 use Rattle.sender.specs.declared.Controller.{Controller}
 use Rattle.sender.specs.declared.Send.{Send}
 use Rattle.sender.specs.declared.Ack.{Ack}
@@ -92,7 +94,8 @@ pub record Sendable (time : ℕ) (a : Send) (c : Controller) (r : Ring) : Type 0
 send-rows : (f : Flow) (r : Ring) (psn size : ℕ) (resend t : Bool) → firstOf (sendRows f r psn size resend ++ (row t 6 ∷ [])) ≡ 0
     → (firstOf (sendRows f r psn size resend) ≡ 0) × (t ≡ false)
 send-rows f r psn size resend t e =
-    let d = split (firstOf (sendRows f r psn size resend)) (firstOf (row t 6 ∷ [])) (first-append _ _ (send-numbered f r psn size resend) ∙ e) in
+    let d = split (firstOf (sendRows f r psn size resend)) (firstOf (row t 6 ∷ []))
+    (first-append _ _ (send-numbered f r psn size resend) ∙ e) in
     (d .0, none-here 6 t [] (omega arith) (d .1) .0)
   where
     split : (n m : ℕ) → ifEq n 0 m n ≡ 0 → (n ≡ 0) × (m ≡ 0)
@@ -118,7 +121,12 @@ ack-facts time a c e =
     let k = none-here 21 _ _ (omega arith) (t .1) in
     let v = none-here 23 _ _ (omega arith) (k .1) in
     let g = none-here 24 _ _ (omega arith) (v .1) in
-    record { timely = t .0; count-ok = leb-false counts (a .count) (k .0); ev-ok = leb-false (c .settings .«ev_count») (a .ev) (v .0); rows = g .1 }
+    record {
+      timely = t .0;
+      count-ok = leb-false counts (a .count) (k .0);
+      ev-ok = leb-false (c .settings .«ev_count») (a .ev) (v .0);
+      rows = g .1;
+    }
 
 -- a NACK or a loss
 pub record Markable (time psn ev : ℕ) (c : Controller) (r : Ring) : Type 0 where
@@ -126,14 +134,16 @@ pub record Markable (time psn ev : ℕ) (c : Controller) (r : Ring) : Type 0 whe
   pub ev-ok : ev < c .settings .«ev_count»
   pub rows : firstOf (markRows (c .flow) (c .totals .«in_flight») r psn) ≡ 0
 
-pub nack-facts : (time : ℕ) (a : Nack) (c : Controller) (r : Ring) → firstOf (nackAllRows time a c r) ≡ 0 → Markable time (a .psn) (a .ev) c r
+pub nack-facts : (time : ℕ) (a : Nack) (c : Controller) (r : Ring) → firstOf (nackAllRows time a c r) ≡ 0
+    → Markable time (a .psn) (a .ev) c r
 nack-facts time a c r e =
     let t = time-facts time c _ e in
     let k = none-here 22 _ _ (omega arith) (t .1) in
     let v = none-here 23 _ _ (omega arith) (k .1) in
     record { timely = t .0; ev-ok = leb-false (c .settings .«ev_count») (a .ev) (v .0); rows = v .1 }
 
-pub loss-facts : (time : ℕ) (a : Loss) (c : Controller) (r : Ring) → firstOf (lossAllRows time a c r) ≡ 0 → Markable time (a .psn) (a .ev) c r
+pub loss-facts : (time : ℕ) (a : Loss) (c : Controller) (r : Ring) → firstOf (lossAllRows time a c r) ≡ 0
+    → Markable time (a .psn) (a .ev) c r
 loss-facts time a c r e =
     let t = time-facts time c _ e in
     let v = none-here 23 _ _ (omega arith) (t .1) in
@@ -169,7 +179,8 @@ under (negsuc a) m n e l = refl
 
 module _ {w : World} (S : SoundFacts w) where
   ready-of : {time : ℕ} (l : Ledger) → Timely time (w .state)
-      → soundLedger (w .state .settings .mtu) (w .state .settings .maxwnd) time l ≡ true → Ready (w .state .settings) time (w .state .window) l
+      → soundLedger (w .state .settings .mtu) (w .state .settings .maxwnd) time l ≡ true
+      → Ready (w .state .settings) time (w .state .window) l
   ready-of {time} l t co =
       let s = w .state .settings in
       let p = sound-ledger-parts (s .mtu) (s .maxwnd) time l co in
@@ -205,7 +216,8 @@ module _ {w : World} (S : SoundFacts w) where
       let s = w .state .settings in
       let p = sound-ledger-parts (s .mtu) (s .maxwnd) (w .state .clock) (ledgerOf w) (S .sound-ledger) in
       ready-of (ledgerOf w) t
-      (sound-ledger-whole (s .mtu) (s .maxwnd) time (ledgerOf w) (stands-later (s .mtu) (w .state .clock) time _ _ (p .0) (t .later)) (p .1))
+      (sound-ledger-whole (s .mtu) (s .maxwnd) time (ledgerOf w) (stands-later (s .mtu) (w .state .clock) time _ _ (p .0) (t .later))
+      (p .1))
 
   -- a send
   module _ {time : ℕ} {a : Send} (A : Sendable time a (w .state) (w .slots)) where
@@ -225,9 +237,11 @@ module _ {w : World} (S : SoundFacts w) where
         let under = room-under (A .room) in
         ready-of _ (A .timely)
         (so-both (λ (l : Ledger). soundLedger (s .mtu) (s .maxwnd) time l ≡ true) (a .resend) _ _
-        (λ e. resend-keeps (s .mtu) (s .maxwnd) (w .state .clock) time (a .psn) (a .size) (ledgerOf w) (S .sound-ledger) (rw e at (A .rows)) (A .timely .later) under)
+        (λ e. resend-keeps (s .mtu) (s .maxwnd) (w .state .clock) time (a .psn) (a .size) (ledgerOf w) (S .sound-ledger)
+        (rw e at (A .rows)) (A .timely .later) under)
         (λ e.
-        push-keeps (s .mtu) (s .maxwnd) (w .state .clock) time (a .psn) (a .size) (ledgerOf w) (S .sound-ledger) (rw e at (A .rows)) (A .timely .later)
+        push-keeps (s .mtu) (s .maxwnd) (w .state .clock) time (a .psn) (a .size) (ledgerOf w) (S .sound-ledger) (rw e at (A .rows))
+        (A .timely .later)
         (A .least) (A .most) under))
 
   -- an ACK
@@ -236,7 +250,8 @@ module _ {w : World} (S : SoundFacts w) where
   ack-ready {time} {a} A =
       let s = w .state .settings in
       ready-of _ (A .timely)
-      (ack-keeps (a .cum) (a .map) (a .count) (s .mtu) (s .maxwnd) (w .state .clock) time (ledgerOf w) (S .sound-ledger) (A .count-ok) (A .rows)
+      (ack-keeps (a .cum) (a .map) (a .count) (s .mtu) (s .maxwnd) (w .state .clock) time (ledgerOf w) (S .sound-ledger) (A .count-ok)
+      (A .rows)
       (A .timely .later))
 
   -- a NACK or a loss
@@ -247,7 +262,8 @@ module _ {w : World} (S : SoundFacts w) where
     pub mark-size : packetOf (w .state .flow) (w .slots) psn .size ≤ w .state .settings .mtu
     mark-size =
         let c = w .state in
-        let F = stands-facts (c .settings .mtu) (c .clock) (c .flow) (w .slots) (sound-ledger-parts _ _ _ (ledgerOf w) (S .sound-ledger) .0) in
+        let F = stands-facts (c .settings .mtu) (c .clock) (c .flow) (w .slots)
+        (sound-ledger-parts _ _ _ (ledgerOf w) (S .sound-ledger) .0) in
         let h = packet-some (c .flow) (w .slots) psn (omega (arith, flies (packetOf (c .flow) (w .slots) psn) mark-flies)) in
         packet-live (c .settings .mtu) (c .clock) (c .flow) (w .slots) F psn h .size-most
 
@@ -259,7 +275,8 @@ module _ {w : World} (S : SoundFacts w) where
 
 -- ---- what the code leaves is the definition's world
 
-pub settles : (time : ℕ) (c : Controller) {l : Ledger} {v u : Window} {times evs : List ℕ} {d : Controller} {f : Flow} {t : Totals} {r : Ring}
+pub settles : (time : ℕ) (c : Controller) {l : Ledger} {v u : Window} {times evs : List ℕ} {d : Controller} {f : Flow} {t : Totals}
+    {r : Ring}
     → ledger f t r ≡ l → u ≡ v → evs ≡ times → d ≡ stateOf (c .settings) f t u time (c .cursor) → world d r evs ≡ settled time c l v times
 unfolding settled
 settles time c e ev et ed = rw (← e, ← ev, ← et, ed)
@@ -280,7 +297,8 @@ module _ (time : ℕ) (w : World) {x : Packet} {z : ℤ} {u : Window} {evs : Lis
       settles time c el
       (rw (eu, en, ep, ex, ez)
       (ap
-      (λ (l : Ledger). ackOf (c .settings) time (newlyOf (a .count) (c .flow .held)) (a .marked) (ackSample time a w) (l .totals .«in_flight») (c .window))
+      (λ (l : Ledger). ackOf (c .settings) time (newlyOf (a .count) (c .flow .held)) (a .marked) (ackSample time a w)
+      (l .totals .«in_flight») (c .window))
       el))
       ee ed
 
@@ -297,7 +315,8 @@ module _ (time : ℕ) (w : World) {x : Packet} {z : ℤ} {u : Window} {evs : Lis
       (rw (eu, ep, ex, ez)
       (ap
       (λ (l : Ledger).
-      nackOf (c .settings) time (packetOf (c .flow) (w .slots) (a .psn) .size) (a .reason) (nackSample time a w) (l .totals .«in_flight») (c .window))
+      nackOf (c .settings) time (packetOf (c .flow) (w .slots) (a .psn) .size) (a .reason) (nackSample time a w)
+      (l .totals .«in_flight») (c .window))
       el))
       ee ed
 
@@ -311,7 +330,8 @@ module _ (time : ℕ) (w : World) {x : Packet} {z : ℤ} {u : Window} {evs : Lis
       let c = w .state in
       settles time c el
       (rw (eu, ex, ez)
-      (ap (λ (l : Ledger). lossOf (c .settings) time (packetOf (c .flow) (w .slots) (a .psn) .size) (l .totals .«in_flight») (c .window)) el))
+      (ap (λ (l : Ledger). lossOf (c .settings) time (packetOf (c .flow) (w .slots) (a .psn) .size) (l .totals .«in_flight»)
+      (c .window)) el))
       ee ed
 
 -- what the step says is the definition's

@@ -1,4 +1,5 @@
--- The world as contracts name it: a state with the lent ring and EV times as they are given, before the call and after it; and what a call answers.
+-- The world as contracts name it: a state with the lent ring and EV times as they are given, before the call and
+-- after it; and what a call answers.
 -- Assumes nothing.
 use Prim.Native.Nat.{ℕ}
 use Rattle.ledger.specs.Lent.{Slice, LentSlice, ringGiven, ringBefore, ringAfter}

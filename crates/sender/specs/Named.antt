@@ -1,5 +1,5 @@
--- The state's name. Document 01, "The ledger": "No backlog and nothing marked: IDLE if nothing flies, else PENDING. Otherwise READY if in-flight + MTU
--- is at most cwnd, else ACTIVE."
+-- The state's name. Document 01, "The ledger": "No backlog and nothing marked: IDLE if nothing flies, else PENDING. Otherwise READY if
+-- in-flight + MTU is at most cwnd, else ACTIVE."
 -- Assumes nothing.
 use mathlib.Core.Bool.{Bool, _&&_}
 use Prim.Native.Nat.{ℕ}

@@ -1,5 +1,5 @@
--- The refusals of each event, in document 01's order: "2, 3, 4, then send: 8, 5, 7, 6; ACK: 9, 11; NACK and loss: 10, 11". New data and path choice
--- "use only the rows that apply". Where 01 has 4 for every field, request M-100 tells which. The ledger's rows are `ledger`'s.
+-- The refusals of each event, in document 01's order: "2, 3, 4, then send: 8, 5, 7, 6; ACK: 9, 11; NACK and loss: 10, 11". New data and
+-- path choice "use only the rows that apply". Where 01 has 4 for every field, request M-100 tells which. The ledger's rows are `ledger`'s.
 -- Assumes nothing.
 use mathlib.Core.Bool.{not, _&&_, _||_}
 use mathlib.Core.List.{List, [], _∷_, _++_}
@@ -30,8 +30,8 @@ use Rattle.sender.specs.declared.Loss.{Loss}
 abbrev pub timeRow : ℕ → Controller → Row
 timeRow time c = row (ltb time (c .clock) || leb timeEnd time) 3
 
--- The fields of each event, where 01 has one row 4. Request M-100: "4 stays for send size, 20 is new-data bytes, 21 count, 22 reason, 23 EV, 24 trigger not
--- covered. Where several apply, the order is 4, 20, 21, 22, 23, 24."
+-- The fields of each event, where 01 has one row 4. Request M-100: "4 stays for send size, 20 is new-data bytes, 21 count, 22 reason, 23
+-- EV, 24 trigger not covered. Where several apply, the order is 4, 20, 21, 22, 23, 24."
 
 -- "0 bytes or a sum over 2^40 on new data" (20)
 abbrev pub newDataFields : ℕ → Controller → List Row

@@ -1,5 +1,5 @@
--- Setting up. "A fresh state has an empty ring of zeros, low = next = first PSN, all times and tallies 0, modes off, cwnd = MaxWnd, base = config_base_rtt,
--- clock 0, path cursor 0." "A refused setting up: a state of zeros."
+-- Setting up. "A fresh state has an empty ring of zeros, low = next = first PSN, all times and tallies 0, modes off, cwnd = MaxWnd, base =
+-- config_base_rtt, clock 0, path cursor 0." "A refused setting up: a state of zeros."
 -- Assumes nothing.
 use mathlib.Core.Bool.{false}
 use mathlib.Core.List.{List}
@@ -21,7 +21,23 @@ use Rattle.sender.specs.declared.Phase.the-variants.{Idle}
 -- every number 0, modes off
 unfoldable pub noSettings : Settings
 noSettings =
-    record { mtu = 0; maxwnd = 0; «config_base_rtt» = 0; «target_qdelay» = 0; fi = 0; eta = 0; alpha = 0; gamma = 0; «max_md_jump» = 0; «adjust_period» = 0; «adjust_bytes» = 0; «qa_threshold» = 0; «first_psn» = 0; «quick_adapt_off» = false; «ev_count» = 0 }
+    record {
+      mtu = 0;
+      maxwnd = 0;
+      «config_base_rtt» = 0;
+      «target_qdelay» = 0;
+      fi = 0;
+      eta = 0;
+      alpha = 0;
+      gamma = 0;
+      «max_md_jump» = 0;
+      «adjust_period» = 0;
+      «adjust_bytes» = 0;
+      «qa_threshold» = 0;
+      «first_psn» = 0;
+      «quick_adapt_off» = false;
+      «ev_count» = 0;
+    }
 
 abbrev pub freshFlow : ℕ → Flow
 freshFlow psn = record { low = psn; next = psn; held = 0; backlog = 0 }
@@ -32,7 +48,15 @@ freshTotals = record { flying = 0; marked = 0; «marked_bytes» = 0; «in_flight
 -- the fresh state of settings; of no settings it is the state of zeros
 unfoldable pub freshState : Settings → Controller
 freshState s =
-    record { settings = s; flow = freshFlow (s .«first_psn»); totals = freshTotals; window = freshOf s; clock = 0; cursor = 0; phase = Idle }
+    record {
+      settings = s;
+      flow = freshFlow (s .«first_psn»);
+      totals = freshTotals;
+      window = freshOf s;
+      clock = 0;
+      cursor = 0;
+      phase = Idle;
+    }
 
 abbrev pub zeros : List ℕ → List ℕ
 zeros xs = replicate (length xs) 0

@@ -67,7 +67,8 @@ plainNack time a c r =
     ∷ markRows (c .flow) (c .totals .«in_flight») r (a .psn)
 
 abbrev pub plainLoss : ℕ → Loss → Controller → Ring → List Row
-plainLoss time a c r = timeRow time c ∷ row (leb (c .settings .«ev_count») (a .ev)) 4 ∷ markRows (c .flow) (c .totals .«in_flight») r (a .psn)
+plainLoss time a c r = timeRow time c ∷ row (leb (c .settings .«ev_count») (a .ev)) 4
+    ∷ markRows (c .flow) (c .totals .«in_flight») r (a .psn)
 
 -- the number that is answered, told by the old rows and the rows of the event's fields
 pub record Apart (old fields : List Row) (number : ℕ) : Type 0 where

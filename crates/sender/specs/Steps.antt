@@ -1,5 +1,5 @@
--- What each accepted event does: "Accepted is 0; the clock becomes the event's time." The ledger's step, then the window rules, then the EV's time
--- with the base held before the event, then the state's name.
+-- What each accepted event does: "Accepted is 0; the clock becomes the event's time." The ledger's step, then the window rules, then the
+-- EV's time with the base held before the event, then the state's name.
 -- Assumes nothing.
 use mathlib.Core.Bool.{Bool, true, _||_}
 use mathlib.Core.List.{List}

@@ -1,4 +1,5 @@
--- Received counts: the signed difference, the forward units and the test for an old count, by cases; the wrapped comparison at 24 bits, by `wrap`.
+-- Received counts: the signed difference, the forward units and the test for an old count, by cases; the wrapped
+-- comparison at 24 bits, by `wrap`.
 -- Assumes nothing.
 use mathlib.Core.Path.{_≡_, refl, sym, ap, _∙_}
 use mathlib.Core.Bool.{true, false}
@@ -70,7 +71,8 @@ module _ (count held : ℕ) where
   unfolding gapOf
   gap-fits =
       let u = aheadOf count held in
-      lt-both (SFits w64) u half (pos u) (negsuc (counts - u - 1)) (λ l. record { sfits = omega arith }) (λ l. record { sfits = omega arith })
+      lt-both (SFits w64) u half (pos u) (negsuc (counts - u - 1)) (λ l. record { sfits = omega arith })
+      (λ l. record { sfits = omega arith })
 
   -- a signed word that holds the signed difference reads as it
   pub gap-word : (z : ℤ) → z ≡ gapOf count held → toZ w64 (ofZ w64 z) ≡ gapOf count held
@@ -95,8 +97,8 @@ forward-self count =
     let u = aheadOf count count in
     lt-both (λ (x : ℕ). x ≡ 0) u half u 0 (λ l. minus-self counts count (omega arith)) (λ l. refl)
 
--- THE FACT at 24 bits. Of two counts that lie less than 2^23 behind n: c is old against h exactly where it lies farther behind n than h does;
--- where it isn't, it brings the held count forward by the difference of how far they lie behind.
+-- THE FACT at 24 bits. Of two counts that lie less than 2^23 behind n: c is old against h exactly where it lies farther behind n than h
+-- does; where it isn't, it brings the held count forward by the difference of how far they lie behind.
 module _ (n h c : ℕ) (near : minus counts n h < half) (close : minus counts n c < half) where
   pub old-behind : isOld c h ≡ ltb (minus counts n h) (minus counts n c)
   unfolding aheadOf isOld

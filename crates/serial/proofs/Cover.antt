@@ -1,4 +1,5 @@
--- PSNs and what an ACK covers: sums and differences modulo 2^32, by `minus-is`; a map's highest set bit; the wrapped comparison at 32 bits, by `wrap`.
+-- PSNs and what an ACK covers: sums and differences modulo 2^32, by `minus-is`; a map's highest set bit; the wrapped
+-- comparison at 32 bits, by `wrap`.
 -- Assumes nothing.
 use mathlib.Core.Path.{_≡_, refl, sym, ap, _∙_}
 use mathlib.Core.Bool.{true, false, and-false}

@@ -118,7 +118,8 @@ fn differing() {
     uneven(b"resent longer", 64, 64, 64, 65);
 }
 
-// Numbers of EVs: one that is not allowed is refusal 1 of setting up, whatever is lent; of one that is allowed exactly so many times must be lent.
+// Numbers of EVs: one that is not allowed is refusal 1 of setting up, whatever is lent; of one that is allowed
+// exactly so many times must be lent.
 fn counts() {
     counted(b"255 EVs, 255 times", 255, even(64, 255));
     counted(b"256 EVs, 256 times", 256, even(64, 256));

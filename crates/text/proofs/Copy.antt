@@ -19,7 +19,8 @@ pub record Copied (out₀ : List ℕ) (at : ℕ) (s out : List ℕ) (i : ℕ) : 
 pub copy-none : (out : List ℕ) (at : ℕ) (s : List ℕ) → Copied out at s out 0
 copy-none out at s = record { within = omega arith; long = refl; is = rw (add-zero at) }
 
-pub copy-more : {out₀ : List ℕ} {at : ℕ} {s out : List ℕ} {i : ℕ} → i < length s → Copied out₀ at s out i → Copied out₀ at s (set out (at + i) (getD s i 0)) (i + 1)
+pub copy-more : {out₀ : List ℕ} {at : ℕ} {s out : List ℕ} {i : ℕ} → i < length s → Copied out₀ at s out i
+    → Copied out₀ at s (set out (at + i) (getD s i 0)) (i + 1)
 copy-more {out₀} {at} {s} {out} {i} h c =
     let next : at + (i + 1) ≡ suc (at + i) = omega arith in
     record {

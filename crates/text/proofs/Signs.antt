@@ -1,5 +1,5 @@
--- A signed number's text: how long it is, and that a sign and how far the number is below zero make it. Each fact is shown of the number, and then of the
--- machine's word for it, which is what the code has.
+-- A signed number's text: how long it is, and that a sign and how far the number is below zero make it. Each fact is shown of the number,
+-- and then of the machine's word for it, which is what the code has.
 -- Assumes nothing.
 use mathlib.Core.Path.{_≡_, refl, ap}
 use Prim.Native.Nat.{ℕ, zero, suc, _+_, _^_, _≤_, _<_}

@@ -27,7 +27,8 @@ same-length-6 : tie.Need-same-length-6
 same-length-6 c = search needs
 
 returns : tie.Need-returns
-returns c = c .before .before .before .before .before .before .before .before .before .before .before .before .take .ensures ∙ beside-words-on _ _ _ _ _ (λ w. nack-double _ w _)
+returns c = c .before .before .before .before .before .before .before .before .before .before .before .before .take .ensures
+    ∙ beside-words-on _ _ _ _ _ (λ w. nack-double _ w _)
 
 pub nscc-nack-spec : {M : Type 1} → statement M
 nscc-nack-spec =

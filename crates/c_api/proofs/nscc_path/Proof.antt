@@ -27,7 +27,8 @@ same-length-6 : tie.Need-same-length-6
 same-length-6 c = search needs
 
 returns : tie.Need-returns
-returns c = c .before .before .before .before .before .before .before .before .before .before .before .before .take .ensures ∙ beside-words-on _ _ _ _ _ (path-double _)
+returns c = c .before .before .before .before .before .before .before .before .before .before .before .before .take .ensures
+    ∙ beside-words-on _ _ _ _ _ (path-double _)
 
 pub nscc-path-spec : {M : Type 1} → statement M
 nscc-path-spec =

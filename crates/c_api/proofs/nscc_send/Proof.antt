@@ -10,7 +10,11 @@ take-requires : tie.Need-take-requires
 take-requires c κs = search needs
 
 cast-result : tie.Need-cast-result
-cast-result c = omega (arith, word-most _ _ _ _ _ (λ w. send-single _ w _) _ (c .before .before .before .before .before .before .before .before .before .before .before .before .take .ensures))
+cast-result c = omega (
+  arith,
+  word-most _ _ _ _ _ (λ w. send-single _ w _) _
+      (c .before .before .before .before .before .before .before .before .before .before .before .before .take .ensures),
+)
 
 same-length : tie.Need-same-length
 same-length c = search needs
@@ -31,7 +35,8 @@ same-length-6 : tie.Need-same-length-6
 same-length-6 c = search needs
 
 returns : tie.Need-returns
-returns c = c .before .before .before .before .before .before .before .before .before .before .before .before .take .ensures ∙ words-on _ _ _ _ _ (λ w. send-single _ w _)
+returns c = c .before .before .before .before .before .before .before .before .before .before .before .before .take .ensures
+    ∙ words-on _ _ _ _ _ (λ w. send-single _ w _)
 
 pub nscc-send-spec : {M : Type 1} → statement M
 nscc-send-spec =

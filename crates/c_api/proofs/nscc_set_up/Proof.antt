@@ -72,9 +72,11 @@ same-length-6 c = search needs
 
 returns-4 : tie.Need-returns-4
 returns-4 c =
-    let a = c .before .before .before .before .before .before .before .before .before .before .before .before .before .before .before .before in
+    let a = c .before .before .before .before .before .before .before .before .before .before .before .before .before .before .before
+    .before in
     let e = a .before .before .before .before .before .before in
-    set-up-on _ _ _ _ _ _ _ (e .before .before .before .before .if1 .left) _ (e .before .before .before .settings-of .ensures) _ (e .before .before .in-range .ensures) (e .before .if2 .left) (e .if3 .left)
+    set-up-on _ _ _ _ _ _ _ (e .before .before .before .before .if1 .left) _ (e .before .before .before .settings-of .ensures) _
+    (e .before .before .in-range .ensures) (e .before .if2 .left) (e .if3 .left)
     _ _ _ (a .set-up .ensures) _ _ (c .before .before .before .before .number-of4 .ensures, c .before .before .keep .ensures)
 
 pub nscc-set-up-spec : {M : Type 1} → statement M

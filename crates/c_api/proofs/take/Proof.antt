@@ -26,7 +26,8 @@ once-requires c κs = search needs
 
 keep-requires : tie.Need-keep-requires
 keep-requires c κs =
-    let e = c .before .before .before .before .before .before .before .before .before .before .before .before .before .before .before .before .before .before .before in
+    let e = c .before .before .before .before .before .before .before .before .before .before .before .before .before .before .before
+    .before .before .before .before in
     words-long _ _ (e .before .before .unpack .ensures) (e .if1 .left)
 
 same-length-2 : tie.Need-same-length-2

@@ -104,7 +104,8 @@ returns-3 c =
     let counted = avoided-parts cursor evs (start .pre .0) time (round .result .avoided) (round .ensures .1) in
     c .land3 .ensures
     ∙ lands-on cursor evs (start .pre .0) time (round .result .passed)
-    (free-parts cursor evs (start .pre .0) time (round .result .passed) (round .ensures .0) ∙ half-or-less cursor evs (start .pre .0) time (omega arith))
+    (free-parts cursor evs (start .pre .0) time (round .result .passed) (round .ensures .0)
+    ∙ half-or-less cursor evs (start .pre .0) time (omega arith))
 
 pub choose-spec : {M : Type 1} → statement M
 choose-spec =

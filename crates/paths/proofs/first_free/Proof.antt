@@ -1,4 +1,5 @@
--- `first_free` finds the first free EV: by its invariant, the place that is reached and the first free place of what is left make that of all.
+-- `first_free` finds the first free EV: by its invariant, the place that is reached and the first free place of
+-- what is left make that of all.
 use mathlib.Core.Path.{_≡_}
 use Prim.Native.Nat.{_+_, _-_, _≤_}
 use native.Mathlib.Omega.{arith}

@@ -41,7 +41,8 @@ returns : tie.Need-returns
 returns c =
     let a = c .before .before .before .before .before .before .before .args in
     let k = c .before .before .before .before .first-free .result in
-    let rest = avoided-lent (a .time) (a .tail .now) k (c .before .count-avoided .result) (omega arith) (c .before .count-avoided .ensures .0) in
+    let rest = avoided-lent (a .time) (a .tail .now) k (c .before .count-avoided .result) (omega arith)
+    (c .before .count-avoided .ensures .0) in
     let both = avoided-append (a .time) (a .tail .now) (a .head .now) in
     (omega (arith, free-tail (a .time) (a .tail .now) (a .head .now) (omega arith)), omega arith)
 

@@ -41,14 +41,16 @@ unfolding numberOf
 returns c =
     let h = c .before in
     let s = start h in
-    tally-refused (feed (s .args .source) (s .args .log .now)) (s .args .place) (given s) (s .args .figures .now) _ (h .is-sound .ensures) (c .if1 .taken)
+    tally-refused (feed (s .args .source) (s .args .log .now)) (s .args .place) (given s) (s .args .figures .now) _
+    (h .is-sound .ensures) (c .if1 .taken)
 
 tally-turns-requires : tie.Need-tally-turns-requires
 tally-turns-requires c κs =
     let e = c .before .before .before .before .before .before in
     let h = e .before in
     let s = start h in
-    tally-tested (feed (s .args .source) (s .args .log .now)) (s .args .place) (given s) (s .args .figures .now) _ (h .is-sound .ensures) (e .if1 .left)
+    tally-tested (feed (s .args .source) (s .args .log .now)) (s .args .place) (given s) (s .args .figures .now) _
+    (h .is-sound .ensures) (e .if1 .left)
 
 same-length-6 : tie.Need-same-length-6
 same-length-6 c = search needs
@@ -75,7 +77,8 @@ returns-2 c =
     let e = k .before .before .before .before .before .before .before in
     let h = e .before in
     let s = start h in
-    tally-made (feed (s .args .source) (s .args .log .now)) (s .args .place) (given s) (s .args .figures .now) _ (h .is-sound .ensures) (e .if1 .left) _ (k .tally-turns .ensures)
+    tally-made (feed (s .args .source) (s .args .log .now)) (s .args .place) (given s) (s .args .figures .now) _ (h .is-sound .ensures)
+    (e .if1 .left) _ (k .tally-turns .ensures)
 
 pub tally-spec : {M : Type 1} → statement M
 tally-spec =

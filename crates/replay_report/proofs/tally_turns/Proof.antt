@@ -14,7 +14,8 @@ use Rattle.replay_report.proofs.tally_turns.Tie as tie
 
 abbrev Inv-loop : tie.InvT-loop
 Inv-loop source status₀ size₀ sent₀ resent₀ evs₀ log figures₀ place₀ state₀ status size sent resent evs figures place state =
-    Going (feed source log) place₀ (world state₀ (ring status₀ size₀ sent₀ resent₀) evs₀) figures₀ place (world state (ring status size sent resent) evs) figures
+    Going (feed source log) place₀ (world state₀ (ring status₀ size₀ sent₀ resent₀) evs₀) figures₀ place
+    (world state (ring status size sent resent) evs) figures
     × Lent status₀ size₀ sent₀ resent₀ evs₀ status size sent resent evs
 
 abbrev μ-loop : tie.MeasureT-loop
@@ -44,7 +45,8 @@ taken k =
 lent : (k : tie.After-turn Inv-loop μ-loop)
     → let a = start k .args in
     let l = k .turn .last .1 .1 .1 in
-    Lent (a .status .now) (a .size .now) (a .sent .now) (a .resent .now) (a .evs .now) (l .0) (l .1 .0) (l .1 .1 .0) (l .1 .1 .1 .0) (l .1 .1 .1 .1 .0)
+    Lent (a .status .now) (a .size .now) (a .sent .now) (a .resent .now) (a .evs .now) (l .0) (l .1 .0) (l .1 .1 .0) (l .1 .1 .1 .0)
+    (l .1 .1 .1 .1 .0)
 lent k =
     let h = k .turn .kept .1 .1 .1 in
     lent-more (looped k .loop .inv .1) (h .0, h .1 .0, h .1 .1 .0, h .1 .1 .1 .0, h .1 .1 .1 .1 .0)
@@ -98,7 +100,8 @@ loop-again c =
     let n = c .before .before in
     let x = n .before in
     let k = at-count x in (
-      going-more (looped k .loop .inv .0) (taken k) (k .turn .ensures) (x .before .before .if1 .left) (x .stands-at .result) (x .stands-at .ensures) _
+      going-more (looped k .loop .inv .0) (taken k) (k .turn .ensures) (x .before .before .if1 .left) (x .stands-at .result)
+          (x .stands-at .ensures) _
           (n .count .ensures) (n .count .kept .0),
       lent k,
     )

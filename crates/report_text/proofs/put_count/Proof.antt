@@ -35,10 +35,14 @@ returns-2 c =
     let end = c .before .before .put2 .ensures in
     let count = c .before .before .before .before .before .before .before .put-column2 .ensures in
     let number = c .before .before .before .before .before .before .before .before .before .before .before .put-column .ensures in
-    let label = c .before .before .before .before .before .before .before .before .before .before .before .before .before .before .before .put .ensures in
-    let test = c .before .before .before .before .before .before .before .before .before .before .before .before .before .before .before .before .before in
-    let a = test .before .before .before .args in
-    (renamed (count-some (a .label .now) (a .number) (a .n) (test .if1 .left)) (then label (then (number .0) (then (count .0) end))), omega arith)
+    let label = c .before .before .before .before .before .before .before .before .before .before .before .before .before .before
+    .before .put .ensures in
+    let test = c .before .before .before .before .before .before .before .before .before .before .before .before .before .before .before
+    .before .before in
+    let a = test .before .before .before .args in (
+      renamed (count-some (a .label .now) (a .number) (a .n) (test .if1 .left)) (then label (then (number .0) (then (count .0) end))),
+      omega arith,
+    )
 
 pub put-count-spec : {M : Type 1} → statement M
 put-count-spec =

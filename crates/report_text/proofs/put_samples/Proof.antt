@@ -39,7 +39,8 @@ unfolding sampleLines
 returns c =
     let buckets = c .before .before .put-counts .ensures in
     let greatest = c .before .before .before .before .before .before .before .put-figure2 .ensures in
-    let least = c .before .before .before .before .before .before .before .before .before .before .before .before .before .put-figure .ensures in
+    let least = c .before .before .before .before .before .before .before .before .before .before .before .before .before .put-figure
+    .ensures in
     (then (least .0) (then (greatest .0) (buckets .0)), omega arith)
 
 pub put-samples-spec : {M : Type 1} → statement M

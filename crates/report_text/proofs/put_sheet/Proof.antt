@@ -28,7 +28,8 @@ returns c =
     let bytes = c .before .before .put-bytes .ensures in
     let samples = c .before .before .before .before .before .before .put-samples .ensures in
     let kinds = c .before .before .before .before .before .before .before .before .before .before .put-kinds .ensures in
-    let answers = c .before .before .before .before .before .before .before .before .before .before .before .before .before .before .put-answers .ensures in
+    let answers = c .before .before .before .before .before .before .before .before .before .before .before .before .before .before
+    .put-answers .ensures in
     (then (answers .0) (then (kinds .0) (then (samples .0) (bytes .0))), omega arith)
 
 pub put-sheet-spec : {M : Type 1} → statement M

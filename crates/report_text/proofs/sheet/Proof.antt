@@ -20,8 +20,11 @@ same-length c = search needs
 
 returns-3 : tie.Need-returns-3
 returns-3 c =
-    let k = c .before .before in
-    (room _ _ (k .before .before .before .if1 .left) (k .before .before .if2 .left) (k .put-sheet .ensures .0), counts _ _ (omega (arith, k .put-sheet .ensures .1, k .put-sheet .kept .0, k .before .before .if2 .left)))
+    let k = c .before .before in (
+      room _ _ (k .before .before .before .if1 .left) (k .before .before .if2 .left) (k .put-sheet .ensures .0),
+      counts _ _
+          (omega (arith, k .put-sheet .ensures .1, k .put-sheet .kept .0, k .before .before .if2 .left)),
+    )
 
 pub sheet-spec : {M : Type 1} → statement M
 sheet-spec = tie.close (tie.spec returns returns-2 put-sheet-requires same-length returns-3)

@@ -20,7 +20,11 @@ put-digits-requires : tie.Need-put-digits-requires
 put-digits-requires c κs =
     let start = c .before .before .before .before .before .before .before .before .before in
     let far = c .below-zero in
-    omega (arith, minus-room (start .args .z) (start .fits .z) (far .result) (far .ensures), c .before .before .before .before .put .ensures .past)
+    omega (
+      arith,
+      minus-room (start .args .z) (start .fits .z) (far .result) (far .ensures),
+      c .before .before .before .before .put .ensures .past,
+    )
 
 same-length : tie.Need-same-length
 same-length c = search needs
@@ -32,7 +36,8 @@ returns c =
     let test = c .before .before .before .before .before .before .before .before .before .before in
     let start = test .before .before in
     let z = start .args .z in
-    let words = renamed (minus z (start .fits .z) (far .result) (test .if1 .taken) (far .ensures)) (then (sign .ensures) (c .before .before .put-digits .ensures)) in
+    let words = renamed (minus z (start .fits .z) (far .result) (test .if1 .taken) (far .ensures))
+    (then (sign .ensures) (c .before .before .put-digits .ensures)) in
     (words, omega (arith, words .past, signed-short z (start .fits .z)))
 
 cast-put-decimal : tie.Need-cast-put-decimal

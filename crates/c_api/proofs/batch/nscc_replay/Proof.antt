@@ -46,7 +46,8 @@ replay-requires c κs = search needs
 
 keep-batch-requires : tie.Need-keep-batch-requires
 keep-batch-requires c κs =
-    let e = testing (placing (unpacking (c .before .before .before .before .before .before .before .before .before .before .before .before .before .before))) in
+    let e = testing (placing (unpacking
+    (c .before .before .before .before .before .before .before .before .before .before .before .before .before .before))) in
     lent-long _ _ (sym (e .before .is-lent .ensures) ∙ not-false _ (e .if1 .left))
 
 same-length-3 : tie.Need-same-length-3
@@ -75,12 +76,14 @@ same-length-10 c = search needs
 
 returns-2 : tie.Need-returns-2
 returns-2 c =
-    let k = c .before .before .before .before .before .before .before .before .before .before .before .before .before .before .before .before .before .before .before in
+    let k = c .before .before .before .before .before .before .before .before .before .before .before .before .before .before .before
+    .before .before .before .before in
     let u = unpacking k in
     let p = placing u in
     let e = testing p in
     let stored = c .before .before .before .before .keep-batch .ensures in
-    handed-back _ _ _ _ _ _ (sym (e .before .is-lent .ensures) ∙ not-false _ (e .if1 .left)) _ (p .place-of .ensures) _ (u .unpack .ensures) _ (k .replay .ensures)
+    handed-back _ _ _ _ _ _ (sym (e .before .is-lent .ensures) ∙ not-false _ (e .if1 .left)) _ (p .place-of .ensures) _
+    (u .unpack .ensures) _ (k .replay .ensures)
     _ _ _ (stored .0) (stored .1) (stored .2)
 
 pub nscc-replay-spec : {M : Type 1} → statement M

@@ -46,7 +46,9 @@ chunk-requires c κs = search needs
 
 keep-took-requires : tie.Need-keep-took-requires
 keep-took-requires c κs =
-    let e = testing (placing (unpacking (c .before .before .before .before .before .before .before .before .before .before .before .before .before .before .before .before))) in
+    let e = testing (placing (unpacking
+    (c .before .before .before .before .before .before .before .before .before .before .before .before .before .before .before
+    .before))) in
     part-long _ _ (sym (e .before .is-lent .ensures) ∙ not-false _ (e .if1 .left))
 
 same-length-3 : tie.Need-same-length-3
@@ -78,12 +80,14 @@ same-length-11 c = search needs
 
 returns-2 : tie.Need-returns-2
 returns-2 c =
-    let k = c .before .before .before .before .before .before .before .before .before .before .before .before .before .before .before .before .before .before .before .before .before in
+    let k = c .before .before .before .before .before .before .before .before .before .before .before .before .before .before .before
+    .before .before .before .before .before .before in
     let u = unpacking k in
     let p = placing u in
     let e = testing p in
     let stored = c .before .before .before .before .keep-took .ensures in
-    part-back _ _ _ _ _ _ _ _ (sym (e .before .is-lent .ensures) ∙ not-false _ (e .if1 .left)) _ (p .carry-of .ensures) _ (u .unpack .ensures) _ (k .chunk .ensures)
+    part-back _ _ _ _ _ _ _ _ (sym (e .before .is-lent .ensures) ∙ not-false _ (e .if1 .left)) _ (p .carry-of .ensures) _
+    (u .unpack .ensures) _ (k .chunk .ensures)
     _ _ _ (stored .0) (stored .1) (stored .2)
 
 pub nscc-chunk-spec : {M : Type 1} → statement M

@@ -43,7 +43,8 @@ newly-requires c κs = search needs
 
 less-requires : tie.Need-less-requires
 less-requires c κs =
-    let v = c .before .before .before .before .before .before .before .before .before .before .before .before .before .before .before .before .before in
+    let v = c .before .before .before .before .before .before .before .before .before .before .before .before .before .before .before
+    .before .before in
     (less-asks (entry (counted v) .pre .0) (counted v .long .ensures) (v .cover .ensures), omega (arith, c .before .newly .ensures .1))
 
 psn-plus-requires : tie.Need-psn-plus-requires

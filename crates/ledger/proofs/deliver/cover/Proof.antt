@@ -32,8 +32,14 @@ add-end c = omega (arith, fits (entry c) .0, fits (entry c) .1, c .place .ensure
 cover-run-requires : tie.Need-cover-run-requires
 cover-run-requires c κs =
     let v = c .before .before in
-    let s = entry v in
-    (s .pre, ((covering.run-first (s .pre) (v .place .ensures .0) (low-fits s), omega arith, omega arith, omega arith), λ j l. absurd (not-suc-le-zero l)))
+    let s = entry v in (
+      s .pre,
+      (
+        (covering.run-first (s .pre) (v .place .ensures .0) (low-fits s), omega arith, omega arith, omega arith),
+        λ j l. absurd
+            (not-suc-le-zero l),
+      ),
+    )
 
 same-length : tie.Need-same-length
 same-length c = search needs

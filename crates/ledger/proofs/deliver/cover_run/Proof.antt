@@ -1,4 +1,5 @@
--- `deliver::cover_run` meets its contract: the loop's invariant is `Inv` of proofs/Covering, whose laws give its start, a turn and what it leaves.
+-- `deliver::cover_run` meets its contract: the loop's invariant is `Inv` of proofs/Covering, whose laws give its
+-- start, a turn and what it leaves.
 use mathlib.Core.Path.{refl, _∙_}
 use mathlib.Core.Logic.{⊎-elim}
 use Prim.Native.Nat.{_-_, _<_}
@@ -50,7 +51,15 @@ cast-psn-plus c =
 add-psn-plus : tie.Need-add-psn-plus Inv-loop μ-loop
 add-psn-plus c =
     let I = c .before .before .loop .inv in
-    omega (arith, c .before .loop-test .taken, I .past, I .run .in-reach, I .run .pre .within, I .run .pre .laid-out .fits, covering.caps (I .run .pre) .most)
+    omega (
+      arith,
+      c .before .loop-test .taken,
+      I .past,
+      I .run .in-reach,
+      I .run .pre .within,
+      I .run .pre .laid-out .fits,
+      covering.caps (I .run .pre) .most,
+    )
 
 psn-plus-requires : tie.Need-psn-plus-requires Inv-loop μ-loop
 psn-plus-requires c κs = tt
@@ -120,7 +129,8 @@ loop-again c =
     (w .1 .came))
     refl)
     (λ w.
-    covering.again I h e g (covering.ring-passed I h e g (w .0 .left) (w .1)) (covering.sums-passed I h e g (w .0 .left) (w .2) (w .3) (w .4)) refl)
+    covering.again I h e g (covering.ring-passed I h e g (w .0 .left) (w .1))
+    (covering.sums-passed I h e g (w .0 .left) (w .2) (w .3) (w .4)) refl)
     (c .if1 .came)
 
 same-length : tie.Need-same-length Inv-loop μ-loop

@@ -1,4 +1,5 @@
--- `deliver::retire` meets its contract: the loop's invariant is `Inv` of proofs/Retiring, whose laws give its start, a turn and where it ends.
+-- `deliver::retire` meets its contract: the loop's invariant is `Inv` of proofs/Retiring, whose laws give its
+-- start, a turn and where it ends.
 use Prim.Native.Nat.{_-_}
 use native.Mathlib.Omega.{arith}
 use Rattle.ledger.specs.Ring.{ring}
@@ -60,7 +61,8 @@ loop-less c = omega (arith, turn (c .before .before .before .before .before .bef
 loop-again : tie.Need-loop-again Inv-loop μ-loop
 loop-again c =
     let w = c .before .before .before .before .before .before .before .before .before in
-    retiring.again (turn w .before .loop .inv) (turn w .loop-test .taken) (w .before .before .before .before .before .if1 .left) (w .write .ensures) (c .after .ensures .0)
+    retiring.again (turn w .before .loop .inv) (turn w .loop-test .taken) (w .before .before .before .before .before .if1 .left)
+    (w .write .ensures) (c .after .ensures .0)
 
 same-length-5 : tie.Need-same-length-5 Inv-loop μ-loop
 same-length-5 c = retiring.same-cap (c .before .loop .inv)

@@ -14,7 +14,8 @@ returns : tie.Need-returns
 unfolding numberOf
 returns c =
     let a = c .before .before .before .before .args in
-    ack-9 (a .books .flow) (a .books .totals .«in_flight») (a .cum) (a .map) (a .count) (sym (c .before .unsent-or-old .ensures) ∙ c .if1 .taken)
+    ack-9 (a .books .flow) (a .books .totals .«in_flight») (a .cum) (a .map) (a .count)
+    (sym (c .before .unsent-or-old .ensures) ∙ c .if1 .taken)
 
 newly-requires : tie.Need-newly-requires
 newly-requires c κs = search needs
@@ -29,7 +30,8 @@ returns-2 c =
     let u = n .before .before in
     let s = u .before .before .before in
     let a = s .args in
-    ack-11 (a .books .flow) (a .books .totals .«in_flight») (a .cum) (a .map) (a .count) (sym (u .unsent-or-old .ensures) ∙ n .before .if1 .left)
+    ack-11 (a .books .flow) (a .books .totals .«in_flight») (a .cum) (a .map) (a .count)
+    (sym (u .unsent-or-old .ensures) ∙ n .before .if1 .left)
     (sinks-word (a .books .totals .«in_flight») (s .pre) (n .newly .result) _ (n .newly .ensures .0) (c .before .would-sink .result)
     (c .before .would-sink .ensures) ∙ c .if2 .taken)
 
@@ -40,7 +42,8 @@ returns-3 c =
     let u = n .before .before in
     let s = u .before .before .before in
     let a = s .args in
-    ack-0 (a .books .flow) (a .books .totals .«in_flight») (a .cum) (a .map) (a .count) (sym (u .unsent-or-old .ensures) ∙ n .before .if1 .left)
+    ack-0 (a .books .flow) (a .books .totals .«in_flight») (a .cum) (a .map) (a .count)
+    (sym (u .unsent-or-old .ensures) ∙ n .before .if1 .left)
     (sinks-word (a .books .totals .«in_flight») (s .pre) (n .newly .result) _ (n .newly .ensures .0) (c .before .would-sink .result)
     (c .before .would-sink .ensures) ∙ c .if2 .left)
 

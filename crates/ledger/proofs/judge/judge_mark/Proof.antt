@@ -19,7 +19,8 @@ unfolding numberOf
 returns c =
     let f = c .before .before in
     let s = f .before .before .before .before .before .before .before in
-    mark-10 (s .args .books .flow) (s .args .books .totals .«in_flight») (slots s) (s .args .psn) (f .find .result) (f .find .ensures) (c .if1 .taken)
+    mark-10 (s .args .books .flow) (s .args .books .totals .«in_flight») (slots s) (s .args .psn) (f .find .result) (f .find .ensures)
+    (c .if1 .taken)
 
 cast-would-sink : tie.Need-cast-would-sink
 cast-would-sink c = search needs

@@ -20,7 +20,8 @@ place-requires : tie.Need-place-requires
 place-requires c κs = sound-ledger-facts (c .before .before .before .before .before .before .pre .0) .cap
 
 write-requires : tie.Need-write-requires
-write-requires c κs = let p = c .before .before .before .before in (sound-ledger-facts (p .before .before .before .before .before .before .before .pre .0) .even, p .place .ensures .1)
+write-requires c κs = let p = c .before .before .before .before in
+    (sound-ledger-facts (p .before .before .before .before .before .before .before .pre .0) .even, p .place .ensures .1)
 
 psn-plus-requires : tie.Need-psn-plus-requires
 psn-plus-requires c κs = search needs
@@ -33,7 +34,8 @@ add-totals c = search needs
 
 more-requires : tie.Need-more-requires
 more-requires c κs =
-    let s = c .before .before .before .before .before .before .before .before .before .before .before .before .before .before .before .before .before .before .before .before .before .before in
+    let s = c .before .before .before .before .before .before .before .before .before .before .before .before .before .before .before
+    .before .before .before .before .before .before .before in
     (flown-word (s .args .books .totals .«in_flight») (sound-ledger-flown (s .pre .0)), omega (arith, s .fits))
 
 same-length : tie.Need-same-length

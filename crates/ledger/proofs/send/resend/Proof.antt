@@ -28,32 +28,47 @@ cast-bytes : tie.Need-cast-bytes
 cast-bytes c = search needs
 
 place-requires : tie.Need-place-requires
-place-requires c κs = sound-ledger-facts (c .before .before .before .before .before .before .before .before .before .before .before .before .pre .0) .cap
+place-requires c κs = sound-ledger-facts
+    (c .before .before .before .before .before .before .before .before .before .before .before .before .pre .0) .cap
 
 once-more-requires : tie.Need-once-more-requires
 once-more-requires c κs =
     let f = c .before .before .before .before .before .before in
-    ready (f .before .before .before .before .before .before .before .before .before .before .before) (f .find .result) (f .find .ensures) .resent
+    ready (f .before .before .before .before .before .before .before .before .before .before .before) (f .find .result)
+    (f .find .ensures) .resent
 
 write-requires : tie.Need-write-requires
-write-requires c κs = let p = c .before .before .before .before .before in (sound-ledger-facts (p .before .before .before .before .before .before .before .before .before .before .before .before .before .pre .0) .even, p .place .ensures .1)
+write-requires c κs = let p = c .before .before .before .before .before in (
+  sound-ledger-facts (p .before .before .before .before .before .before .before .before .before .before .before .before .before .pre
+      .0) .even,
+  p .place .ensures .1,
+)
 
 add-totals : tie.Need-add-totals
-add-totals c = omega (arith, c .before .before .before .before .before .before .before .before .before .before .before .before .before .before .before .before .before .before .before .before .before .before .before .before .before .before .before .pre .0 .flying-most)
+add-totals c = omega (
+  arith,
+  c .before .before .before .before .before .before .before .before .before .before .before .before .before .before .before .before
+      .before .before .before .before .before .before .before .before .before .before .before .pre .0 .flying-most,
+)
 
 sub-totals : tie.Need-sub-totals
 sub-totals c =
-    let f = c .before .before .before .before .before .before .before .before .before .before .before .before .before .before .before .before in
-    ready (f .before .before .before .before .before .before .before .before .before .before .before) (f .find .result) (f .find .ensures) .one
+    let f = c .before .before .before .before .before .before .before .before .before .before .before .before .before .before .before
+    .before in
+    ready (f .before .before .before .before .before .before .before .before .before .before .before) (f .find .result)
+    (f .find .ensures) .one
 
 sub-totals-2 : tie.Need-sub-totals-2
 sub-totals-2 c =
-    let f = c .before .before .before .before .before .before .before .before .before .before .before .before .before .before .before .before in
-    ready (f .before .before .before .before .before .before .before .before .before .before .before) (f .find .result) (f .find .ensures) .bytes
+    let f = c .before .before .before .before .before .before .before .before .before .before .before .before .before .before .before
+    .before in
+    ready (f .before .before .before .before .before .before .before .before .before .before .before) (f .find .result)
+    (f .find .ensures) .bytes
 
 more-requires : tie.Need-more-requires
 more-requires c κs =
-    let f = c .before .before .before .before .before .before .before .before .before .before .before .before .before .before .before .before .before in
+    let f = c .before .before .before .before .before .before .before .before .before .before .before .before .before .before .before
+    .before .before in
     let s = f .before .before .before .before .before .before .before .before .before .before .before in (
       flown-word (s .args .books .totals .«in_flight») (sound-ledger-flown (s .pre .0)),
       ready s (f .find .result) (f .find .ensures) .small,
@@ -81,9 +96,11 @@ returns c =
     let a = s .args in
     let l = books-in s in
     let x = f .find .result in
-    resend-is l (s .pre .0) (a .psn) (s .pre .1) x (f .find .ensures) (omega (arith, s .fits)) (a .time) (p .place .result) (o .once-more .result)
+    resend-is l (s .pre .0) (a .psn) (s .pre .1) x (f .find .ensures) (omega (arith, s .fits)) (a .time) (p .place .result)
+    (o .once-more .result)
     (c .more .result)
-    (ring (w .write .last .0) (w .write .last .1 .0) (w .write .last .1 .1 .0) (w .write .last .1 .1 .1 .0)) (p .place .ensures .0) (o .once-more .ensures)
+    (ring (w .write .last .0) (w .write .last .1 .0) (w .write .last .1 .1 .0) (w .write .last .1 .1 .1 .0)) (p .place .ensures .0)
+    (o .once-more .ensures)
     (c .more .ensures ∙ ap (λ (z : ℤ). z +ℤ pos (x .size)) (word (l .totals .«in_flight») (sound-ledger-flown (s .pre .0))))
     (w .write .ensures)
 

@@ -26,7 +26,12 @@ returns c =
     let a = c .before .before .before .before .before .before .before .before .before .args in
     let r = ring (a .status .now) (a .size .now) (a .sent .now) (a .resent .now) in
     let l : offsetOf (a .flow) (a .psn) < longOf (a .flow) =
-    omega (arith, c .before .before .if1 .taken, c .before .before .before .long .ensures, c .before .before .before .before .psn-minus .ensures) in
+    omega (
+      arith,
+      c .before .before .if1 .taken,
+      c .before .before .before .long .ensures,
+      c .before .before .before .before .psn-minus .ensures,
+    ) in
     c .read .ensures ∙ ap (packetAt r) (c .before .place-in-any .ensures .0) ∙ sym (packet-here (a .flow) r (a .psn) (omega arith) l)
 
 returns-2 : tie.Need-returns-2

@@ -1,4 +1,5 @@
--- `is_sound` makes the tests of `soundLedger`: no ring (`not-ring`), more packets than slots (`too-long`), else all that is left (`all-tests`).
+-- `is_sound` makes the tests of `soundLedger`: no ring (`not-ring`), more packets than slots (`too-long`), else
+-- all that is left (`all-tests`).
 use mathlib.Core.Path.{_≡_, refl, sym, ap, _∙_}
 use mathlib.Core.Bool.{true}
 use mir.Syntax.{w64}
@@ -54,7 +55,8 @@ returns-2 : tie.Need-returns-2
 returns-2 c =
     let d = c .before .before in
     let a = d .before .before .before .before .before .before .before .before .args in
-    too-long (a .mtu) (a .maxwnd) (a .clock) (a .books .flow) (a .books .totals) (ringAt d) _ (c .before .long .ensures) (ringed d) (c .if2 .taken)
+    too-long (a .mtu) (a .maxwnd) (a .clock) (a .books .flow) (a .books .totals) (ringAt d) _ (c .before .long .ensures) (ringed d)
+    (c .if2 .taken)
 
 tally-requires : tie.Need-tally-requires
 tally-requires c κs = (even (c .before .before), (c .if2 .left, ring-cap _ (ringed (c .before .before))))
@@ -79,7 +81,10 @@ returns-3 c =
     let z = a .books .totals .«in_flight» in
     let word : toZ w64 (ofZ w64 z) ≡ z = search needs in
     all-tests (a .mtu) (a .maxwnd) (a .clock) (a .books .flow) (a .books .totals) (ringAt d) _ (t .before .before .long .ensures) (ringed d)
-    (t .before .if2 .left) _ _ _ _ _ _ _ (t .tally .ensures) (c .before .before .before .before .before .before .before .before .before .before .before .rest .ensures) (c .before .before .before .before .before .before .before .before .before .before .head-ok .ensures) (c .in-bounds .ensures ∙ ap (inBounds (a .maxwnd)) word) (low-fits d) (next-fits d)
+    (t .before .if2 .left) _ _ _ _ _ _ _ (t .tally .ensures)
+    (c .before .before .before .before .before .before .before .before .before .before .before .rest .ensures)
+    (c .before .before .before .before .before .before .before .before .before .before .head-ok .ensures)
+    (c .in-bounds .ensures ∙ ap (inBounds (a .maxwnd)) word) (low-fits d) (next-fits d)
 
 pub is-sound-spec : {M : Type 1} → statement M
 is-sound-spec =

@@ -1,4 +1,5 @@
--- `rest` takes the slots behind the packets in one run, or in two: up to the ring's end and from slot 0 on. Each adds its own (`rest-join`).
+-- `rest` takes the slots behind the packets in one run, or in two: up to the ring's end and from slot 0 on.
+-- Each adds its own (`rest-join`).
 use mathlib.Core.Path.{ap, _∙_}
 use Prim.Native.Nat.{_+_, _-_}
 use native.Mathlib.Omega.{arith}
@@ -51,7 +52,8 @@ returns-2 c =
     let r = ring (a .status .now) (a .size .now) (a .sent .now) (a .resent .now) in
     let C = cap-facts (capOf r) (s .pre .1 .1 .0) in
     let from = p .place .result + a .n - capOf r in
-    rest-join (a .mtu) (a .clock) r (a .low) from (a .n) _ (place-over (capOf r) C (a .low) from (a .n) (omega arith)) (a .n) _ _ (omega arith)
+    rest-join (a .mtu) (a .clock) r (a .low) from (a .n) _ (place-over (capOf r) C (a .low) from (a .n) (omega arith)) (a .n) _ _
+    (omega arith)
     (s .pre .1 .1 .1) (c .zero-run3 .ensures)
     ∙ ap (allTo _) (omega arith)
 

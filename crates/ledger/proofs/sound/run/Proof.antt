@@ -34,7 +34,9 @@ returns c =
     let a = s .args in
     let r = ring (a .status .now) (a .size .now) (a .sent .now) (a .resent .now) in (
       live-all r (s .pre .0) (a .from) (a .to - a .from) (omega arith) (a .mtu) (a .clock) _ _ _ _ _ _ _
-          (c .before .before .before .before .before .before .bytes-within .ensures) (c .before .before .before .before .before .sizes-within .ensures) (c .before .before .before .before .times-until .ensures) (c .before .before .before .bytes-within2 .ensures)
+          (c .before .before .before .before .before .before .bytes-within .ensures)
+          (c .before .before .before .before .before .sizes-within .ensures)
+          (c .before .before .before .before .times-until .ensures) (c .before .before .before .bytes-within2 .ensures)
           (c .before .before .count-of .ensures .0) (c .before .count-of2 .ensures .0) (c .marked-sum .ensures .0),
       (omega arith, omega arith, omega arith),
     )

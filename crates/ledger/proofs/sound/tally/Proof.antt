@@ -53,9 +53,11 @@ returns-2 c =
     let r = ring (a .status .now) (a .size .now) (a .sent .now) (a .resent .now) in
     let C = cap-facts (capOf r) (s .pre .1 .1) in
     let i = p .place .result in
-    tally-join (a .mtu) (a .clock) r (a .low) 0 (capOf r - i) _ (place-over (capOf r) C (a .low) 0 (capOf r - i) (omega (arith, p .place .ensures))) (a .n)
+    tally-join (a .mtu) (a .clock) r (a .low) 0 (capOf r - i) _
+    (place-over (capOf r) C (a .low) 0 (capOf r - i) (omega (arith, p .place .ensures))) (a .n)
     _ _ _ _ _ _ _ _ (omega (arith, p .place .ensures))
-    (tally-low (a .mtu) (a .clock) r C (a .low) i (capOf r - i) (capOf r - i) _ _ _ _ (p .place .ensures .0) refl (u .before .run2 .ensures .0))
+    (tally-low (a .mtu) (a .clock) r C (a .low) i (capOf r - i) (capOf r - i) _ _ _ _ (p .place .ensures .0) refl
+    (u .before .run2 .ensures .0))
     (u .run3 .ensures .0)
 
 pub tally-spec : {M : Type 1} → statement M

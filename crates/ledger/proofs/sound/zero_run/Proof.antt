@@ -25,7 +25,8 @@ returns c =
     let a = s .args in
     let r = ring (a .status .now) (a .size .now) (a .sent .now) (a .resent .now) in
     zero-all r (s .pre .0) (a .from) (a .to - a .from) (omega arith) _ _ _ _
-    (c .before .before .before .bytes-within .ensures) (c .before .before .sizes-within .ensures) (c .before .times-until .ensures) (c .bytes-within2 .ensures)
+    (c .before .before .before .bytes-within .ensures) (c .before .before .sizes-within .ensures) (c .before .times-until .ensures)
+    (c .bytes-within2 .ensures)
 
 pub zero-run-spec : {M : Type 1} → statement M
 zero-run-spec =

@@ -33,8 +33,12 @@ unfolding inside
 loop-again c =
     let b = c .before .before in
     let a = c .before .before .before .args in
-    let here = slot-at (a .low) (a .high) (a .from) (b .loop .i) (a .xs .now) (omega arith) in
-    (omega arith, omega arith, test-more (between (a .low) (a .high) (a .xs .now) (a .from)) (a .from) (b .loop .i) (omega arith) _ _ (b .loop .inv .2) here)
+    let here = slot-at (a .low) (a .high) (a .from) (b .loop .i) (a .xs .now) (omega arith) in (
+      omega arith,
+      omega arith,
+      test-more (between (a .low) (a .high) (a .xs .now) (a .from)) (a .from) (b .loop .i) (omega arith) _ _
+          (b .loop .inv .2) here,
+    )
 
 returns : tie.Need-returns Inv-loop μ-loop
 returns c = c .before .loop .inv .2 ∙ ap (allTo _) (omega arith)

@@ -9,7 +9,8 @@ use Rattle.ledger.proofs.stretch.count_of.Statement.{statement}
 use Rattle.ledger.proofs.stretch.count_of.Tie as tie
 
 abbrev Inv-loop : tie.InvT-loop
-Inv-loop xs status from to count₀ i₀ count i = (from ≤ i) × (i ≤ to) × (count ≡ sumTo (oneAt status xs from) (i - from)) × (count ≤ i - from)
+Inv-loop xs status from to count₀ i₀ count i = (from ≤ i) × (i ≤ to) × (count ≡ sumTo (oneAt status xs from) (i - from))
+    × (count ≤ i - from)
 
 abbrev μ-loop : tie.MeasureT-loop
 μ-loop xs status from to count₀ i₀ count i = to - i

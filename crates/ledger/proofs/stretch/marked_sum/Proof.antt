@@ -9,7 +9,8 @@ use Rattle.ledger.proofs.stretch.marked_sum.Statement.{statement}
 use Rattle.ledger.proofs.stretch.marked_sum.Tie as tie
 
 abbrev Inv-loop : tie.InvT-loop
-Inv-loop status size from to bytes₀ i₀ bytes i = (from ≤ i) × (i ≤ to) × (bytes ≡ sumTo (sizeAt status size from) (i - from)) × (bytes ≤ (i - from) * 2 ^ 32)
+Inv-loop status size from to bytes₀ i₀ bytes i = (from ≤ i) × (i ≤ to) × (bytes ≡ sumTo (sizeAt status size from) (i - from))
+    × (bytes ≤ (i - from) * 2 ^ 32)
 
 abbrev μ-loop : tie.MeasureT-loop
 μ-loop status size from to bytes₀ i₀ bytes i = to - i

@@ -10,7 +10,8 @@ use Rattle.ledger.proofs.stretch.sizes_within.Statement.{statement}
 use Rattle.ledger.proofs.stretch.sizes_within.Tie as tie
 
 abbrev Inv-loop : tie.InvT-loop
-Inv-loop xs low high from to top all₀ i₀ all i = (from ≤ i) × (i ≤ to) × (all ≡ allTo (between low high xs from) (i - from)) × (top ≡ min high (2 ^ 32 - 1))
+Inv-loop xs low high from to top all₀ i₀ all i = (from ≤ i) × (i ≤ to) × (all ≡ allTo (between low high xs from) (i - from))
+    × (top ≡ min high (2 ^ 32 - 1))
 
 abbrev μ-loop : tie.MeasureT-loop
 μ-loop xs low high from to top all₀ i₀ all i = to - i
@@ -44,7 +45,8 @@ loop-again c =
     let here = slot-at (a .low) (a .high) (a .from) (b .loop .i) (a .xs .now) (omega arith) in (
       omega arith,
       omega arith,
-      test-more (between (a .low) (a .high) (a .xs .now) (a .from)) (a .from) (b .loop .i) (omega arith) _ _ (b .loop .inv .2) (w .0 ∙ top-inside (a .low) _ (a .high) _ (w .1) (b .loop .inv .3) ∙ here),
+      test-more (between (a .low) (a .high) (a .xs .now) (a .from)) (a .from) (b .loop .i) (omega arith) _ _ (b .loop .inv .2)
+          (w .0 ∙ top-inside (a .low) _ (a .high) _ (w .1) (b .loop .inv .3) ∙ here),
       b .loop .inv .3,
     )
 

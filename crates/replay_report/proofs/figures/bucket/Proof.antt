@@ -25,7 +25,8 @@ loop-less : tie.Need-loop-less Inv-loop μ-loop
 loop-less c = omega (arith, halving-test (c .before .loop .k) (c .before .loop .n) (c .loop-test .taken))
 
 loop-again : tie.Need-loop-again Inv-loop μ-loop
-loop-again c = let t = halving-test (c .before .loop .k) (c .before .loop .n) (c .loop-test .taken) in halving-more (c .before .loop .inv) (t .0) (t .1)
+loop-again c = let t = halving-test (c .before .loop .k) (c .before .loop .n) (c .loop-test .taken) in
+    halving-more (c .before .loop .inv) (t .0) (t .1)
 
 returns : tie.Need-returns Inv-loop μ-loop
 returns c = halving-over (c .before .loop .inv) (c .loop-test .left)

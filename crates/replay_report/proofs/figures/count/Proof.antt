@@ -19,7 +19,8 @@ same-length c = search needs
 returns : tie.Need-returns
 returns c =
     let k = c .before .before in
-    all-counted _ _ _ _ _ _ _ (k .before .before .before .before .before .before .before .before .count-answer .ensures) (k .before .before .before .before .count-sample .ensures) (k .count-bytes .ensures)
+    all-counted _ _ _ _ _ _ _ (k .before .before .before .before .before .before .before .before .count-answer .ensures)
+    (k .before .before .before .before .count-sample .ensures) (k .count-bytes .ensures)
 
 pub count-spec : {M : Type 1} → statement M
 count-spec =

@@ -16,7 +16,8 @@ returns : tie.Need-returns
 returns c =
     -- a send is variant 1, and the match left another
     send-none _ _ _
-    (λ t a e. ⊎-elim (eqb-false 1 0 refl) (⊎-elim (eqb-false 1 2 refl) (⊎-elim (eqb-false 1 3 refl) (⊎-elim (eqb-false 1 4 refl) (⊎-elim (eqb-false 1 5 refl) (eqb-false 1 6 refl)))))
+    (λ t a e. ⊎-elim (eqb-false 1 0 refl) (⊎-elim (eqb-false 1 2 refl)
+    (⊎-elim (eqb-false 1 3 refl) (⊎-elim (eqb-false 1 4 refl) (⊎-elim (eqb-false 1 5 refl) (eqb-false 1 6 refl)))))
     (rw e at (c .match .keys2)))
 
 is-accepted-requires : tie.Need-is-accepted-requires

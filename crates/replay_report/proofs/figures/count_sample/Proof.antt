@@ -34,7 +34,9 @@ same-length c = search needs
 returns-2 : tie.Need-returns-2
 returns-2 c =
     let k = c .before .before in
-    sample-one _ _ _ (k .before .before .before .before .before .before .before .before .before .shown .given .1) _ _ _ _ (k .before .before .before .before .before .before .kind-at .ensures) (k .before .before .before .before .before .add .ensures) (k .before .sample-in .ensures) (k .count-ticks .ensures)
+    sample-one _ _ _ (k .before .before .before .before .before .before .before .before .before .shown .given .1) _ _ _ _
+    (k .before .before .before .before .before .before .kind-at .ensures) (k .before .before .before .before .before .add .ensures)
+    (k .before .sample-in .ensures) (k .count-ticks .ensures)
 
 pub count-sample-spec : {M : Type 1} → statement M
 count-sample-spec =

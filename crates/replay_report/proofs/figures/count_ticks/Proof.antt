@@ -44,7 +44,12 @@ add-add c = omega (arith, c .bucket .ensures, bucket-most (c .before .before .be
 add-requires : tie.Need-add-requires
 add-requires c κs =
     simp length-set
-    (omega (arith, c .bucket .ensures, bucket-most (c .before .before .before .before .before .before .before .sample .given .0 .0), c .before .before .before .before .before .before .before .before .before .before .pre))
+    (omega (
+      arith,
+      c .bucket .ensures,
+      bucket-most (c .before .before .before .before .before .before .before .sample .given .0 .0),
+      c .before .before .before .before .before .before .before .before .before .before .pre,
+    ))
 
 same-length : tie.Need-same-length
 same-length c = c .before .before .add .kept .0 ∙ simp length-set
@@ -52,7 +57,9 @@ same-length c = c .before .before .add .kept .0 ∙ simp length-set
 returns-2 : tie.Need-returns-2
 returns-2 c =
     let k = c .before .before in
-    ticks-one _ _ _ (k .before .before .before .before .before .before .before .before .sample .given .1) _ _ _ _ (k .before .before .before .before .before .lesser-of .ensures) (k .before .before .before .most .ensures) (k .before .bucket .ensures) (k .add .ensures)
+    ticks-one _ _ _ (k .before .before .before .before .before .before .before .before .sample .given .1) _ _ _ _
+    (k .before .before .before .before .before .lesser-of .ensures) (k .before .before .before .most .ensures)
+    (k .before .bucket .ensures) (k .add .ensures)
 
 pub count-ticks-spec : {M : Type 1} → statement M
 count-ticks-spec =

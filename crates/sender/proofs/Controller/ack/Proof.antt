@@ -15,7 +15,8 @@ use Rattle.sender.proofs.Controller.ack.Tie as tie
 
 -- what was handed in
 abbrev handed : tie.Start → World
-handed s = world (s .args .self) (ring (s .args .status .now) (s .args .size .now) (s .args .sent .now) (s .args .resent .now)) (s .args .evs .now)
+handed s = world (s .args .self) (ring (s .args .status .now) (s .args .size .now) (s .args .sent .now) (s .args .resent .now))
+    (s .args .evs .now)
 
 -- from the test back to the entry
 abbrev start : tie.After-is-sound → tie.Start
@@ -48,7 +49,8 @@ returns c =
     let i = c .before .before in
     let s = start i in
     let two = ap numberOf (c .unheard .ensures .1) in
-    let answer = answer-unsound (handed s) (ackAllRows (s .args .time) (s .args .a) (s .args .self)) (ackStep (s .args .time) (s .args .a) (handed s)) _ _
+    let answer = answer-unsound (handed s) (ackAllRows (s .args .time) (s .args .a) (s .args .self))
+    (ackStep (s .args .time) (s .args .a) (handed s)) _ _
     (sym (i .is-sound .ensures) ∙ not-true _ (c .before .if1 .taken)) (c .unheard .ensures .0) two in (
       answer,
       says-nothing answer (ackSampling (s .args .time) (s .args .a) (handed s)) (λ z. omega (arith, two, z))

@@ -14,7 +14,8 @@ use Rattle.sender.proofs.Controller.loss.Tie as tie
 
 -- what was handed in
 abbrev handed : tie.Start → World
-handed s = world (s .args .self) (ring (s .args .status .now) (s .args .size .now) (s .args .sent .now) (s .args .resent .now)) (s .args .evs .now)
+handed s = world (s .args .self) (ring (s .args .status .now) (s .args .size .now) (s .args .sent .now) (s .args .resent .now))
+    (s .args .evs .now)
 
 -- from the test back to the entry
 abbrev start : tie.After-is-sound → tie.Start
@@ -34,7 +35,8 @@ unfolding numberOf onLoss
 returns c =
     let i = c .before in
     let s = start i in
-    answer-unsound (handed s) (lossAllRows (s .args .time) (s .args .a) (s .args .self) (handed s .slots)) (lossStep (s .args .time) (s .args .a) (handed s)) _ _
+    answer-unsound (handed s) (lossAllRows (s .args .time) (s .args .a) (s .args .self) (handed s .slots))
+    (lossStep (s .args .time) (s .args .a) (handed s)) _ _
     (sym (i .is-sound .ensures) ∙ not-true _ (c .if1 .taken)) refl refl
 
 loss-requires : tie.Need-loss-requires

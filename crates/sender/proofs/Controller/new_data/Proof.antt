@@ -14,7 +14,8 @@ use Rattle.sender.proofs.Controller.new_data.Tie as tie
 
 -- what was handed in
 abbrev handed : tie.Start → World
-handed s = world (s .args .self) (ring (s .args .status .now) (s .args .size .now) (s .args .sent .now) (s .args .resent .now)) (s .args .evs .now)
+handed s = world (s .args .self) (ring (s .args .status .now) (s .args .size .now) (s .args .sent .now) (s .args .resent .now))
+    (s .args .evs .now)
 
 -- from the test back to the entry
 abbrev start : tie.After-is-sound → tie.Start
@@ -28,7 +29,8 @@ unfolding numberOf onNewData
 returns c =
     let i = c .before in
     let s = start i in
-    answer-unsound (handed s) (newDataRows (s .args .time) (s .args .bytes) (s .args .self)) (newDataStep (s .args .time) (s .args .bytes) (handed s)) _ _
+    answer-unsound (handed s) (newDataRows (s .args .time) (s .args .bytes) (s .args .self))
+    (newDataStep (s .args .time) (s .args .bytes) (handed s)) _ _
     (sym (i .is-sound .ensures) ∙ not-true _ (c .if1 .taken)) refl refl
 
 new-data-requires : tie.Need-new-data-requires

@@ -14,7 +14,8 @@ use Rattle.sender.proofs.Controller.send.Tie as tie
 
 -- what was handed in
 abbrev handed : tie.Start → World
-handed s = world (s .args .self) (ring (s .args .status .now) (s .args .size .now) (s .args .sent .now) (s .args .resent .now)) (s .args .evs .now)
+handed s = world (s .args .self) (ring (s .args .status .now) (s .args .size .now) (s .args .sent .now) (s .args .resent .now))
+    (s .args .evs .now)
 
 -- from the test back to the entry
 abbrev start : tie.After-is-sound → tie.Start
@@ -40,7 +41,8 @@ unfolding numberOf onSend
 returns c =
     let i = c .before in
     let s = start i in
-    answer-unsound (handed s) (sendAllRows (s .args .time) (s .args .a) (s .args .self) (handed s .slots)) (sendStep (s .args .time) (s .args .a) (handed s)) _ _
+    answer-unsound (handed s) (sendAllRows (s .args .time) (s .args .a) (s .args .self) (handed s .slots))
+    (sendStep (s .args .time) (s .args .a) (handed s)) _ _
     (sym (i .is-sound .ensures) ∙ not-true _ (c .if1 .taken)) refl refl
 
 send-requires : tie.Need-send-requires

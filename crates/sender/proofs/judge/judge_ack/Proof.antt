@@ -30,7 +30,8 @@ unfolding numberOf
 returns-3 c =
     let k = c .before .before .before in
     let i = k .before .before in
-    judged-on _ _ _ _ (sym (i .before .bad-time .ensures) ∙ i .if1 .left) (lt-leb _ _ (k .if2 .left)) _ (first-here _ _ _ _ (le-leb _ _ (c .if3 .taken)) refl)
+    judged-on _ _ _ _ (sym (i .before .bad-time .ensures) ∙ i .if1 .left) (lt-leb _ _ (k .if2 .left)) _
+    (first-here _ _ _ _ (le-leb _ _ (c .if3 .taken)) refl)
 
 covers-requires : tie.Need-covers-requires
 covers-requires c κs = search needs

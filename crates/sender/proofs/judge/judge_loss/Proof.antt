@@ -37,7 +37,8 @@ returns-3 c =
     let i = c .before .before .before .before in
     let s = i .before .before .before .before .before .before .before .before .before in
     let a = s .args in
-    judged-on _ _ _ (markRows (a .c .flow) (a .c .totals .«in_flight») (slots s) (a .a .psn)) (sym (i .before .bad-time .ensures) ∙ i .if1 .left)
+    judged-on _ _ _ (markRows (a .c .flow) (a .c .totals .«in_flight») (slots s) (a .a .psn))
+    (sym (i .before .bad-time .ensures) ∙ i .if1 .left)
     (lt-leb _ _ (c .before .if2 .left)) (numberOf (c .judge-mark .result)) (c .judge-mark .ensures)
 
 pub judge-loss-spec : {M : Type 1} → statement M

@@ -27,7 +27,8 @@ returns-2 c =
     let v = i .before in
     let s = v .before .before .before .before in
     let a = s .args .c in
-    let room = ap (hasRoom (a .settings .mtu) (a .window .cwnd)) (sym (word (a .totals .«in_flight») (s .pre .flown))) ∙ sym (c .before .has-room .ensures) in
+    let room = ap (hasRoom (a .settings .mtu) (a .window .cwnd)) (sym (word (a .totals .«in_flight») (s .pre .flown)))
+    ∙ sym (c .before .has-room .ensures) in
     let zero = accepted-zero (s .args .verdict) _ (v .is-accepted .ensures) (not-false _ (i .if1 .left)) in
     eq-yes (numberOf (s .args .verdict)) 0 0 _ _ zero (so-yes _ 0 0 6 (room ∙ c .if2 .taken) refl)
 
@@ -38,7 +39,8 @@ returns-3 c =
     let v = i .before in
     let s = v .before .before .before .before in
     let a = s .args .c in
-    let room = ap (hasRoom (a .settings .mtu) (a .window .cwnd)) (sym (word (a .totals .«in_flight») (s .pre .flown))) ∙ sym (c .before .has-room .ensures) in
+    let room = ap (hasRoom (a .settings .mtu) (a .window .cwnd)) (sym (word (a .totals .«in_flight») (s .pre .flown)))
+    ∙ sym (c .before .has-room .ensures) in
     let zero = accepted-zero (s .args .verdict) _ (v .is-accepted .ensures) (not-false _ (i .if1 .left)) in
     eq-yes (numberOf (s .args .verdict)) 0 6 _ _ zero (so-no _ 6 0 6 (room ∙ c .if2 .left) refl)
 

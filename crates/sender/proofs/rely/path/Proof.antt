@@ -19,7 +19,8 @@ use Rattle.sender.proofs.rely.path.Tie as tie
 
 -- what was handed in
 abbrev handed : tie.Start → World
-handed s = world (s .args .c) (ring (s .args .status .now) (s .args .size .now) (s .args .sent .now) (s .args .resent .now)) (s .args .evs .now)
+handed s = world (s .args .c) (ring (s .args .status .now) (s .args .size .now) (s .args .sent .now) (s .args .resent .now))
+    (s .args .evs .now)
 
 -- from the judging back to the entry
 abbrev start : tie.After-judge-path → tie.Start

@@ -17,7 +17,8 @@ use Rattle.sender.proofs.rely.send.Tie as tie
 
 -- what was handed in, the rows past 2, and the world after the step
 abbrev handed : tie.Start → World
-handed s = world (s .args .c) (ring (s .args .status .now) (s .args .size .now) (s .args .sent .now) (s .args .resent .now)) (s .args .evs .now)
+handed s = world (s .args .c) (ring (s .args .status .now) (s .args .size .now) (s .args .sent .now) (s .args .resent .now))
+    (s .args .evs .now)
 
 abbrev rows : tie.Start → List Row
 rows s = sendAllRows (s .args .time) (s .args .a) (s .args .c) (handed s .slots)

@@ -1,5 +1,5 @@
--- `is_sound` makes the tests of `sound` in their order: by the laws of proofs/Sounds on its tests. The name is asked for once the first three hold,
--- which bound what it is computed from.
+-- `is_sound` makes the tests of `sound` in their order: by the laws of proofs/Sounds on its tests. The name is asked for once the first
+-- three hold, which bound what it is computed from.
 use mathlib.Core.Path.{sym, _∙_}
 use borrow.Author.Needs.{needs}
 use borrow.Author.Tests.{not-false}
@@ -68,7 +68,8 @@ returns-4 c =
     let h = l .before .before in
     let r = h .before .before in
     tests-left (given (r .before)) _ (r .before .in-range .ensures) (r .if1 .left) _ (h .before .is-sound .ensures) (h .if2 .left) _
-    (l .before .is-sound2 .ensures) (l .if3 .left) _ _ _ _ (c .before .before .before .before .before .times-ok .ensures) (c .before .before .phase-number .ensures)
+    (l .before .is-sound2 .ensures) (l .if3 .left) _ _ _ _ (c .before .before .before .before .before .times-ok .ensures)
+    (c .before .before .phase-number .ensures)
     (c .phase-number2 .ensures) (c .before .phase-of .ensures)
 
 pub is-sound-spec : {M : Type 1} → statement M

@@ -37,8 +37,15 @@ returns : tie.Need-returns
 returns c =
     let resent = c .before .before .before .before .before .before in
     let sent = resent .before .before .before .before in
-    let size = sent .before .before .before .before in
-    (rw (size .before .before .before .before .clear-8 .ensures, size .clear-32 .ensures, sent .clear-64 .ensures, resent .clear-82 .ensures), c .before .before .clear-642 .ensures)
+    let size = sent .before .before .before .before in (
+      rw (
+        size .before .before .before .before .clear-8 .ensures,
+        size .clear-32 .ensures,
+        sent .clear-64 .ensures,
+        resent .clear-82 .ensures,
+      ),
+      c .before .before .clear-642 .ensures,
+    )
 
 pub clear-spec : {M : Type 1} → statement M
 clear-spec =

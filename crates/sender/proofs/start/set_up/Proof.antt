@@ -1,4 +1,5 @@
--- `set_up` makes the tests of `onSetUp` in their order, and clears what it was lent only after them: by the laws of proofs/Starts on its answer.
+-- `set_up` makes the tests of `onSetUp` in their order, and clears what it was lent only after them: by the
+-- laws of proofs/Starts on its answer.
 use mathlib.Core.Path.{ap}
 use borrow.Author.Needs.{needs}
 use Rattle.rules.specs.Verdict.{numberOf}
@@ -18,7 +19,8 @@ unfolding numberOf
 returns c =
     let i = c .before .before in
     let a = i .before .before .before .before .before .before .args in
-    refused-range (a .settings) (ring (a .status .now) (a .size .now) (a .sent .now) (a .resent .now)) (a .evs .now) _ (i .in-range .ensures)
+    refused-range (a .settings) (ring (a .status .now) (a .size .now) (a .sent .now) (a .resent .now)) (a .evs .now) _
+    (i .in-range .ensures)
     _ (c .not-set-up .ensures .0) _ (ap numberOf (c .not-set-up .ensures .1)) (c .before .if1 .taken)
 
 is-ring-requires : tie.Need-is-ring-requires
@@ -45,7 +47,8 @@ returns-2 c =
     let l = c .before .before .before in
     let i = l .before .before .before .before .before .before in
     let a = i .before .before .before .before .before .before .args in
-    refused-lengths (a .settings) (ring (a .status .now) (a .size .now) (a .sent .now) (a .resent .now)) (a .evs .now) _ (i .in-range .ensures)
+    refused-lengths (a .settings) (ring (a .status .now) (a .size .now) (a .sent .now) (a .resent .now)) (a .evs .now) _
+    (i .in-range .ensures)
     _ (c .not-set-up2 .ensures .0) _ (ap numberOf (c .not-set-up2 .ensures .1)) (l .before .before .before .before .before .if1 .left) _
     (l .is-ring .ensures) (c .before .if2 .taken)
 
@@ -78,7 +81,8 @@ returns-3 c =
     let i = l .before .before .before .before .before .before in
     let a = i .before .before .before .before .before .before .args in
     accepted-so (a .settings) (ring (a .status .now) (a .size .now) (a .sent .now) (a .resent .now)) (a .evs .now) _ (i .in-range .ensures)
-    (l .before .before .before .before .before .if1 .left) _ (l .is-ring .ensures) (z .before .before .before .before .before .before .if2 .left)
+    (l .before .before .before .before .before .if1 .left) _ (l .is-ring .ensures)
+    (z .before .before .before .before .before .before .if2 .left)
     _ _ _ (c .fresh .ensures) (z .clear .ensures .0) (z .clear .ensures .1)
 
 pub set-up-spec : {M : Type 1} → statement M

@@ -1,11 +1,12 @@
--- `ack` puts the ledger's step, the window's rules and the EV's time together (`ack-is`); each call's need is what a sound world and an ACK that
--- no row refuses leave (`ack-ready`).
+-- `ack` puts the ledger's step, the window's rules and the EV's time together (`ack-is`); each call's need is what a sound world and an ACK
+-- that no row refuses leave (`ack-ready`).
 use borrow.Author.Needs.{needs}
 use native.Mathlib.Omega.{arith}
 use Rattle.ledger.specs.Ring.{Ledger, ring, ledger}
 use Rattle.sender.specs.World.{World, world}
 use Rattle.sender.proofs.Sounds.{SoundFacts, sound-facts, sound-even, sound-to-ledger}
-use Rattle.sender.proofs.Stepping.{Ackable, ack-facts, avoid-asks, Ready, ready-above, ready-word, state-asks, ack-ready, sample-at, sampled-at, ack-is, ack-says}
+use Rattle.sender.proofs.Stepping.{Ackable, ack-facts, avoid-asks, Ready, ready-above, ready-word, state-asks, ack-ready, sample-at}
+use Rattle.sender.proofs.Stepping.{sampled-at, ack-is, ack-says}
 use Rattle.sender.proofs.steps.ack.Statement.{statement}
 use Rattle.sender.proofs.steps.ack.Tie as tie
 
@@ -22,13 +23,15 @@ accepted s = ack-facts (s .args .time) (s .args .a) (s .args .c) (s .pre .1)
 
 -- from the place after the ledger's step back to the entry
 abbrev entry : tie.After-ack → tie.Start
-entry p = p .before .before .before .before .before .before .before .before .before .before .before .before .before .before .before .before .before .before .before .before .before .before .before
+entry p = p .before .before .before .before .before .before .before .before .before .before .before .before .before .before .before
+    .before .before .before .before .before .before .before .before
 
 -- the ledger that came out, and what it leaves to the window's rules
 abbrev ledger-out : tie.After-ack → Ledger
 ledger-out p =
     ledger (p .ack .result .flow) (p .ack .result .totals)
-    (ring (p .ack .last .1 .1 .1 .1 .0) (p .ack .last .1 .1 .1 .1 .1 .0) (p .ack .last .1 .1 .1 .1 .1 .1 .0) (p .ack .last .1 .1 .1 .1 .1 .1 .1 .0))
+    (ring (p .ack .last .1 .1 .1 .1 .0) (p .ack .last .1 .1 .1 .1 .1 .0) (p .ack .last .1 .1 .1 .1 .1 .1 .0)
+    (p .ack .last .1 .1 .1 .1 .1 .1 .1 .0))
 
 after : (p : tie.After-ack) → Ready (entry p .args .c .settings) (entry p .args .time) (entry p .args .c .window) (ledger-out p)
 after p = let s = entry p in rw (p .ack .ensures) (ack-ready (facts s) (accepted s))
@@ -37,7 +40,9 @@ newly-requires : tie.Need-newly-requires
 newly-requires c κs = search needs
 
 find-requires : tie.Need-find-requires
-find-requires c κs = let s = c .before .before .before .before .before .before .before .before .before .before .before .before .before .before in sound-even (world-in s) (s .pre .0)
+find-requires c κs = let s =
+    c .before .before .before .before .before .before .before .before .before .before .before .before .before .before in
+    sound-even (world-in s) (s .pre .0)
 
 cast-sampled : tie.Need-cast-sampled
 cast-sampled c = search needs
@@ -49,53 +54,75 @@ sample-in-requires : tie.Need-sample-in-requires
 sample-in-requires c κs = search needs
 
 ack-requires : tie.Need-ack-requires
-ack-requires c κs = let s = c .before .before .before .before .before .before .before .before .before .before .before .before .before .before .before .before .before .before .before .before .before .before in (sound-to-ledger (world-in s) (s .pre .0), accepted s .rows)
+ack-requires c κs = let s =
+    c .before .before .before .before .before .before .before .before .before .before .before .before .before .before .before .before
+    .before .before .before .before .before .before in (sound-to-ledger (world-in s) (s .pre .0), accepted s .rows)
 
 ack-requires-2 : tie.Need-ack-requires-2
 ack-requires-2 c κs =
     let p = c .before .before .before .before .before .before .before .before .before .before .before in
     let m = p .before .before .before .before .before .before in
-    let R = after p in
-    (R .range, (R .sound-window, (sampled-at _ _ _ _ _ _ (p .before .before .before .before .before .sample-in .ensures) (m .sampled .ensures), (m .before .before .before .before .before .before .before .newly .ensures .1, R .early, ready-above R))))
+    let R = after p in (
+      R .range,
+      (
+        R .sound-window,
+        (
+          sampled-at _ _ _ _ _ _ (p .before .before .before .before .before .sample-in .ensures)
+              (m .sampled .ensures),
+          (m .before .before .before .before .before .before .before .newly .ensures .1, R .early, ready-above R),
+        ),
+      ),
+    )
 
--- what the last two calls ask are bounds that the window before the ACK and the one after it both keep: a step that hands on the wrong one of the two is
--- refused by its promise
+-- what the last two calls ask are bounds that the window before the ACK and the one after it both keep: a step that hands on the wrong one
+-- of the two is refused by its promise
 avoid-requires : tie.Need-avoid-requires
 avoid-requires c κs =
-    let s = c .before .before .before .before .before .before .before .before .before .before .before .before .before .before .before .before .before .before .before .before .before .before .before .before .before .before .before .before .before .before .before .before .before .before .before .before in
+    let s = c .before .before .before .before .before .before .before .before .before .before .before .before .before .before .before
+    .before .before .before .before .before .before .before .before .before .before .before .before .before .before .before .before
+    .before .before .before .before .before in
     let asks = avoid-asks (facts s) (accepted s .timely) (accepted s .ev-ok) in
     (asks .0, asks .1, omega (arith, asks .2, facts s .range .rtt-high, c .before .ack2 .ensures .sound .base-high))
 
 state-of-requires : tie.Need-state-of-requires
 state-of-requires c κs =
-    let R = after (c .before .before .before .before .before .before .before .before .before .before .before .before .before .before .before .before) in
+    let R = after (c .before .before .before .before .before .before .before .before .before .before .before .before .before .before
+    .before .before) in
     let old = state-asks R (R .sound-window) in
     let new = state-asks R (c .before .before .before .before .ack2 .ensures .sound) in
     (new .0, (new .1 .0, omega (arith, old .1 .1, new .1 .1)))
 
 same-length : tie.Need-same-length
-same-length c = c .before .before .before .before .before .before .before .before .before .before .before .before .before .before .before .before .before .ack .kept .1 .1 .1 .1 .0
+same-length c = c .before .before .before .before .before .before .before .before .before .before .before .before .before .before
+    .before .before .before .ack .kept .1 .1 .1 .1 .0
 
 same-length-2 : tie.Need-same-length-2
-same-length-2 c = c .before .before .before .before .before .before .before .before .before .before .before .before .before .before .before .before .before .ack .kept .1 .1 .1 .1 .1 .0
+same-length-2 c = c .before .before .before .before .before .before .before .before .before .before .before .before .before .before
+    .before .before .before .ack .kept .1 .1 .1 .1 .1 .0
 
 same-length-3 : tie.Need-same-length-3
-same-length-3 c = c .before .before .before .before .before .before .before .before .before .before .before .before .before .before .before .before .before .ack .kept .1 .1 .1 .1 .1 .1 .0
+same-length-3 c = c .before .before .before .before .before .before .before .before .before .before .before .before .before .before
+    .before .before .before .ack .kept .1 .1 .1 .1 .1 .1 .0
 
 same-length-4 : tie.Need-same-length-4
-same-length-4 c = c .before .before .before .before .before .before .before .before .before .before .before .before .before .before .before .before .before .ack .kept .1 .1 .1 .1 .1 .1 .1 .0
+same-length-4 c = c .before .before .before .before .before .before .before .before .before .before .before .before .before .before
+    .before .before .before .ack .kept .1 .1 .1 .1 .1 .1 .1 .0
 
 same-length-5 : tie.Need-same-length-5
 same-length-5 c = search needs
 
 returns : tie.Need-returns
 returns c =
-    let p = c .before .before .before .before .before .before .before .before .before .before .before .before .before .before .before .before .before in
+    let p = c .before .before .before .before .before .before .before .before .before .before .before .before .before .before .before
+    .before .before in
     let m = p .before .before .before .before .before .before in
     let x = m .before .before in
     let s = entry p in (
-      ack-is (s .args .time) (world-in s) {r = ledger-out p .slots} (ready-word (after p)) (c .state-of .ensures) (s .args .a) (x .before .before .before .before .before .newly .ensures .0)
-          (x .find .ensures) (sample-at _ _ _ _ _ _ (p .before .before .before .before .before .sample-in .ensures) (m .sampled .ensures)) (p .ack .ensures) (c .before .before .before .before .before .ack2 .ensures .is) (c .before .before .before .avoid .ensures),
+      ack-is (s .args .time) (world-in s) {r = ledger-out p .slots} (ready-word (after p)) (c .state-of .ensures) (s .args .a)
+          (x .before .before .before .before .before .newly .ensures .0)
+          (x .find .ensures) (sample-at _ _ _ _ _ _ (p .before .before .before .before .before .sample-in .ensures)
+          (m .sampled .ensures)) (p .ack .ensures) (c .before .before .before .before .before .ack2 .ensures .is)
+          (c .before .before .before .avoid .ensures),
       ack-says (s .args .time) (world-in s) (s .args .a) (x .find .ensures) (m .sampled .ensures),
     )
 

@@ -1,10 +1,11 @@
--- `loss` puts the ledger's step, the window's rules and the EV's time together (`loss-is`); each call's need is what a sound world and a loss that
--- no row refuses leave (`marked-ready`).
+-- `loss` puts the ledger's step, the window's rules and the EV's time together (`loss-is`); each call's need is what a sound world and a
+-- loss that no row refuses leave (`marked-ready`).
 use borrow.Author.Needs.{needs}
 use Rattle.ledger.specs.Ring.{Ledger, ring, ledger}
 use Rattle.sender.specs.World.{World, world}
 use Rattle.sender.proofs.Sounds.{SoundFacts, sound-facts, sound-even, sound-to-ledger}
-use Rattle.sender.proofs.Stepping.{Markable, loss-facts, avoid-asks, Ready, ready-above, ready-word, state-asks, mark-flies, mark-size, marked-ready, loss-is}
+use Rattle.sender.proofs.Stepping.{Markable, loss-facts, avoid-asks, Ready, ready-above, ready-word, state-asks, mark-flies}
+use Rattle.sender.proofs.Stepping.{mark-size, marked-ready, loss-is}
 use Rattle.sender.proofs.steps.loss.Statement.{statement}
 use Rattle.sender.proofs.steps.loss.Tie as tie
 
@@ -36,10 +37,12 @@ after : (p : tie.After-mark) → Ready (entry p .args .c .settings) (entry p .ar
 after p = let s = entry p in rw (p .mark .ensures) (marked-ready (facts s) (accepted s))
 
 find-requires : tie.Need-find-requires
-find-requires c κs = let s = c .before .before .before .before .before .before .before .before .before .before in sound-even (world-in s) (s .pre .0)
+find-requires c κs = let s = c .before .before .before .before .before .before .before .before .before .before in
+    sound-even (world-in s) (s .pre .0)
 
 mark-requires : tie.Need-mark-requires
-mark-requires c κs = let s = c .before .before .before .before .before .before .before .before .before .before .before .before in (sound-to-ledger (world-in s) (s .pre .0), mark-flies (facts s) (accepted s))
+mark-requires c κs = let s = c .before .before .before .before .before .before .before .before .before .before .before .before in
+    (sound-to-ledger (world-in s) (s .pre .0), mark-flies (facts s) (accepted s))
 
 cast-loss : tie.Need-cast-loss
 cast-loss c = search needs
@@ -52,10 +55,13 @@ loss-requires c κs =
     (R .range, (R .sound-window, (rw (found p .find .ensures) (mark-size (facts s) (accepted s)), R .early, ready-above R)))
 
 avoid-requires : tie.Need-avoid-requires
-avoid-requires c κs = let s = c .before .before .before .before .before .before .before .before .before .before .before .before .before .before .before .before .before .before .before .before .before in avoid-asks (facts s) (accepted s .timely) (accepted s .ev-ok)
+avoid-requires c κs = let s =
+    c .before .before .before .before .before .before .before .before .before .before .before .before .before .before .before .before
+    .before .before .before .before .before in avoid-asks (facts s) (accepted s .timely) (accepted s .ev-ok)
 
 state-of-requires : tie.Need-state-of-requires
-state-of-requires c κs = state-asks (after (c .before .before .before .before .before .before .before .before .before .before .before)) (c .before .before .before .before .loss .ensures .sound)
+state-of-requires c κs = state-asks (after (c .before .before .before .before .before .before .before .before .before .before .before))
+    (c .before .before .before .before .loss .ensures .sound)
 
 same-length : tie.Need-same-length
 same-length c = c .before .before .before .before .before .before .before .before .before .before .before .before .mark .kept .1 .1 .0
@@ -67,7 +73,8 @@ returns : tie.Need-returns
 returns c =
     let p = c .before .before .before .before .before .before .before .before .before .before .before .before in
     let s = entry p in
-    loss-is (s .args .time) (world-in s) {r = ledger-out p .slots} (ready-word (after p)) (c .state-of .ensures) (s .args .a) (found p .find .ensures)
+    loss-is (s .args .time) (world-in s) {r = ledger-out p .slots} (ready-word (after p)) (c .state-of .ensures) (s .args .a)
+    (found p .find .ensures)
     (p .mark .ensures) (c .before .before .before .before .before .loss .ensures .is) (c .before .before .before .avoid .ensures)
 
 pub loss-spec : {M : Type 1} → statement M

@@ -1,10 +1,11 @@
--- `nack` puts the ledger's step, the window's rules and the EV's time together (`nack-is`); each call's need is what a sound world and a NACK that
--- no row refuses leave (`marked-ready`).
+-- `nack` puts the ledger's step, the window's rules and the EV's time together (`nack-is`); each call's need is what a sound world and a
+-- NACK that no row refuses leave (`marked-ready`).
 use borrow.Author.Needs.{needs}
 use Rattle.ledger.specs.Ring.{Ledger, ring, ledger}
 use Rattle.sender.specs.World.{World, world}
 use Rattle.sender.proofs.Sounds.{SoundFacts, sound-facts, sound-even, sound-to-ledger}
-use Rattle.sender.proofs.Stepping.{Markable, nack-facts, avoid-asks, Ready, ready-above, ready-word, state-asks, mark-flies, mark-size, marked-ready, sample-at, sampled-at, nack-is, nack-says}
+use Rattle.sender.proofs.Stepping.{Markable, nack-facts, avoid-asks, Ready, ready-above, ready-word, state-asks, mark-flies}
+use Rattle.sender.proofs.Stepping.{mark-size, marked-ready, sample-at, sampled-at, nack-is, nack-says}
 use Rattle.sender.proofs.steps.nack.Statement.{statement}
 use Rattle.sender.proofs.steps.nack.Tie as tie
 
@@ -36,7 +37,8 @@ after : (p : tie.After-mark) → Ready (entry p .args .c .settings) (entry p .ar
 after p = let s = entry p in rw (p .mark .ensures) (marked-ready (facts s) (accepted s))
 
 find-requires : tie.Need-find-requires
-find-requires c κs = let s = c .before .before .before .before .before .before .before .before .before .before in sound-even (world-in s) (s .pre .0)
+find-requires c κs = let s = c .before .before .before .before .before .before .before .before .before .before in
+    sound-even (world-in s) (s .pre .0)
 
 sampled-requires : tie.Need-sampled-requires
 sampled-requires c κs = search needs
@@ -45,7 +47,9 @@ sample-in-requires : tie.Need-sample-in-requires
 sample-in-requires c κs = search needs
 
 mark-requires : tie.Need-mark-requires
-mark-requires c κs = let s = c .before .before .before .before .before .before .before .before .before .before .before .before .before .before in (sound-to-ledger (world-in s) (s .pre .0), mark-flies (facts s) (accepted s))
+mark-requires c κs = let s =
+    c .before .before .before .before .before .before .before .before .before .before .before .before .before .before in
+    (sound-to-ledger (world-in s) (s .pre .0), mark-flies (facts s) (accepted s))
 
 cast-nack : tie.Need-cast-nack
 cast-nack c = search needs
@@ -57,17 +61,36 @@ nack-requires : tie.Need-nack-requires
 nack-requires c κs =
     let p = c .before .before .before .before .before .before .before in
     let s = entry p in
-    let R = after p in
-    (R .range, (R .sound-window, (sampled-at _ _ _ _ _ _ (p .before .before .sample-in .ensures) (p .before .before .before .sampled .ensures), (rw (found p .find .ensures) (mark-size (facts s) (accepted s)), R .early, ready-above R))))
+    let R = after p in (
+      R .range,
+      (
+        R .sound-window,
+        (
+          sampled-at _ _ _ _ _ _ (p .before .before .sample-in .ensures)
+              (p .before .before .before .sampled .ensures),
+          (
+            rw (found p .find .ensures) (mark-size (facts s) (accepted s)),
+            R .early,
+            ready-above R,
+          ),
+        ),
+      ),
+    )
 
 avoid-requires : tie.Need-avoid-requires
-avoid-requires c κs = let s = c .before .before .before .before .before .before .before .before .before .before .before .before .before .before .before .before .before .before .before .before .before .before .before .before .before .before in avoid-asks (facts s) (accepted s .timely) (accepted s .ev-ok)
+avoid-requires c κs = let s =
+    c .before .before .before .before .before .before .before .before .before .before .before .before .before .before .before .before
+    .before .before .before .before .before .before .before .before .before .before in
+    avoid-asks (facts s) (accepted s .timely) (accepted s .ev-ok)
 
 state-of-requires : tie.Need-state-of-requires
-state-of-requires c κs = state-asks (after (c .before .before .before .before .before .before .before .before .before .before .before .before .before .before)) (c .before .before .before .before .before .before .nack .ensures .sound)
+state-of-requires c κs = state-asks
+    (after (c .before .before .before .before .before .before .before .before .before .before .before .before .before .before))
+    (c .before .before .before .before .before .before .nack .ensures .sound)
 
 same-length : tie.Need-same-length
-same-length c = c .before .before .before .before .before .before .before .before .before .before .before .before .before .before .before .mark .kept .1 .1 .0
+same-length c = c .before .before .before .before .before .before .before .before .before .before .before .before .before .before
+    .before .mark .kept .1 .1 .0
 
 same-length-2 : tie.Need-same-length-2
 same-length-2 c = search needs
@@ -76,8 +99,11 @@ returns : tie.Need-returns
 returns c =
     let p = c .before .before .before .before .before .before .before .before .before .before .before .before .before .before .before in
     let s = entry p in (
-      nack-is (s .args .time) (world-in s) {r = ledger-out p .slots} (ready-word (after p)) (c .state-of .ensures) (s .args .a) (found p .find .ensures)
-          (sample-at _ _ _ _ _ _ (p .before .before .sample-in .ensures) (p .before .before .before .sampled .ensures)) (p .mark .ensures) (c .before .before .before .before .before .before .before .nack .ensures .is) (c .before .before .before .avoid .ensures),
+      nack-is (s .args .time) (world-in s) {r = ledger-out p .slots} (ready-word (after p)) (c .state-of .ensures) (s .args .a)
+          (found p .find .ensures)
+          (sample-at _ _ _ _ _ _ (p .before .before .sample-in .ensures) (p .before .before .before .sampled .ensures))
+          (p .mark .ensures) (c .before .before .before .before .before .before .before .nack .ensures .is)
+          (c .before .before .before .avoid .ensures),
       nack-says (s .args .time) (world-in s) (s .args .a) (found p .find .ensures) (p .before .before .before .sampled .ensures),
     )
 

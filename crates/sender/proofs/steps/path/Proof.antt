@@ -17,7 +17,8 @@ entry p = p .before .before .before .before .before .before .before
 inside : (p : tie.After-choose) → (p .choose .result .ev < 4096) × (p .choose .result .cursor < 4096)
 inside p =
     let s = entry p in
-    let i = taken-inside (s .args .time) (s .args .c .cursor) (s .args .evs .now) (p .choose .ensures) (s .pre .1 .0 .0) (s .pre .1 .0 .1) in
+    let i = taken-inside (s .args .time) (s .args .c .cursor) (s .args .evs .now) (p .choose .ensures) (s .pre .1 .0 .0)
+    (s .pre .1 .0 .1) in
     (omega (arith, i .0, s .pre .0 .evs-high), omega (arith, i .1, s .pre .0 .evs-high))
 
 cast-choose : tie.Need-cast-choose

@@ -1,5 +1,5 @@
--- `send` pushes a new packet or resends a marked one and names the state; each call's need is what a sound world and a send that no row refuses
--- leave (`send-ready`).
+-- `send` pushes a new packet or resends a marked one and names the state; each call's need is what a sound world and a send that no
+-- row refuses leave (`send-ready`).
 use mathlib.Core.Path.{_≡_, refl}
 use borrow.Author.Needs.{needs}
 use Rattle.rules.specs.Branch.{ifSo, so-yes, so-no}
@@ -39,7 +39,8 @@ entry-resend p = p .before .before .before .before .before .before .before .befo
 abbrev ledger-resend : tie.After-resend → Ledger
 ledger-resend p =
     ledger (p .resend .result .flow) (p .resend .result .totals)
-    (ring (p .resend .last .1 .1 .1 .0) (p .resend .last .1 .1 .1 .1 .0) (p .resend .last .1 .1 .1 .1 .1 .0) (p .resend .last .1 .1 .1 .1 .1 .1 .0))
+    (ring (p .resend .last .1 .1 .1 .0) (p .resend .last .1 .1 .1 .1 .0) (p .resend .last .1 .1 .1 .1 .1 .0)
+    (p .resend .last .1 .1 .1 .1 .1 .1 .0))
 
 is-resend : (p : tie.After-resend) → ledger-resend p ≡ sent-of (entry-resend p)
 is-resend p = so-yes _ _ _ _ (p .before .before .before .before .before .if1 .taken) (p .resend .ensures)
