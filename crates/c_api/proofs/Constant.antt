@@ -10,7 +10,7 @@ use Rattle.rules.specs.Branch.{so-both, eq-both}
 use Rattle.rules.specs.Rows.{Row, firstOf, first-here, first-later}
 use Rattle.serial.specs.Psn.{psns}
 use Rattle.ledger.specs.Ring.{Ring, Ledger, capOf, packetOf}
-use Rattle.ledger.specs.Steps.{markedOf}
+use Rattle.ledger.specs.Steps.{markOf}
 use Rattle.ledger.proofs.Marks.{mark-is}
 use Rattle.sender.specs.World.{World, world, Answered, Routing, ledgerOf}
 use Rattle.sender.specs.Sound.{sound}
@@ -51,7 +51,7 @@ fields-here : (r : Ring) → Fields r r
 fields-here r = record { size-same = refl; sent-same = refl; resent-same = refl }
 
 module _ (w : World) (e : sound w ≡ true) (time psn ev : ℕ) (fits : psn < psns) (m : Markable time psn ev (w .state) (w .slots)) where
-  marked-fields : Fields (markedOf psn (ledgerOf w) .slots) (w .slots)
+  marked-fields : Fields (markOf psn (ledgerOf w) .slots) (w .slots)
   marked-fields =
       let l = ledgerOf w in
       let x = packetOf (l .flow) (l .slots) psn in

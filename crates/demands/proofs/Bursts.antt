@@ -26,9 +26,9 @@ use Rattle.window.specs.declared.Settings.{Settings}
 use Rattle.ledger.specs.Packets.{coverAll}
 use Rattle.ledger.specs.Bounds.{unit, inFlightLeast, fallen, sinks}
 use Rattle.ledger.specs.Ring.{Ledger, packets}
-use Rattle.ledger.specs.Steps.{heldOf, newlyOf, ackedOf}
+use Rattle.ledger.specs.Steps.{heldOf, newlyOf, acknowledgeOf}
 use Rattle.ledger.proofs.Facts.{packets-long}
-use Rattle.sender.specs.Limits.{timeEnd}
+use Rattle.window.specs.Limits.{timeEnd}
 use Rattle.sender.specs.World.{World, Answered, ledgerOf}
 use Rattle.sender.specs.Sound.{sound}
 use Rattle.sender.specs.Rows.{ackAllRows}
@@ -147,15 +147,15 @@ module _ (n : Ack) (evs next : ℕ) (rest : ℤ) (fields : badFields evs n ≡ f
     took-a = taken (n .count) (heldIn w) (a .count) (g .near) close
 
     held-is : heldIn (ackStep t a w) ≡ heldOf (a .count) (heldIn w)
-    unfolding ackedOf
+    unfolding acknowledgeOf
     held-is = ap (λ (l : Ledger). l .flow .held) (step-ledger (ack t a) w)
 
     in-flight-is : inFlightIn (ackStep t a w) ≡ fallen (inFlightIn w) (newlyOf (a .count) (heldIn w))
-    unfolding ackedOf
+    unfolding acknowledgeOf
     in-flight-is = ap (λ (l : Ledger). l .totals .«in_flight») (step-ledger (ack t a) w)
 
     next-same : ackStep t a w .state .flow .next ≡ w .state .flow .next
-    unfolding ackedOf
+    unfolding acknowledgeOf
     next-same = ap (λ (l : Ledger). l .flow .next) (step-ledger (ack t a) w)
 
     member : Went n evs next rest (lag (n .count) (heldIn w)) t (ackStep t a w)

@@ -21,7 +21,7 @@ use Rattle.ledger.specs.Packets.{isFlying, isDone, isOut, flyingOne, markedOne,
 use Rattle.ledger.specs.Bounds.{inBounds, sinks}
 use Rattle.ledger.specs.Ring.{packetAt, tabulate, placeOf, ageOf, lay, laid, queueOf, longOf, packets, offsetOf, packetOf}
 use Rattle.ledger.specs.Sound.{allTo, isCapacity, isRing, isLive, isZero, slotOk, headOk, stands, tallies, soundLedger}
-use Rattle.ledger.specs.Steps.{heldOf, newlyOf, ackedOf}
+use Rattle.ledger.specs.Steps.{heldOf, newlyOf, acknowledgeOf}
 use Rattle.sender.specs.Named.{hasRoom, phaseOf, phaseNumber}
 use Rattle.sender.specs.Sound.{timesOk, namedOk, sound}
 use Rattle.sender.specs.Steps.{stateOf, settled, ackStep, pathState, pathStep}
@@ -37,7 +37,7 @@ unfolding agree same cases settingsE windowOf ticksOf measuredBy worldOf deliver
     proportionalIncreaseOf factorOf mayDecrease multiplicativeDecreaseOf respondOf enoughReceived periodPassed fulfillAdjustmentOf adjustOf
     avoids avoided firstFree steps landed choice isFlying isDone isOut flyingOne markedOne markedSize sumOf coverOne coverAll doneRun
     inBounds sinks packetAt tabulate placeOf ageOf lay laid queueOf longOf packets offsetOf packetOf allTo isCapacity isRing isLive isZero
-    slotOk headOk stands tallies soundLedger heldOf newlyOf ackedOf hasRoom phaseOf phaseNumber timesOk namedOk sound stateOf settled
+    slotOk headOk stands tallies soundLedger heldOf newlyOf acknowledgeOf hasRoom phaseOf phaseNumber timesOk namedOk sound stateOf settled
     ackStep
     pathState pathStep decided onSend onAck onPath
 cases-hold = refl

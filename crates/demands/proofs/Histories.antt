@@ -15,7 +15,7 @@ use Rattle.serial.specs.Psn.{psns}
 use Rattle.window.specs.declared.Settings.{Settings}
 use Rattle.ledger.specs.Ring.{Ring, Ledger, packetOf}
 use Rattle.ledger.specs.Rows.{markRows}
-use Rattle.ledger.specs.Steps.{pushedOf, resentOf, markedOf, ackedOf}
+use Rattle.ledger.specs.Steps.{pushOf, resendOf, markOf, acknowledgeOf}
 use Rattle.ledger.proofs.Judging.{resend-facts, mark-facts}
 use Rattle.ledger.proofs.Sends.{flies}
 use Rattle.sender.specs.World.{World, ledgerOf}
@@ -38,8 +38,8 @@ moved z sent reported lost = z +ℤ pos sent -ℤ pos reported -ℤ pos lost
 
 -- a NACK or a loss: the packet flies, and its size is what the past remembers
 marked-moves : (p : Past) (l : Ledger) (psn : ℕ) → firstOf (markRows (l .flow) (l .totals .«in_flight») (l .slots) psn) ≡ 0 → Agrees p l
-    → markedOf psn l .totals .«in_flight» ≡ moved (l .totals .«in_flight») 0 0 (p .bytes (psn % psns))
-unfolding markedOf
+    → markOf psn l .totals .«in_flight» ≡ moved (l .totals .«in_flight») 0 0 (p .bytes (psn % psns))
+unfolding markOf
 marked-moves p l psn rows A =
     let x = packetOf (l .flow) (l .slots) psn in
     let flying = flies x (mark-facts (l .flow) (l .totals .«in_flight») (l .slots) psn rows .0) in
@@ -48,7 +48,7 @@ marked-moves p l psn rows A =
 -- an accepted event moves in-flight by what it sends, reports and takes out as lost
 moves : (e : Event) (w : World) (p : Past) → firstOf (rowsOf e w) ≡ 0 → Agrees p (ledgerOf w)
     → ledgerStep e (ledgerOf w) .totals .«in_flight» ≡ moved (w .state .totals .«in_flight») (sentBy e p) (reportedBy e p) (lostBy e p)
-unfolding sentBy reportedBy lostBy pushedOf resentOf ackedOf
+unfolding sentBy reportedBy lostBy pushOf resendOf acknowledgeOf
 moves (newData time bytes) w p rows A = simp +ℤ-idr
 moves (send time a) w p rows A =
     let z = w .state .totals .«in_flight» in

@@ -35,7 +35,7 @@ use Rattle.ledger.specs.Bounds.{inBounds, sinks}
 use Rattle.ledger.specs.Ring.{Ring, ring, Ledger, packetAt, tabulate, placeOf, ageOf, lay, laid, queueOf, longOf, packets, offsetOf}
 use Rattle.ledger.specs.Ring.{packetOf}
 use Rattle.ledger.specs.Sound.{allTo, isCapacity, isRing, isLive, isZero, slotOk, headOk, stands, tallies, soundLedger}
-use Rattle.ledger.specs.Steps.{changed, suppliedOf, pushedOf, resentOf, markedOf, heldOf, newlyOf, ackedOf}
+use Rattle.ledger.specs.Steps.{changed, supplyOf, pushOf, resendOf, markOf, heldOf, newlyOf, acknowledgeOf}
 use Rattle.ledger.specs.declared.Packet.{Packet}
 use Rattle.sender.specs.World.{World, world, Answered, ledgerOf}
 use Rattle.sender.specs.Named.{hasRoom, phaseOf, phaseNumber}
@@ -115,8 +115,8 @@ unfolding fresh freshState settingsE sum remember sentBy reportedBy lostBy ifSo 
     enoughReceived periodPassed fulfillAdjustmentOf adjustOf goOnOf reactOf window.ackOf shrinkOf lossOf isFlying isMarked isDone isOut
     flyingOne markedOne markedSize sumOf coverOne coverAll coveredSum doneRun inBounds sinks packetAt tabulate placeOf ageOf lay laid
     queueOf longOf packets offsetOf packetOf allTo isCapacity isRing isLive isZero slotOk headOk stands tallies soundLedger changed
-    suppliedOf
-    pushedOf resentOf markedOf heldOf newlyOf ackedOf hasRoom phaseOf phaseNumber timesOk namedOk sound stateOf settled avoidedIn
+    supplyOf
+    pushOf resendOf markOf heldOf newlyOf acknowledgeOf hasRoom phaseOf phaseNumber timesOk namedOk sound stateOf settled avoidedIn
     newDataState newDataStep sendStep ackSample ackStep lossStep decided onNewData onSend onAck onLoss
 worked-sums = (refl, refl, refl, refl)
 
@@ -322,7 +322,7 @@ then-premises a OnCounts OnCovers counts-so covers-so =
 
 -- the ledger that the newest leaves
 unfoldable left : Ledger
-left = ackedOf 0 0 3 (ledgerOf start)
+left = acknowledgeOf 0 0 3 (ledgerOf start)
 
 left-is : ledgerOf (ackStep 110 newest start) ≡ left
 unfolding left
@@ -341,23 +341,23 @@ module _ (a : Ack) (f : Fine 120 a evs 110 left) where
       (subst (Fine 120 a evs (w .state .clock)) (sym left-is) (subst (λ (c : ℕ). Fine 120 a evs c left)
       (sym (step-clock (ack 110 newest) start)) f))
 
-  both-leave : ledgerOf (deliver start (newestThen a)) ≡ ackedOf (a .cum) (a .map) (a .count) left
+  both-leave : ledgerOf (deliver start (newestThen a)) ≡ acknowledgeOf (a .cum) (a .map) (a .count) left
   both-leave =
       ap (λ (x : Answered). ledgerOf (onAck 120 a (x .after) .after)) newest-accepted
       ∙ ap (λ (x : Answered). ledgerOf (x .after))
       (fine-accepted 120 a w fine-here (step-sound (ack 110 newest) start start-sound (fine-rows 110 newest start newest-fine)))
       ∙ step-ledger (ack 120 a) w
-      ∙ ap (ackedOf (a .cum) (a .map) (a .count)) left-is
+      ∙ ap (acknowledgeOf (a .cum) (a .map) (a .count)) left-is
 
   -- a number that the two ledgers have differently
-  differ : (number : Ledger → ℕ) (m n : ℕ) → number (ackedOf (a .cum) (a .map) (a .count) left) ≡ m → number left ≡ n → (m ≡ n → ⊥)
+  differ : (number : Ledger → ℕ) (m n : ℕ) → number (acknowledgeOf (a .cum) (a .map) (a .count) left) ≡ m → number left ≡ n → (m ≡ n → ⊥)
       → Same start 110 newest (newestThen a) → ⊥
   differ number m n e g ne s =
       ne (sym e ∙ ap number (sym both-leave ∙ s ∙ ap (λ (x : Answered). ledgerOf (x .after)) newest-accepted ∙ left-is) ∙ g)
 
 -- both of the others below are accepted there
 then-fine : Fine 120 ahead evs 110 left × Fine 120 farther evs 110 left
-unfolding left ackedOf start settingsE stateOf covered bitOf minus plus unsentOrOld backOf spanOf sinks newlyOf forwardOf aheadOf isOld
+unfolding left acknowledgeOf start settingsE stateOf covered bitOf minus plus unsentOrOld backOf spanOf sinks newlyOf forwardOf aheadOf isOld
     heldOf ifLt ifSo leadingZeros
 then-fine = (
   record { later = omega arith; early = omega arith; fields = refl; sent = refl; afloat = refl },
@@ -366,8 +366,8 @@ then-fine = (
 
 -- the held count that `ahead` leaves, and the newest; low that `farther` leaves, and the newest
 then-numbers :
-    (ackedOf 4294967295 0 4 left .flow .held ≡ 4) × (left .flow .held ≡ 3) × (ackedOf 1 0 2 left .flow .low ≡ 2) × (left .flow .low ≡ 1)
-unfolding left ackedOf start stateOf covered bitOf minus plus aheadOf isOld heldOf longOf packets queueOf tabulate packetAt placeOf
+    (acknowledgeOf 4294967295 0 4 left .flow .held ≡ 4) × (left .flow .held ≡ 3) × (acknowledgeOf 1 0 2 left .flow .low ≡ 2) × (left .flow .low ≡ 1)
+unfolding left acknowledgeOf start stateOf covered bitOf minus plus aheadOf isOld heldOf longOf packets queueOf tabulate packetAt placeOf
     ageOf lay laid coverAll coverOne isOut isFlying isMarked doneRun ifSo ifEq
 then-numbers = (refl, refl, refl, refl)
 

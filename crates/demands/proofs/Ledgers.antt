@@ -23,14 +23,14 @@ use Rattle.ledger.specs.Packets.{doneStatus, noPacket, isOut, isDone, flyingOne
 use Rattle.ledger.specs.Packets.{coveredSum, doneRun}
 use Rattle.ledger.specs.Bounds.{fallen, sinks}
 use Rattle.ledger.specs.Ring.{Ledger, ledger, capOf, laid, longOf, packets}
-use Rattle.ledger.specs.Steps.{heldOf, newlyOf, ackedOf}
+use Rattle.ledger.specs.Steps.{heldOf, newlyOf, acknowledgeOf}
 use Rattle.ledger.specs.declared.Packet.{Packet}
 use Rattle.ledger.proofs.Geometry.{laid-cap}
 use Rattle.ledger.proofs.Facts.{Facts, packets-long, packets-laid}
 use Rattle.ledger.proofs.Queues.{plus-none, plus-next, cover-no, cover-stays, cover-long, OfOut, flying-out, marked-out, bytes-out}
 use Rattle.ledger.proofs.Queues.{cover-sum, run-le, run-stop, run-end, either, goneOf, leftOf, settle-twice, covered-twice}
 use Rattle.ledger.proofs.Judging.{ack-0, ack-facts}
-use Rattle.sender.specs.Limits.{timeEnd}
+use Rattle.window.specs.Limits.{timeEnd}
 use Rattle.sender.specs.World.{World, Answered, ledgerOf}
 use Rattle.sender.specs.Sound.{sound}
 use Rattle.sender.specs.Rows.{withSound, ackAllRows}
@@ -91,9 +91,9 @@ settledBy cov held z l =
 
 -- an ACK's step is of this form
 pub acked-settled : (cum map count : ℕ) (l : Ledger)
-    → ackedOf cum map count l
+    → acknowledgeOf cum map count l
     ≡ settledBy (covered cum map) (heldOf count (l .flow .held)) (fallen (l .totals .«in_flight») (newlyOf count (l .flow .held))) l
-unfolding ackedOf settledBy
+unfolding acknowledgeOf settledBy
 acked-settled cum map count l = refl
 
 -- two ledgers of this form are equal where their parts are

@@ -21,7 +21,7 @@ use Rattle.window.specs.declared.Settings.{Settings}
 use Rattle.ledger.specs.Packets.{noPacket, markedStatus, doneStatus, withStatus, isOut, coverOne, coverAll}
 use Rattle.ledger.specs.Ring.{Ring, Ledger, ledger, capOf, laid, longOf, packets, offsetOf, packetOf}
 use Rattle.ledger.specs.Sound.{isCapacity}
-use Rattle.ledger.specs.Steps.{changed, newPacket, resentPacket, suppliedOf, pushedOf, resentOf, markedOf, ackedOf, heldOf}
+use Rattle.ledger.specs.Steps.{changed, newPacket, resentPacket, supplyOf, pushOf, resendOf, markOf, acknowledgeOf, heldOf}
 use Rattle.ledger.specs.declared.Flow.{Flow}
 use Rattle.ledger.specs.declared.Totals.{Totals}
 use Rattle.ledger.specs.declared.Packet.{Packet}
@@ -109,8 +109,8 @@ module _ {mtu clock : ℕ} {p : Past} (l : Ledger) (F : Facts mtu clock (l .flow
   sized k h = A .sizes k (omega (arith, long))
 
   -- new data
-  supplied-agrees : (bytes : ℕ) → Agrees p (ledger (suppliedOf bytes (l .flow)) (l .totals) (l .slots))
-  unfolding suppliedOf longOf packets
+  supplied-agrees : (bytes : ℕ) → Agrees p (ledger (supplyOf bytes (l .flow)) (l .totals) (l .slots))
+  unfolding supplyOf longOf packets
   supplied-agrees bytes = record { count-is = A .count-is; sizes = A .sizes }
 
   -- one packet changed, but not its size: a resend, a NACK, a loss
@@ -124,12 +124,12 @@ module _ {mtu clock : ℕ} {p : Past} (l : Ledger) (F : Facts mtu clock (l .flow
       agrees-laid p (capOf (l .slots)) (l .flow) t (set xs j y) (F .cap) (omega (arith, long)) (omega (arith, long, F .fits)) (A .count-is)
       (sized-set (p .bytes) (l .flow .low) xs j y sized e)
 
-  resent-agrees : (time psn : ℕ) → Agrees p (resentOf time psn l)
-  unfolding resentOf
+  resent-agrees : (time psn : ℕ) → Agrees p (resendOf time psn l)
+  unfolding resendOf
   resent-agrees time psn = changed-agrees psn _ (resentPacket time (packetOf (l .flow) (l .slots) psn)) refl
 
-  marked-agrees : (psn : ℕ) → Agrees p (markedOf psn l)
-  unfolding markedOf
+  marked-agrees : (psn : ℕ) → Agrees p (markOf psn l)
+  unfolding markOf
   marked-agrees psn = changed-agrees psn _ (withStatus markedStatus (packetOf (l .flow) (l .slots) psn)) refl
 
   -- a new packet, whose PSN is next
@@ -138,16 +138,16 @@ module _ {mtu clock : ℕ} {p : Past} (l : Ledger) (F : Facts mtu clock (l .flow
     unfolding longOf
     next-is = plus-minus (l .flow .low) (l .flow .next) (F .next-psn)
 
-    pushed-long : (time size : ℕ) → longOf (pushedOf time size l .flow) ≡ longOf (l .flow) + 1
-    unfolding pushedOf longOf
+    pushed-long : (time size : ℕ) → longOf (pushOf time size l .flow) ≡ longOf (l .flow) + 1
+    unfolding pushOf longOf
     pushed-long time size =
         ap (λ (q : ℕ). minus psns (plus q 1) (l .flow .low)) (sym next-is)
         ∙ ap (λ (q : ℕ). minus psns q (l .flow .low)) (plus-plus (l .flow .low) (longOf (l .flow)) 1)
         ∙ minus-plus (l .flow .low) (longOf (l .flow) + 1) (omega (arith, F .even .few))
 
     pushed-agrees : (time psn size : ℕ) → psn ≡ l .flow .next
-        → Agrees (record { count = p .count; bytes = λ q. ifEq q psn size (p .bytes q) }) (pushedOf time size l)
-    unfolding pushedOf
+        → Agrees (record { count = p .count; bytes = λ q. ifEq q psn size (p .bytes q) }) (pushOf time size l)
+    unfolding pushOf
     pushed-agrees time psn size e =
         let f = l .flow in
         let xs = packets f (l .slots) in
@@ -160,14 +160,14 @@ module _ {mtu clock : ℕ} {p : Past} (l : Ledger) (F : Facts mtu clock (l .flow
 
   -- an ACK
   acked-agrees : (cum map count : ℕ)
-      → Agrees (record { count = heldOf count (p .count); bytes = p .bytes }) (ackedOf cum map count l)
-  unfolding ackedOf settledBy
+      → Agrees (record { count = heldOf count (p .count); bytes = p .bytes }) (acknowledgeOf cum map count l)
+  unfolding acknowledgeOf settledBy
   acked-agrees cum map count =
       let cov = covered cum map in
       let low = l .flow .low in
       let xs = packets (l .flow) (l .slots) in
       let held = heldOf count (l .flow .held) in
-      let z = ackedOf cum map count l .totals .«in_flight» in
+      let z = acknowledgeOf cum map count l .totals .«in_flight» in
       agrees-laid _ (capOf (l .slots)) _ _ (leftOf cov low xs) (F .cap) (settled-long mtu clock l F cov held z)
       (omega (arith, left-long mtu clock l F cov held z, F .fits)) (ap (heldOf count) (A .count-is))
       (sized-drop (p .bytes) cov low (goneOf cov low xs) xs (F .low-psn) sized)

@@ -12,7 +12,7 @@ use Rattle.rules.specs.Branch.{ifSo, ifEq, eq-both}
 use Rattle.rules.specs.Rows.{Row, firstOf, none-here}
 use Rattle.window.specs.declared.Settings.{Settings}
 use Rattle.ledger.specs.Ring.{Ring, Ledger, ledger}
-use Rattle.ledger.specs.Steps.{suppliedOf, pushedOf, resentOf, markedOf, ackedOf}
+use Rattle.ledger.specs.Steps.{supplyOf, pushOf, resendOf, markOf, acknowledgeOf}
 use Rattle.sender.specs.World.{World, world, Answered, Routing, ledgerOf}
 use Rattle.sender.specs.Sound.{sound}
 use Rattle.sender.specs.Rows.{withSound, newDataRows, sendAllRows, ackAllRows, nackAllRows, lossAllRows, pathRows, setUpRows}
@@ -103,11 +103,11 @@ path-taken time w =
 
 -- what an accepted event does to the ledger
 abbrev pub ledgerStep : Event → Ledger → Ledger
-ledgerStep (newData time bytes) l = ledger (suppliedOf bytes (l .flow)) (l .totals) (l .slots)
-ledgerStep (send time a) l = ifSo (a .resend) (resentOf time (a .psn) l) (pushedOf time (a .size) l)
-ledgerStep (ack time a) l = ackedOf (a .cum) (a .map) (a .count) l
-ledgerStep (nack time a) l = markedOf (a .psn) l
-ledgerStep (loss time a) l = markedOf (a .psn) l
+ledgerStep (newData time bytes) l = ledger (supplyOf bytes (l .flow)) (l .totals) (l .slots)
+ledgerStep (send time a) l = ifSo (a .resend) (resendOf time (a .psn) l) (pushOf time (a .size) l)
+ledgerStep (ack time a) l = acknowledgeOf (a .cum) (a .map) (a .count) l
+ledgerStep (nack time a) l = markOf (a .psn) l
+ledgerStep (loss time a) l = markOf (a .psn) l
 ledgerStep (path time) l = l
 
 pub step-ledger : (e : Event) (w : World) → ledgerOf (stepOf e w) ≡ ledgerStep e (ledgerOf w)

@@ -13,7 +13,7 @@ use Rattle.serial.specs.Psn.{plus, covered}
 use Rattle.serial.specs.Count.{counts, half}
 use Rattle.ledger.specs.Packets.{noPacket, isOut, isDone}
 use Rattle.ledger.specs.Ring.{Ledger, longOf, packets, packetOf, offsetOf}
-use Rattle.sender.specs.Limits.{timeEnd}
+use Rattle.window.specs.Limits.{timeEnd}
 use Rattle.sender.specs.World.{World}
 use Rattle.sender.specs.Events.{onAck}
 use Rattle.sender.specs.declared.Ack.{Ack}

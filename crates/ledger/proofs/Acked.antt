@@ -22,7 +22,7 @@ use Rattle.ledger.specs.Packets.{coveredSum, doneRun}
 use Rattle.ledger.specs.Bounds.{Flown}
 use Rattle.ledger.specs.Ring.{Ring, Ledger, ledger, capOf, laid, queueOf, longOf, packets}
 use Rattle.ledger.specs.Sound.{SoundLedger, isCapacity, stands, soundLedger}
-use Rattle.ledger.specs.Steps.{heldOf, newlyOf, ackedOf}
+use Rattle.ledger.specs.Steps.{heldOf, newlyOf, acknowledgeOf}
 use Rattle.ledger.specs.Rows.{ackRows}
 use Rattle.ledger.specs.Delivery.{Laid, Cover, Covered, Retired}
 use Rattle.ledger.specs.declared.Flow.{Flow}
@@ -120,8 +120,8 @@ module _ {l : Ledger} {n : ℕ} (K : SoundLedger l) (is-long : n ≡ longOf (l .
         → held ≡ heldOf count (l .flow .held) → bytes ≡ newlyOf count (l .flow .held) → z ≡ toZ w64 (ofZ w64 (t .«in_flight»)) -ℤ pos bytes
         → ledger (record { low = low; next = l .flow .next; held = held; backlog = l .flow .backlog })
         (record { flying = t .flying; marked = t .marked; «marked_bytes» = t .«marked_bytes»; «in_flight» = z }) s
-        ≡ ackedOf cum map count l
-    unfolding after ackedOf
+        ≡ acknowledgeOf cum map count l
+    unfolding after acknowledgeOf
     acked count {gone} R el eh eb ez =
         let q : queueOf r (l .flow .low) n ≡ after =
         ap (λ (x : Ring). queueOf x (l .flow .low) n) (D .ring-is)
@@ -173,16 +173,16 @@ module _ (cum map count mtu clock : ℕ) (l : Ledger) (e : stands mtu clock (l .
   left-long = omega (arith, length-drop (doneRun ys) ys, ys-long, run-le ys)
 
   -- the flow counts them
-  counts-left : longOf (ackedOf cum map count l .flow) ≡ length (drop (doneRun ys) ys)
-  unfolding ackedOf longOf
+  counts-left : longOf (acknowledgeOf cum map count l .flow) ≡ length (drop (doneRun ys) ys)
+  unfolding acknowledgeOf longOf
   counts-left = omega (arith, left-long, minus-step (l .flow .low) (l .flow .next) (doneRun ys) (omega (arith, run-le ys, ys-long)))
 
   -- the flow and its ring
   pub acked-stands : (time : ℕ) → count < counts → clock ≤ time
-      → stands mtu time (ackedOf cum map count l .flow) (ackedOf cum map count l .slots) ≡ true
-  unfolding ackedOf
+      → stands mtu time (acknowledgeOf cum map count l .flow) (acknowledgeOf cum map count l .slots) ≡ true
+  unfolding acknowledgeOf
   acked-stands time hc ht =
-      stands-laid (capOf (l .slots)) (ackedOf cum map count l .flow) (drop (doneRun ys) ys) (S .cap) mtu time
+      stands-laid (capOf (l .slots)) (acknowledgeOf cum map count l .flow) (drop (doneRun ys) ys) (S .cap) mtu time
       (omega (arith, left-long, S .fits))
       (λ k h.
       rw (left-at k)
@@ -197,25 +197,25 @@ module _ (cum map count mtu clock : ℕ) (l : Ledger) (e : stands mtu clock (l .
 
   -- what the packets that are left add up to, and what has left
   pub acked-sum : (adds : Packet → ℕ) → OfOut adds
-      → sumOf adds (packets (ackedOf cum map count l .flow) (ackedOf cum map count l .slots))
+      → sumOf adds (packets (acknowledgeOf cum map count l .flow) (acknowledgeOf cum map count l .slots))
       + coveredSum adds (covered cum map) (l .flow .low) (packets (l .flow) (l .slots))
       ≡ sumOf adds (packets (l .flow) (l .slots))
-  unfolding ackedOf
+  unfolding acknowledgeOf
   acked-sum adds z =
-      rw (packets-laid (capOf (l .slots)) (ackedOf cum map count l .flow) (drop (doneRun ys) ys) (S .cap) counts-left
+      rw (packets-laid (capOf (l .slots)) (acknowledgeOf cum map count l .flow) (drop (doneRun ys) ys) (S .cap) counts-left
       (omega (arith, left-long, S .fits)))
       (omega (arith, run-adds adds z ys, cover-sum adds z (covered cum map) (l .flow .low) xs))
 
 -- the whole ledger
 pub ack-keeps : (cum map count mtu maxwnd clock time : ℕ) (l : Ledger) → soundLedger mtu maxwnd clock l ≡ true
     → count < counts → firstOf (ackRows (l .flow) (l .totals .«in_flight») cum map count) ≡ 0 → clock ≤ time
-    → soundLedger mtu maxwnd time (ackedOf cum map count l) ≡ true
-unfolding ackedOf
+    → soundLedger mtu maxwnd time (acknowledgeOf cum map count l) ≡ true
+unfolding acknowledgeOf
 ack-keeps cum map count mtu maxwnd clock time l co hc none-refuses ht =
     let p = sound-ledger-parts mtu maxwnd clock l co in
     let T = tallies-facts maxwnd (l .totals) (packets (l .flow) (l .slots)) (p .1) in
     let left = acked-sum cum map count mtu clock l (p .0) in
-    let m = ackedOf cum map count l in
+    let m = acknowledgeOf cum map count l in
     sound-ledger-whole mtu maxwnd time m (acked-stands cum map count mtu clock l (p .0) time hc ht)
     (tallies-test maxwnd (m .totals) (packets (m .flow) (m .slots))
     (omega (arith, T .0, left flyingOne flying-out))

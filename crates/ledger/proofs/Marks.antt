@@ -12,7 +12,7 @@ use Rattle.ledger.specs.declared.Packet.{Packet}
 use Rattle.ledger.specs.Packets.{flyingStatus, markedStatus, withStatus, isFlying, isDone, flyingOne}
 use Rattle.ledger.specs.Ring.{ring, Ledger, ledger, capOf, longOf, offsetOf, packetOf}
 use Rattle.ledger.specs.Sound.{soundLedger, SoundLedger}
-use Rattle.ledger.specs.Steps.{markedOf}
+use Rattle.ledger.specs.Steps.{markOf}
 use Rattle.ledger.specs.Rows.{markRows}
 use Rattle.ledger.proofs.Facts.{Live, live-later, packet-live, packet-some, sound-ledger-facts}
 use Rattle.ledger.proofs.Signs.{flown-less}
@@ -33,8 +33,8 @@ marked-live mtu clock x l =
 
 pub mark-keeps : (mtu maxwnd clock time psn : ℕ) (l : Ledger) → soundLedger mtu maxwnd clock l ≡ true
     → firstOf (markRows (l .flow) (l .totals .«in_flight») (l .slots) psn) ≡ 0 → clock ≤ time
-    → soundLedger mtu maxwnd time (markedOf psn l) ≡ true
-unfolding markedOf isDone
+    → soundLedger mtu maxwnd time (markOf psn l) ≡ true
+unfolding markOf isDone
 mark-keeps mtu maxwnd clock time psn l co rows later =
     let f = l .flow in
     let r = l .slots in
@@ -47,7 +47,7 @@ mark-keeps mtu maxwnd clock time psn l co rows later =
     let live = live-later later (packet-live mtu clock f r (k .0) psn h) in
     let a = flying-adds x w in
     let b = marked-adds y refl in
-    change-keeps mtu maxwnd clock time psn l co later h y (marked-live mtu time x live) refl (markedOf psn l .totals)
+    change-keeps mtu maxwnd clock time psn l co later h y (marked-live mtu time x live) refl (markOf psn l .totals)
     (λ s e. omega (arith, a .0, b .0)) (λ s e. omega (arith, a .1, b .1)) (λ s e. omega (arith, a .2, b .2))
     (flown-less maxwnd (l .totals .«in_flight») (x .size) (k .1) (m .1))
 
@@ -79,7 +79,7 @@ module _ (l : Ledger) (c : SoundLedger l) (psn : ℕ) (m : isFlying (packetOf (l
         «in_flight» = z;
       })
       (ring (set (l .slots .status) i markedStatus) (l .slots .size) (l .slots .sent) (l .slots .resent))
-      ≡ markedOf psn l
-  unfolding markedOf
+      ≡ markOf psn l
+  unfolding markOf
   mark-is fits i z ei ez =
       rw (ez, e, status-changed (c .mtu) (c .clock) (l .flow) (l .slots) (sound-ledger-facts c) psn there fits i ei markedStatus)

@@ -27,7 +27,7 @@ use Rattle.ledger.specs.Packets.{markedSize, sumOf}
 use Rattle.ledger.specs.Bounds.{sizeLeast, backlogMost, resentMost, Flown}
 use Rattle.ledger.specs.Ring.{Ring, ring, Ledger, ledger, capOf, putAt, placeOf, laid, longOf, packets, offsetOf, packetOf}
 use Rattle.ledger.specs.Sound.{stands, soundLedger, SoundLedger}
-use Rattle.ledger.specs.Steps.{changed, suppliedOf, newPacket, pushedOf, resentPacket, resentOf}
+use Rattle.ledger.specs.Steps.{changed, supplyOf, newPacket, pushOf, resentPacket, resendOf}
 use Rattle.ledger.specs.Rows.{newRows, resendRows}
 use Rattle.ledger.proofs.Walks.{sum-append, sum-one, sum-set, sum-at-le}
 use Rattle.ledger.proofs.Geometry.{cap-facts, place-psn, laid-put, laid-snoc, laid-status}
@@ -166,21 +166,21 @@ change-keeps mtu maxwnd clock time psn l co later h y live out t flying marked b
 -- ---- new data
 
 pub supply-stands : (mtu clock time bytes : ℕ) (f : Flow) (r : Ring) → Facts mtu clock f r → clock ≤ time → f .backlog + bytes ≤ backlogMost
-    → stands mtu time (suppliedOf bytes f) r ≡ true
-unfolding suppliedOf longOf packets
+    → stands mtu time (supplyOf bytes f) r ≡ true
+unfolding supplyOf longOf packets
 supply-stands mtu clock time bytes f r F later few =
     let n = packets-long f r in
-    subst (λ (s : Ring). stands mtu time (suppliedOf bytes f) s ≡ true) (sym (F .laid-so))
-    (stands-laid (capOf r) (suppliedOf bytes f) (packets f r) (F .cap) mtu time (omega (arith, F .fits))
+    subst (λ (s : Ring). stands mtu time (supplyOf bytes f) s ≡ true) (sym (F .laid-so))
+    (stands-laid (capOf r) (supplyOf bytes f) (packets f r) (F .cap) mtu time (omega (arith, F .fits))
     (λ k l. live-later later (F .live k (omega arith))) (λ l. F .head (omega arith)) (sym n) (F .low-psn) (F .next-psn) (F .held) few)
 
 pub supply-keeps : (mtu maxwnd clock time bytes : ℕ) (l : Ledger) → soundLedger mtu maxwnd clock l ≡ true → clock ≤ time
-    → l .flow .backlog + bytes ≤ backlogMost → soundLedger mtu maxwnd time (ledger (suppliedOf bytes (l .flow)) (l .totals) (l .slots))
+    → l .flow .backlog + bytes ≤ backlogMost → soundLedger mtu maxwnd time (ledger (supplyOf bytes (l .flow)) (l .totals) (l .slots))
     ≡ true
-unfolding suppliedOf longOf packets
+unfolding supplyOf longOf packets
 supply-keeps mtu maxwnd clock time bytes l co later few =
     let p = sound-ledger-parts mtu maxwnd clock l co in
-    sound-ledger-whole mtu maxwnd time (ledger (suppliedOf bytes (l .flow)) (l .totals) (l .slots))
+    sound-ledger-whole mtu maxwnd time (ledger (supplyOf bytes (l .flow)) (l .totals) (l .slots))
     (supply-stands mtu clock time bytes (l .flow) (l .slots) (stands-facts mtu clock (l .flow) (l .slots) (p .0)) later few) (p .1)
 
 -- ---- a new packet
@@ -226,8 +226,8 @@ module _ (mtu clock : ℕ) (f : Flow) (r : Ring) (F : Facts mtu clock f r) (room
       → z ≡ t .«in_flight» +ℤ pos size → s ≡ putAt r i (newPacket time size)
       → ledger (record { low = f .low; next = next; held = f .held; backlog = f .backlog - size })
       (record { flying = t .flying + 1; marked = t .marked; «marked_bytes» = t .«marked_bytes»; «in_flight» = z }) s
-      ≡ pushedOf time size (ledger f t r)
-  unfolding pushedOf
+      ≡ pushOf time size (ledger f t r)
+  unfolding pushOf
   push-is t time size i next z s ei en ez es = rw (en, ez, es, put-behind i ei (newPacket time size))
 
   -- the packets of the longer flow
@@ -267,8 +267,8 @@ module _ (mtu clock : ℕ) (f : Flow) (r : Ring) (F : Facts mtu clock f r) (room
 pub push-keeps : (mtu maxwnd clock time psn size : ℕ) (l : Ledger) → soundLedger mtu maxwnd clock l ≡ true
     → firstOf (newRows (l .flow) (capOf (l .slots)) psn size) ≡ 0 → clock ≤ time → sizeLeast ≤ size → size ≤ mtu
     → leZ (l .totals .«in_flight» +ℤ pos mtu) (pos maxwnd) ≡ true
-    → soundLedger mtu maxwnd time (pushedOf time size l) ≡ true
-unfolding pushedOf isDone
+    → soundLedger mtu maxwnd time (pushOf time size l) ≡ true
+unfolding pushOf isDone
 push-keeps mtu maxwnd clock time psn size l co rows later least most under =
     let f = l .flow in
     let r = l .slots in
@@ -288,8 +288,8 @@ push-keeps mtu maxwnd clock time psn size l co rows later least most under =
       resent-most = omega arith;
     } in
     let sum = push-sum mtu clock f r F room size x in
-    sound-ledger-whole mtu maxwnd time (pushedOf time size l) (push-stands mtu clock f r F room time size x later live refl)
-    (tallies-test maxwnd (pushedOf time size l .totals) (packets (pushedOf time size l .flow) (pushedOf time size l .slots))
+    sound-ledger-whole mtu maxwnd time (pushOf time size l) (push-stands mtu clock f r F room time size x later live refl)
+    (tallies-test maxwnd (pushOf time size l .totals) (packets (pushOf time size l .flow) (pushOf time size l .slots))
     (omega (arith, sum flyingOne, a .0, T .0))
     (omega (arith, sum markedOne, a .1, T .1))
     (omega (arith, sum markedSize, a .2, T .2))
@@ -311,8 +311,8 @@ resent-live mtu clock time x l =
 
 pub resend-keeps : (mtu maxwnd clock time psn size : ℕ) (l : Ledger) → soundLedger mtu maxwnd clock l ≡ true
     → firstOf (resendRows (l .flow) (l .slots) psn size) ≡ 0 → clock ≤ time → leZ (l .totals .«in_flight» +ℤ pos mtu) (pos maxwnd) ≡ true
-    → soundLedger mtu maxwnd time (resentOf time psn l) ≡ true
-unfolding resentOf isDone
+    → soundLedger mtu maxwnd time (resendOf time psn l) ≡ true
+unfolding resendOf isDone
 resend-keeps mtu maxwnd clock time psn size l co rows later under =
     let f = l .flow in
     let r = l .slots in
@@ -324,7 +324,7 @@ resend-keeps mtu maxwnd clock time psn size l co rows later under =
     let a = marked-adds x w in
     let b = flying-adds (resentPacket time x) refl in
     change-keeps mtu maxwnd clock time psn l co later h (resentPacket time x) (resent-live mtu clock time x live) refl
-    (resentOf time psn l .totals)
+    (resendOf time psn l .totals)
     (λ s e. omega (arith, a .0, b .0)) (λ s e. omega (arith, a .1, b .1)) (λ s e. omega (arith, a .2, b .2))
     (flown-more maxwnd mtu (l .totals .«in_flight») (x .size) (k .1) under (live .size-most))
 
@@ -365,8 +365,8 @@ module _ (l : Ledger) (c : SoundLedger l) (psn : ℕ) (m : isMarked (packetOf (l
         «marked_bytes» = l .totals .«marked_bytes» - x .size;
         «in_flight» = z;
       }) s
-      ≡ resentOf time psn l
-  unfolding resentOf
+      ≡ resendOf time psn l
+  unfolding resendOf
   resend-is fits time i again z s ei ea ez es =
       let p = put-changed (c .mtu) (c .clock) (l .flow) (l .slots) (sound-ledger-facts c) psn there fits i ei (resentPacket time x) in
       rw (ez, es, ea, p, e)

@@ -20,16 +20,16 @@ changed f r psn x = laid (capOf r) (f .low) (set (packets f r) (offsetOf f psn) 
 
 -- ---- new data: the backlog rises
 
-unfoldable pub suppliedOf : ℕ → Flow → Flow
-suppliedOf bytes f = record { low = f .low; next = f .next; held = f .held; backlog = f .backlog + bytes }
+unfoldable pub supplyOf : ℕ → Flow → Flow
+supplyOf bytes f = record { low = f .low; next = f .next; held = f .held; backlog = f .backlog + bytes }
 
 -- ---- "New packet: slot flying, size and time stored, backlog falls, in-flight rises."
 
 abbrev pub newPacket : ℕ → ℕ → Packet
 newPacket time size = record { status = flyingStatus; size = size; sent = time; resent = 0 }
 
-unfoldable pub pushedOf : ℕ → ℕ → Ledger → Ledger
-pushedOf time size l =
+unfoldable pub pushOf : ℕ → ℕ → Ledger → Ledger
+pushOf time size l =
     let f = l .flow in
     let t = l .totals in
     ledger
@@ -42,8 +42,8 @@ pushedOf time size l =
 abbrev pub resentPacket : ℕ → Packet → Packet
 resentPacket time x = record { status = flyingStatus; size = x .size; sent = time; resent = min (x .resent + 1) resentMost }
 
-unfoldable pub resentOf : ℕ → ℕ → Ledger → Ledger
-resentOf time psn l =
+unfoldable pub resendOf : ℕ → ℕ → Ledger → Ledger
+resendOf time psn l =
     let t = l .totals in
     let x = packetOf (l .flow) (l .slots) psn in
     ledger (l .flow)
@@ -57,8 +57,8 @@ resentOf time psn l =
 
 -- ---- "NACK and loss: flying becomes marked; in-flight falls by the recorded size."
 
-unfoldable pub markedOf : ℕ → Ledger → Ledger
-markedOf psn l =
+unfoldable pub markOf : ℕ → Ledger → Ledger
+markOf psn l =
     let t = l .totals in
     let x = packetOf (l .flow) (l .slots) psn in
     ledger (l .flow)
@@ -82,8 +82,8 @@ newlyOf count held = unit * forwardOf count held
 
 -- "Covered flying or marked packets become done; low then moves past done slots, which become zero and are used
 -- again. .. in-flight falls by 256·f"
-unfoldable pub ackedOf : ℕ → ℕ → ℕ → Ledger → Ledger
-ackedOf cum map count l =
+unfoldable pub acknowledgeOf : ℕ → ℕ → ℕ → Ledger → Ledger
+acknowledgeOf cum map count l =
     let f = l .flow in
     let t = l .totals in
     let cov = covered cum map in

@@ -19,7 +19,7 @@ ghost use Rattle.ledger.specs.Lent.{ringGiven, ringBefore, ringAfter};
 ghost use Rattle.ledger.specs.Packets.{flyingStatus, markedStatus};
 ghost use Rattle.ledger.specs.Ring.{ring, ledger};
 ghost use Rattle.ledger.specs.Sound.{SoundLedger};
-ghost use Rattle.ledger.specs.Steps.{heldOf, ackedOf};
+ghost use Rattle.ledger.specs.Steps.{heldOf, acknowledgeOf};
 ghost use Rattle.ledger.specs.Rows.{ackRows};
 ghost use Rattle.ledger.specs.Delivery.{Laid, Cover, Covered, Run, Spent, Onward, Retired};
 
@@ -213,7 +213,7 @@ fn held_after(count: u32, held: u32) -> u32
 }
 
 // The ledger after an ACK. An inner step: the caller proves that the ledger holds together and that no row refuses the ACK.
-pub fn ack<'a, 'b, 'c, 'd>(
+pub fn acknowledge<'a, 'b, 'c, 'd>(
     cum: u32,
     map: u64,
     count: u32,
@@ -226,7 +226,7 @@ pub fn ack<'a, 'b, 'c, 'd>(
     requires { ⌜ SoundLedger (ledger (books .flow) (books .totals) (ringGiven status size sent resent)) ⌝ }
     requires { ⌜ firstOf (ackRows (books .flow) (books .totals .«in_flight») cum map count) ≡ 0 ⌝ }
     ensures { λ r. ⌜ ledger (r .flow) (r .totals) (ringAfter status size sent resent)
-        ≡ ackedOf cum map count (ledger (books .flow) (books .totals) (ringBefore status size sent resent)) ⌝ }
+        ≡ acknowledgeOf cum map count (ledger (books .flow) (books .totals) (ringBefore status size sent resent)) ⌝ }
 {
     let mut flow = books.flow;
     let low = flow.low;

@@ -10,7 +10,7 @@ ghost use Rattle.ledger.specs.Lent.{ringGiven, ringBefore, ringAfter};
 ghost use Rattle.ledger.specs.Packets.{isFlying};
 ghost use Rattle.ledger.specs.Ring.{ledger, packetOf};
 ghost use Rattle.ledger.specs.Sound.{SoundLedger};
-ghost use Rattle.ledger.specs.Steps.{markedOf};
+ghost use Rattle.ledger.specs.Steps.{markOf};
 
 // Flying becomes marked; in-flight falls by the recorded size.
 pub fn mark<'a, 'b>(
@@ -24,7 +24,7 @@ pub fn mark<'a, 'b>(
     requires { ⌜ SoundLedger (ledger (books .flow) (books .totals) (ringGiven status size sent resent)) ⌝ }
     requires { ⌜ isFlying (packetOf (books .flow) (ringGiven status size sent resent) psn) ≡ true ⌝ }
     ensures { λ r. ⌜ ledger (r .flow) (r .totals) (ringAfter status size sent resent)
-        ≡ markedOf psn (ledger (books .flow) (books .totals) (ringBefore status size sent resent)) ⌝ }
+        ≡ markOf psn (ledger (books .flow) (books .totals) (ringBefore status size sent resent)) ⌝ }
 {
     let flow = books.flow;
     let mut totals = books.totals;

@@ -14,12 +14,12 @@ ghost use Rattle.ledger.specs.Packets.{isMarked};
 ghost use Rattle.ledger.specs.Bounds.{backlogMost, resentMost, Flown};
 ghost use Rattle.ledger.specs.Ring.{ledger, capOf, longOf, packetOf};
 ghost use Rattle.ledger.specs.Sound.{SoundLedger};
-ghost use Rattle.ledger.specs.Steps.{suppliedOf, pushedOf, resentOf};
+ghost use Rattle.ledger.specs.Steps.{supplyOf, pushOf, resendOf};
 
 // New data: the backlog rises.
 pub fn supply(bytes: u64, flow: Flow) -> Flow
     requires { ⌜ flow .backlog + bytes ≤ backlogMost ⌝ }
-    ensures { λ r. ⌜ r ≡ suppliedOf bytes flow ⌝ }
+    ensures { λ r. ⌜ r ≡ supplyOf bytes flow ⌝ }
 {
     let backlog = flow.backlog;
     let mut f = flow;
@@ -49,7 +49,7 @@ pub fn push<'a, 'b, 'c, 'd>(
     requires { ⌜ SoundLedger (ledger (books .flow) (books .totals) (ringGiven status size sent resent)) ⌝ }
     requires { ⌜ (bytes ≤ books .flow .backlog) × (longOf (books .flow) < capOf (ringGiven status size sent resent)) ⌝ }
     ensures { λ r. ⌜ ledger (r .flow) (r .totals) (ringAfter status size sent resent)
-        ≡ pushedOf time bytes (ledger (books .flow) (books .totals) (ringBefore status size sent resent)) ⌝ }
+        ≡ pushOf time bytes (ledger (books .flow) (books .totals) (ringBefore status size sent resent)) ⌝ }
 {
     let mut flow = books.flow;
     let mut totals = books.totals;
@@ -101,7 +101,7 @@ pub fn resend<'a, 'b, 'c, 'd>(
     requires { ⌜ SoundLedger (ledger (books .flow) (books .totals) (ringGiven status size sent resent)) ⌝ }
     requires { ⌜ isMarked (packetOf (books .flow) (ringGiven status size sent resent) psn) ≡ true ⌝ }
     ensures { λ r. ⌜ ledger (r .flow) (r .totals) (ringAfter status size sent resent)
-        ≡ resentOf time psn (ledger (books .flow) (books .totals) (ringBefore status size sent resent)) ⌝ }
+        ≡ resendOf time psn (ledger (books .flow) (books .totals) (ringBefore status size sent resent)) ⌝ }
 {
     let flow = books.flow;
     let mut totals = books.totals;

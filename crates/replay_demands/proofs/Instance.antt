@@ -23,7 +23,7 @@ use Rattle.ledger.specs.Packets.{isDone, flyingOne, markedOne, markedSize, sumO
 use Rattle.ledger.specs.Bounds.{inBounds, sinks}
 use Rattle.ledger.specs.Ring.{ring, packetAt, putAt, tabulate, placeOf, ageOf, lay, laid, queueOf, longOf, packets}
 use Rattle.ledger.specs.Sound.{allTo, isCapacity, isRing, isLive, isZero, slotOk, headOk, stands, tallies, soundLedger}
-use Rattle.ledger.specs.Steps.{changed, suppliedOf, pushedOf, heldOf, newlyOf, ackedOf}
+use Rattle.ledger.specs.Steps.{changed, supplyOf, pushOf, heldOf, newlyOf, acknowledgeOf}
 use Rattle.sender.specs.Named.{hasRoom, phaseOf, phaseNumber}
 use Rattle.sender.specs.Sound.{timesOk, namedOk, sound}
 use Rattle.sender.specs.Steps.{stateOf, settled, newDataState, newDataStep, sendStep, ackStep}
@@ -122,7 +122,7 @@ given = told 0 (opened settingsE lent) ∷ answers (opened settingsE lent) event
 given-numbers : map (λ (a : Answered). a .number) given ≡ 0 ∷ 0 ∷ 0 ∷ 8 ∷ 0 ∷ []
 unfolding lent settingsE answers onSetUp freshState freshOf firstOf inRange inside isEvCount isRing isCapacity ifSo ifEq ifLt onNewData
     onSend onAck
-    decided newDataStep newDataState sendStep settled stateOf suppliedOf pushedOf putAt changed sound soundWindow maxWndOf soundLedger
+    decided newDataStep newDataState sendStep settled stateOf supplyOf pushOf putAt changed sound soundWindow maxWndOf soundLedger
     stands longOf minus
     allTo slotOk isLive isZero headOk tallies sumOf flyingOne markedOne markedSize inBounds packets queueOf tabulate packetAt placeOf
     plus ageOf lay
@@ -133,13 +133,13 @@ given-numbers = refl
 given-flights : map (λ (a : Answered). a .after .state .totals .«in_flight») given ≡ pos 0 ∷ pos 0 ∷ pos 4096 ∷ pos 4096 ∷ pos 0 ∷ []
 unfolding lent settingsE answers onSetUp freshState freshOf firstOf inRange inside isEvCount isRing isCapacity ifSo ifEq ifLt onNewData
     onSend onAck
-    decided newDataStep newDataState sendStep settled stateOf suppliedOf pushedOf putAt changed sound soundWindow maxWndOf soundLedger
+    decided newDataStep newDataState sendStep settled stateOf supplyOf pushOf putAt changed sound soundWindow maxWndOf soundLedger
     stands longOf minus
     allTo slotOk isLive isZero headOk tallies sumOf flyingOne markedOne markedSize inBounds packets queueOf tabulate packetAt placeOf
     plus ageOf lay
     laid isDone timesOk namedOk phaseOf phaseNumber hasRoom covered bitOf unsentOrOld backOf spanOf leadingZeros newlyOf forwardOf
     aheadOf isOld sinks
-    ackStep ackedOf coverOne coverAll doneRun isFlying isOut heldOf
+    ackStep acknowledgeOf coverOne coverAll doneRun isFlying isOut heldOf
 given-flights = refl
 
 -- 4,096 bytes sent, as many reported, none lost
@@ -149,7 +149,7 @@ summed by = sum by (opened settingsE lent) noPast events
 given-sums : summed sentBy ∷ summed reportedBy ∷ summed lostBy ∷ [] ≡ 4096 ∷ 4096 ∷ 0 ∷ []
 unfolding lent settingsE answers onSetUp freshState freshOf firstOf inRange inside isEvCount isRing isCapacity ifSo ifEq ifLt onNewData
     onSend onAck
-    decided newDataStep newDataState sendStep settled stateOf suppliedOf pushedOf putAt changed sound soundWindow maxWndOf soundLedger
+    decided newDataStep newDataState sendStep settled stateOf supplyOf pushOf putAt changed sound soundWindow maxWndOf soundLedger
     stands longOf minus
     allTo slotOk isLive isZero headOk tallies sumOf flyingOne markedOne markedSize inBounds packets queueOf tabulate packetAt placeOf
     plus ageOf lay

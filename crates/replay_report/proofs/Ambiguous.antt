@@ -23,7 +23,7 @@ use Rattle.replay.specs.Answers.{onEvent}
 use Rattle.replay.specs.Batches.{kindOf, fillRoomOf, batchOf}
 use Rattle.replay.specs.Places.{logged, foundIn, foundFrom, foundAt, endFrom, Turning, over, placeAfter, turned, onFound, turnOf, turnsIn}
 use Rattle.replay.specs.Places.{turnsOf, lastPlace, lastWorld}
-use Rattle.replay.specs.Records.{eventOf, ackOf}
+use Rattle.replay.specs.Records.{eventOf, ackEventOf}
 use Rattle.replay.specs.declared.Place.{Place}
 use Rattle.replay.specs.declared.Shown.{Shown}
 use Rattle.replay.specs.declared.Shown.the-variants.{Nothing, State, Path, Sample as Showing}
@@ -197,7 +197,7 @@ module _ (log other : List ℕ) (long : length log ≡ length other) where
         let alike = ack-alike log other (p .at) long time cum map trigger count service ev flags next q (of-front r next q)
         (λ i from h. of-record r next q i (omega arith) h (λ _ _ high. omega arith)) in
         let shows = kind-ambiguous _ (both (ackStands (foundAt (logged log) (p .at))) _ amb .1) in
-        differs time (ackOf cum map trigger count service ev flags) (numberAt (drop (p .at) other) serviceFirst 4)
+        differs time (ackEventOf cum map trigger count service ev flags) (numberAt (drop (p .at) other) serviceFirst 4)
         (rw past at (found-is log (p .at) _ q)) (rw past at (found-is other (p .at) _ alike))
         (ap (λ (t : Turning). t .shown) (sym (turn-here r next q)) ∙ shows)
 

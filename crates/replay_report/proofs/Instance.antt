@@ -30,7 +30,7 @@ use Rattle.ledger.specs.Packets.{isFlying, isMarked, isDone, isOut, flyingOne, 
 use Rattle.ledger.specs.Bounds.{inBounds, sinks}
 use Rattle.ledger.specs.Ring.{ring, packetAt, tabulate, placeOf, ageOf, lay, laid, queueOf, longOf, packets, offsetOf, packetOf}
 use Rattle.ledger.specs.Sound.{allTo, isCapacity, isRing, isLive, isZero, slotOk, headOk, stands, tallies, soundLedger}
-use Rattle.ledger.specs.Steps.{changed, suppliedOf, pushedOf, resentOf, markedOf, newlyOf}
+use Rattle.ledger.specs.Steps.{changed, supplyOf, pushOf, resendOf, markOf, newlyOf}
 use Rattle.sender.specs.World.{World, world}
 use Rattle.sender.specs.Named.{hasRoom, phaseOf, phaseNumber}
 use Rattle.sender.specs.Sound.{timesOk, namedOk, sound}
@@ -217,7 +217,7 @@ unfolding resentLog onceLog lent recordBytes bytesOf littleEndian numberAt lookU
     markedSize sumOf inBounds
     sinks packetAt tabulate placeOf ageOf lay laid queueOf longOf packets offsetOf packetOf isLive isZero slotOk headOk stands tallies
     soundLedger changed
-    suppliedOf pushedOf resentOf markedOf newlyOf hasRoom phaseOf phaseNumber timesOk namedOk sound stateOf settled avoidedIn
+    supplyOf pushOf resendOf markOf newlyOf hasRoom phaseOf phaseNumber timesOk namedOk sound stateOf settled avoidedIn
     newDataState newDataStep
     sendStep ackSampling lossStep decided says onNewData onSend onAck onLoss howMany kindTest isAck ackStands mayDiffer
 replayed = record { accepted = refl; ambiguous = refl; may = λ i. refl; near = refl; far = refl }

@@ -16,7 +16,7 @@ use Rattle.window.proofs.Tests.{sample-bounds}
 use Rattle.window.proofs.Keeps.{sound-ack, sound-nack, sound-loss}
 use Rattle.ledger.specs.Packets.{isOut}
 use Rattle.ledger.specs.Ring.{Ledger, packetOf}
-use Rattle.ledger.specs.Steps.{suppliedOf, newlyOf}
+use Rattle.ledger.specs.Steps.{supplyOf, newlyOf}
 use Rattle.sender.specs.World.{World, Answered, Routing}
 use Rattle.sender.specs.Sound.{sound}
 use Rattle.sender.specs.Rows.{withSound, newDataRows, sendAllRows, ackAllRows, nackAllRows, lossAllRows, pathRows}
@@ -50,7 +50,7 @@ new-data-kept time bytes w e rows =
     let S = sound-facts w e in
     let N = new-data-facts time bytes c rows in
     let R = supply-ready S bytes (N .0) (N .1) in
-    stated-sound (c .settings) (suppliedOf bytes (c .flow)) (c .totals) (c .window) time (c .cursor) (w .slots) (w .times)
+    stated-sound (c .settings) (supplyOf bytes (c .flow)) (c .totals) (c .window) time (c .cursor) (w .slots) (w .times)
     (R .range) (R .sound-window) (R .sound-ledger) (R .early) (S .times-long) (S .times-ok) (S .cursor-ok)
 
 pub send-kept : (time : ℕ) (a : Send) (w : World) → sound w ≡ true → firstOf (sendAllRows time a (w .state) (w .slots)) ≡ 0

@@ -25,7 +25,7 @@ use Rattle.ledger.specs.declared.Flow.{Flow}
 use Rattle.ledger.proofs.Judging.{new-0, resend-0}
 use Rattle.sender.specs.Statements.{silent, First, Exact, Apart, plainNewData, plainAck, plainNack, plainLoss, Permitted}
 use Rattle.sender.specs.Statements.{PermittedNew, PermittedResend}
-use Rattle.sender.specs.Limits.{timeEnd}
+use Rattle.window.specs.Limits.{timeEnd}
 use Rattle.sender.specs.World.{World, world, Answered, answered, Routing, routed}
 use Rattle.sender.specs.Bounds.{roomAfter}
 use Rattle.sender.specs.Rows.{withSound, timeRow, newDataRows, sendAllRows, ackAllRows, nackAllRows, lossAllRows, pathRows, setUpRows}

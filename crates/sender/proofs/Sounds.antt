@@ -14,7 +14,7 @@ use lib.Seq.{drop-cons}
 use borrow.Author.Tests.{ltb-true, eqb-true, lt-ltb, le-ltb, eq-eqb, not-true, not-false}
 use Rattle.rules.specs.Branch.{so-both}
 use Rattle.rules.specs.Test.{both, whole}
-use Rattle.window.specs.Limits.{laterEnd}
+use Rattle.window.specs.Limits.{timeEnd, laterEnd}
 use Rattle.window.specs.Range.{inRange, InRange}
 use Rattle.window.specs.Sound.{soundWindow, SoundWindow}
 use Rattle.window.specs.declared.Settings.{Settings}
@@ -28,7 +28,6 @@ use Rattle.ledger.specs.declared.Flow.{Flow}
 use Rattle.ledger.specs.declared.Totals.{Totals}
 use Rattle.ledger.proofs.Signs.{sound-ledger-flown}
 use Rattle.ledger.proofs.Facts.{sound-ledger-is, sound-ledger-facts}
-use Rattle.sender.specs.Limits.{timeEnd}
 use Rattle.sender.specs.World.{World, world, ledgerOf}
 use Rattle.sender.specs.Named.{phaseOf, phaseNumber}
 use Rattle.sender.specs.Sound.{timesOk, namedOk, sound}

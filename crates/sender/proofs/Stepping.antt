@@ -38,7 +38,7 @@ use Rattle.ledger.specs.Bounds.{sizeLeast, backlogMost, Flown}
 use Rattle.ledger.specs.Ring.{Ring, Ledger, ledger, capOf, longOf, packets, packetOf}
 use Rattle.ledger.specs.Sound.{soundLedger}
 use Rattle.ledger.specs.Rows.{sendRows, ackRows, markRows}
-use Rattle.ledger.specs.Steps.{suppliedOf, pushedOf, resentOf, markedOf, ackedOf, newlyOf}
+use Rattle.ledger.specs.Steps.{supplyOf, pushOf, resendOf, markOf, acknowledgeOf, newlyOf}
 use Rattle.ledger.specs.declared.Flow.{Flow}
 use Rattle.ledger.specs.declared.Totals.{Totals}
 use Rattle.ledger.specs.declared.Packet.{Packet}
@@ -48,7 +48,8 @@ use Rattle.ledger.proofs.Judging.{resend-facts, mark-facts}
 use Rattle.ledger.proofs.Sends.{supply-keeps, new-room, push-keeps, resend-keeps, flies}
 use Rattle.ledger.proofs.Marks.{mark-keeps}
 use Rattle.ledger.proofs.Acked.{ack-keeps}
-use Rattle.sender.specs.Limits.{timeEnd, reasonMost}
+use Rattle.window.specs.Limits.{timeEnd}
+use Rattle.sender.specs.Limits.{reasonMost}
 use Rattle.sender.specs.World.{World, world, ledgerOf}
 use Rattle.sender.specs.Named.{hasRoom}
 use Rattle.sender.specs.Rows.{timeRow, newDataRows, sendAllRows, ackAllRows, nackAllRows, lossAllRows}
@@ -207,7 +208,7 @@ module _ {w : World} (S : SoundFacts w) where
 
   -- new data
   pub supply-ready : {time : ℕ} (bytes : ℕ) → Timely time (w .state) → w .state .flow .backlog + bytes ≤ backlogMost
-      → Ready (w .state .settings) time (w .state .window) (ledger (suppliedOf bytes (w .state .flow)) (w .state .totals) (w .slots))
+      → Ready (w .state .settings) time (w .state .window) (ledger (supplyOf bytes (w .state .flow)) (w .state .totals) (w .slots))
   supply-ready {time} bytes t h = ready-of _ t (supply-keeps _ _ _ time bytes (ledgerOf w) (S .sound-ledger) (t .later) h)
 
   -- a path choice
@@ -231,7 +232,7 @@ module _ {w : World} (S : SoundFacts w) where
     resend-asks e = resend-facts (w .state .flow) (w .slots) (a .psn) (a .size) (rw e at (A .rows)) .0
 
     pub send-ready : Ready (w .state .settings) time (w .state .window)
-        (ifSo (a .resend) (resentOf time (a .psn) (ledgerOf w)) (pushedOf time (a .size) (ledgerOf w)))
+        (ifSo (a .resend) (resendOf time (a .psn) (ledgerOf w)) (pushOf time (a .size) (ledgerOf w)))
     send-ready =
         let s = w .state .settings in
         let under = room-under (A .room) in
@@ -246,7 +247,7 @@ module _ {w : World} (S : SoundFacts w) where
 
   -- an ACK
   pub ack-ready : {time : ℕ} {a : Ack} → Ackable time a (w .state)
-      → Ready (w .state .settings) time (w .state .window) (ackedOf (a .cum) (a .map) (a .count) (ledgerOf w))
+      → Ready (w .state .settings) time (w .state .window) (acknowledgeOf (a .cum) (a .map) (a .count) (ledgerOf w))
   ack-ready {time} {a} A =
       let s = w .state .settings in
       ready-of _ (A .timely)
@@ -267,7 +268,7 @@ module _ {w : World} (S : SoundFacts w) where
         let h = packet-some (c .flow) (w .slots) psn (omega (arith, flies (packetOf (c .flow) (w .slots) psn) mark-flies)) in
         packet-live (c .settings .mtu) (c .clock) (c .flow) (w .slots) F psn h .size-most
 
-    pub marked-ready : Ready (w .state .settings) time (w .state .window) (markedOf psn (ledgerOf w))
+    pub marked-ready : Ready (w .state .settings) time (w .state .window) (markOf psn (ledgerOf w))
     marked-ready =
         let s = w .state .settings in
         ready-of _ (A .timely)
@@ -287,7 +288,7 @@ module _ (time : ℕ) (w : World) {x : Packet} {z : ℤ} {u : Window} {evs : Lis
   pub ack-is : (a : Ack) {newly : ℕ} {p : Sample} → newly ≡ newlyOf (a .count) (w .state .flow .held)
       → x ≡ packetOf (w .state .flow) (w .slots) (a .trigger)
       → p ≡ sampleOf (isOut x) (x .resent) (a .retx) time (x .sent) (a .service)
-      → ledger f t r ≡ ackedOf (a .cum) (a .map) (a .count) (ledgerOf w)
+      → ledger f t r ≡ acknowledgeOf (a .cum) (a .map) (a .count) (ledgerOf w)
       → u ≡ ackOf (w .state .settings) time newly (a .marked) p z (w .state .window)
       → evs ≡ avoidedIn (a .marked) (a .ev) time (w .state .window .base) (w .times)
       → world d r evs ≡ ackStep time a w
@@ -304,7 +305,7 @@ module _ (time : ℕ) (w : World) {x : Packet} {z : ℤ} {u : Window} {evs : Lis
 
   pub nack-is : (a : Nack) {p : Sample} → x ≡ packetOf (w .state .flow) (w .slots) (a .psn)
       → p ≡ sampleOf (isOut x) (x .resent) (a .retx) time (x .sent) 0
-      → ledger f t r ≡ markedOf (a .psn) (ledgerOf w)
+      → ledger f t r ≡ markOf (a .psn) (ledgerOf w)
       → u ≡ nackOf (w .state .settings) time (x .size) (a .reason) p z (w .state .window)
       → evs ≡ avoidedIn (a .marked || eqb (a .reason) 0) (a .ev) time (w .state .window .base) (w .times)
       → world d r evs ≡ nackStep time a w
@@ -321,7 +322,7 @@ module _ (time : ℕ) (w : World) {x : Packet} {z : ℤ} {u : Window} {evs : Lis
       ee ed
 
   pub loss-is : (a : Loss) → x ≡ packetOf (w .state .flow) (w .slots) (a .psn)
-      → ledger f t r ≡ markedOf (a .psn) (ledgerOf w)
+      → ledger f t r ≡ markOf (a .psn) (ledgerOf w)
       → u ≡ lossOf (w .state .settings) time (x .size) z (w .state .window)
       → evs ≡ avoidedIn true (a .ev) time (w .state .window .base) (w .times)
       → world d r evs ≡ lossStep time a w

@@ -16,7 +16,8 @@ use Rattle.ledger.specs.Bounds.{sizeLeast, backlogMost}
 use Rattle.ledger.specs.Ring.{Ring}
 use Rattle.ledger.specs.Sound.{isRing}
 use Rattle.ledger.specs.Rows.{sendRows, ackRows, markRows}
-use Rattle.sender.specs.Limits.{timeEnd, reasonMost}
+use Rattle.window.specs.Limits.{timeEnd}
+use Rattle.sender.specs.Limits.{reasonMost}
 use Rattle.sender.specs.World.{World}
 use Rattle.sender.specs.Named.{hasRoom}
 use Rattle.sender.specs.Sound.{sound}

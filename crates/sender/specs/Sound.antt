@@ -5,11 +5,10 @@ use mathlib.Core.List.{List, [], _∷_}
 use Prim.Native.Nat.{ℕ}
 use lib.ListN.{length}
 use lib.Dec.{ltb, eqb}
-use Rattle.window.specs.Limits.{laterEnd}
+use Rattle.window.specs.Limits.{timeEnd, laterEnd}
 use Rattle.window.specs.Range.{inRange}
 use Rattle.window.specs.Sound.{soundWindow}
 use Rattle.ledger.specs.Sound.{soundLedger}
-use Rattle.sender.specs.Limits.{timeEnd}
 use Rattle.sender.specs.World.{World, ledgerOf}
 use Rattle.sender.specs.Named.{phaseOf, phaseNumber}
 use Rattle.sender.specs.declared.Controller.{Controller}

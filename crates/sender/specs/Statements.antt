@@ -13,7 +13,8 @@ use Rattle.ledger.specs.Bounds.{backlogMost}
 use Rattle.ledger.specs.Packets.{isMarked}
 use Rattle.ledger.specs.Ring.{Ring, capOf, longOf, packetOf}
 use Rattle.ledger.specs.Rows.{ackRows, markRows}
-use Rattle.sender.specs.Limits.{timeEnd, reasonMost}
+use Rattle.window.specs.Limits.{timeEnd}
+use Rattle.sender.specs.Limits.{reasonMost}
 use Rattle.sender.specs.World.{World}
 use Rattle.sender.specs.Named.{hasRoom}
 use Rattle.sender.specs.Sound.{sound}

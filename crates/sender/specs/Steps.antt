@@ -16,7 +16,7 @@ use Rattle.paths.specs.Path.{withTime, choice}
 use Rattle.paths.specs.declared.Choice.{Choice}
 use Rattle.ledger.specs.Packets.{isOut}
 use Rattle.ledger.specs.Ring.{Ledger, packetOf}
-use Rattle.ledger.specs.Steps.{suppliedOf, pushedOf, resentOf, markedOf, ackedOf, newlyOf}
+use Rattle.ledger.specs.Steps.{supplyOf, pushOf, resendOf, markOf, acknowledgeOf, newlyOf}
 use Rattle.ledger.specs.declared.Flow.{Flow}
 use Rattle.ledger.specs.declared.Totals.{Totals}
 use Rattle.sender.specs.World.{World, world, ledgerOf}
@@ -49,7 +49,7 @@ unfoldable pub avoidedIn : Bool → ℕ → ℕ → ℕ → List ℕ → List �
 avoidedIn on ev time base times = ifSo on (withTime times ev (time + base)) times
 
 unfoldable pub newDataState : ℕ → ℕ → Controller → Controller
-newDataState time bytes c = stateOf (c .settings) (suppliedOf bytes (c .flow)) (c .totals) (c .window) time (c .cursor)
+newDataState time bytes c = stateOf (c .settings) (supplyOf bytes (c .flow)) (c .totals) (c .window) time (c .cursor)
 
 unfoldable pub newDataStep : ℕ → ℕ → World → World
 newDataStep time bytes w = world (newDataState time bytes (w .state)) (w .slots) (w .times)
@@ -57,7 +57,7 @@ newDataStep time bytes w = world (newDataState time bytes (w .state)) (w .slots)
 unfoldable pub sendStep : ℕ → Send → World → World
 sendStep time a w =
     settled time (w .state)
-    (ifSo (a .resend) (resentOf time (a .psn) (ledgerOf w)) (pushedOf time (a .size) (ledgerOf w)))
+    (ifSo (a .resend) (resendOf time (a .psn) (ledgerOf w)) (pushOf time (a .size) (ledgerOf w)))
     (w .state .window) (w .times)
 
 -- the sample of an ACK: the trigger packet as it stood before
@@ -76,7 +76,7 @@ ackSampling time a w =
 unfoldable pub ackStep : ℕ → Ack → World → World
 ackStep time a w =
     let c = w .state in
-    let l = ackedOf (a .cum) (a .map) (a .count) (ledgerOf w) in
+    let l = acknowledgeOf (a .cum) (a .map) (a .count) (ledgerOf w) in
     settled time c l
     (ackOf (c .settings) time (newlyOf (a .count) (c .flow .held)) (a .marked) (ackSample time a w) (l .totals .«in_flight») (c .window))
     (avoidedIn (a .marked) (a .ev) time (c .window .base) (w .times))
@@ -97,7 +97,7 @@ unfoldable pub nackStep : ℕ → Nack → World → World
 nackStep time a w =
     let c = w .state in
     let x = packetOf (c .flow) (w .slots) (a .psn) in
-    let l = markedOf (a .psn) (ledgerOf w) in
+    let l = markOf (a .psn) (ledgerOf w) in
     settled time c l
     (nackOf (c .settings) time (x .size) (a .reason) (nackSample time a w) (l .totals .«in_flight») (c .window))
     (avoidedIn (a .marked || eqb (a .reason) 0) (a .ev) time (c .window .base) (w .times))
@@ -107,7 +107,7 @@ unfoldable pub lossStep : ℕ → Loss → World → World
 lossStep time a w =
     let c = w .state in
     let x = packetOf (c .flow) (w .slots) (a .psn) in
-    let l = markedOf (a .psn) (ledgerOf w) in
+    let l = markOf (a .psn) (ledgerOf w) in
     settled time c l (lossOf (c .settings) time (x .size) (l .totals .«in_flight») (c .window))
     (avoidedIn true (a .ev) time (c .window .base) (w .times))
 

@@ -16,7 +16,7 @@ ghost use Rattle.rules.specs.Rows.{firstOf};
 ghost use Rattle.rules.specs.Verdict.{numberOf};
 ghost use Rattle.ledger.specs.Lent.{ringGiven, ringBefore};
 ghost use Rattle.ledger.specs.Sound.{Even};
-ghost use Rattle.sender.specs.Limits.{timeEnd};
+ghost use Rattle.window.specs.Limits.{timeEnd};
 ghost use Rattle.sender.specs.Bounds.{Bounded, roomAfter};
 ghost use Rattle.sender.specs.Rows.{newDataRows, sendAllRows, ackAllRows, nackAllRows, lossAllRows, pathRows};
 

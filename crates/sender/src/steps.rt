@@ -22,7 +22,7 @@ ghost use Rattle.sender.specs.Lent.{worldGiven, worldBefore, worldAfter}
 ghost use Rattle.sender.specs.Sound.{timesOk, sound};
 ghost use Rattle.sender.specs.Rows.{newDataRows, sendAllRows, ackAllRows, nackAllRows, lossAllRows};
 ghost use Rattle.paths.specs.Path.{choice};
-ghost use Rattle.sender.specs.Limits.{timeEnd};
+ghost use Rattle.window.specs.Limits.{timeEnd};
 ghost use Rattle.sender.specs.Bounds.{Bounded};
 ghost use Rattle.sender.specs.Steps.{avoidedIn, newDataState, sendStep, ackSampling, ackStep, nackSampling, nackStep, lossStep};
 ghost use Rattle.sender.specs.Steps.{pathState};
@@ -123,7 +123,7 @@ pub(crate) fn ack<'a, 'b, 'c, 'd, 'e>(
     let x = ledger::slots::find(flow, status, size, sent, resent, a.trigger);
     let sampling = sampled(x, a.retx, time, a.service as u64);
     let sample = sample_in(sampling);
-    let after = ledger::deliver::ack(
+    let after = ledger::deliver::acknowledge(
         a.cum,
         a.map,
         a.count,

@@ -22,19 +22,19 @@ accepted : (s : tie.Start) → Ackable (s .args .time) (s .args .a) (s .args .c)
 accepted s = ack-facts (s .args .time) (s .args .a) (s .args .c) (s .pre .1)
 
 -- from the place after the ledger's step back to the entry
-abbrev entry : tie.After-ack → tie.Start
+abbrev entry : tie.After-acknowledge → tie.Start
 entry p = p .before .before .before .before .before .before .before .before .before .before .before .before .before .before .before
     .before .before .before .before .before .before .before .before
 
 -- the ledger that came out, and what it leaves to the window's rules
-abbrev ledger-out : tie.After-ack → Ledger
+abbrev ledger-out : tie.After-acknowledge → Ledger
 ledger-out p =
-    ledger (p .ack .result .flow) (p .ack .result .totals)
-    (ring (p .ack .last .1 .1 .1 .1 .0) (p .ack .last .1 .1 .1 .1 .1 .0) (p .ack .last .1 .1 .1 .1 .1 .1 .0)
-    (p .ack .last .1 .1 .1 .1 .1 .1 .1 .0))
+    ledger (p .acknowledge .result .flow) (p .acknowledge .result .totals)
+    (ring (p .acknowledge .last .1 .1 .1 .1 .0) (p .acknowledge .last .1 .1 .1 .1 .1 .0) (p .acknowledge .last .1 .1 .1 .1 .1 .1 .0)
+    (p .acknowledge .last .1 .1 .1 .1 .1 .1 .1 .0))
 
-after : (p : tie.After-ack) → Ready (entry p .args .c .settings) (entry p .args .time) (entry p .args .c .window) (ledger-out p)
-after p = let s = entry p in rw (p .ack .ensures) (ack-ready (facts s) (accepted s))
+after : (p : tie.After-acknowledge) → Ready (entry p .args .c .settings) (entry p .args .time) (entry p .args .c .window) (ledger-out p)
+after p = let s = entry p in rw (p .acknowledge .ensures) (ack-ready (facts s) (accepted s))
 
 newly-requires : tie.Need-newly-requires
 newly-requires c κs = search needs
@@ -53,13 +53,13 @@ sampled-requires c κs = search needs
 sample-in-requires : tie.Need-sample-in-requires
 sample-in-requires c κs = search needs
 
-ack-requires : tie.Need-ack-requires
-ack-requires c κs = let s =
+acknowledge-requires : tie.Need-acknowledge-requires
+acknowledge-requires c κs = let s =
     c .before .before .before .before .before .before .before .before .before .before .before .before .before .before .before .before
     .before .before .before .before .before .before in (sound-to-ledger (world-in s) (s .pre .0), accepted s .rows)
 
-ack-requires-2 : tie.Need-ack-requires-2
-ack-requires-2 c κs =
+ack-requires : tie.Need-ack-requires
+ack-requires c κs =
     let p = c .before .before .before .before .before .before .before .before .before .before .before in
     let m = p .before .before .before .before .before .before in
     let R = after p in (
@@ -82,31 +82,31 @@ avoid-requires c κs =
     .before .before .before .before .before .before .before .before .before .before .before .before .before .before .before .before
     .before .before .before .before .before in
     let asks = avoid-asks (facts s) (accepted s .timely) (accepted s .ev-ok) in
-    (asks .0, asks .1, omega (arith, asks .2, facts s .range .rtt-high, c .before .ack2 .ensures .sound .base-high))
+    (asks .0, asks .1, omega (arith, asks .2, facts s .range .rtt-high, c .before .ack .ensures .sound .base-high))
 
 state-of-requires : tie.Need-state-of-requires
 state-of-requires c κs =
     let R = after (c .before .before .before .before .before .before .before .before .before .before .before .before .before .before
     .before .before) in
     let old = state-asks R (R .sound-window) in
-    let new = state-asks R (c .before .before .before .before .ack2 .ensures .sound) in
+    let new = state-asks R (c .before .before .before .before .ack .ensures .sound) in
     (new .0, (new .1 .0, omega (arith, old .1 .1, new .1 .1)))
 
 same-length : tie.Need-same-length
 same-length c = c .before .before .before .before .before .before .before .before .before .before .before .before .before .before
-    .before .before .before .ack .kept .1 .1 .1 .1 .0
+    .before .before .before .acknowledge .kept .1 .1 .1 .1 .0
 
 same-length-2 : tie.Need-same-length-2
 same-length-2 c = c .before .before .before .before .before .before .before .before .before .before .before .before .before .before
-    .before .before .before .ack .kept .1 .1 .1 .1 .1 .0
+    .before .before .before .acknowledge .kept .1 .1 .1 .1 .1 .0
 
 same-length-3 : tie.Need-same-length-3
 same-length-3 c = c .before .before .before .before .before .before .before .before .before .before .before .before .before .before
-    .before .before .before .ack .kept .1 .1 .1 .1 .1 .1 .0
+    .before .before .before .acknowledge .kept .1 .1 .1 .1 .1 .1 .0
 
 same-length-4 : tie.Need-same-length-4
 same-length-4 c = c .before .before .before .before .before .before .before .before .before .before .before .before .before .before
-    .before .before .before .ack .kept .1 .1 .1 .1 .1 .1 .1 .0
+    .before .before .before .acknowledge .kept .1 .1 .1 .1 .1 .1 .1 .0
 
 same-length-5 : tie.Need-same-length-5
 same-length-5 c = search needs
@@ -121,7 +121,7 @@ returns c =
       ack-is (s .args .time) (world-in s) {r = ledger-out p .slots} (ready-word (after p)) (c .state-of .ensures) (s .args .a)
           (x .before .before .before .before .before .newly .ensures .0)
           (x .find .ensures) (sample-at _ _ _ _ _ _ (p .before .before .before .before .before .sample-in .ensures)
-          (m .sampled .ensures)) (p .ack .ensures) (c .before .before .before .before .before .ack2 .ensures .is)
+          (m .sampled .ensures)) (p .acknowledge .ensures) (c .before .before .before .before .before .ack .ensures .is)
           (c .before .before .before .avoid .ensures),
       ack-says (s .args .time) (world-in s) (s .args .a) (x .find .ensures) (m .sampled .ensures),
     )
@@ -135,8 +135,8 @@ ack-spec =
     cast-sampled
     sampled-requires
     sample-in-requires
+    acknowledge-requires
     ack-requires
-    ack-requires-2
     avoid-requires
     state-of-requires
     same-length

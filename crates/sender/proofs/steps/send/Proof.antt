@@ -4,7 +4,7 @@ use mathlib.Core.Path.{_≡_, refl}
 use borrow.Author.Needs.{needs}
 use Rattle.rules.specs.Branch.{ifSo, so-yes, so-no}
 use Rattle.ledger.specs.Ring.{Ledger, ring, ledger}
-use Rattle.ledger.specs.Steps.{pushedOf, resentOf}
+use Rattle.ledger.specs.Steps.{pushOf, resendOf}
 use Rattle.sender.specs.World.{World, world, ledgerOf}
 use Rattle.sender.specs.Steps.{sendStep}
 use Rattle.sender.proofs.Sounds.{SoundFacts, sound-facts, sound-to-ledger}
@@ -26,8 +26,8 @@ accepted s = send-facts (s .args .time) (s .args .a) (s .args .c) (world-in s .s
 -- the ledger that the definition gives, and what it leaves to the state's name
 abbrev sent-of : tie.Start → Ledger
 sent-of s =
-    ifSo (s .args .a .resend) (resentOf (s .args .time) (s .args .a .psn) (ledgerOf (world-in s)))
-    (pushedOf (s .args .time) (s .args .a .size) (ledgerOf (world-in s)))
+    ifSo (s .args .a .resend) (resendOf (s .args .time) (s .args .a .psn) (ledgerOf (world-in s)))
+    (pushOf (s .args .time) (s .args .a .size) (ledgerOf (world-in s)))
 
 ready : (s : tie.Start) → Ready (s .args .c .settings) (s .args .time) (s .args .c .window) (sent-of s)
 ready s = send-ready (facts s) (accepted s)

@@ -1,9 +1,9 @@
--- `deliver::ack` meets its contract: by the laws of proofs/Acked, from what the two halves of the step leave.
+-- `deliver::acknowledge` meets its contract: by the laws of proofs/Acked, from what the two halves of the step leave.
 use borrow.Author.Needs.{needs}
 use native.Mathlib.Omega.{arith}
 use Rattle.ledger.proofs.Acked.{reach-asks, cover-asks, retire-asks, less-asks, acked}
-use Rattle.ledger.proofs.deliver.ack.Statement.{statement}
-use Rattle.ledger.proofs.deliver.ack.Tie as tie
+use Rattle.ledger.proofs.deliver.acknowledge.Statement.{statement}
+use Rattle.ledger.proofs.deliver.acknowledge.Tie as tie
 
 -- from the place after `long` back to the entry, and from the place after `cover` back to the one after `long`
 abbrev entry : tie.After-long → tie.Start
@@ -73,8 +73,8 @@ returns c =
     acked (s .pre .0) (counted v .long .ensures) (v .cover .ensures) (s .args .count) (u .retire .ensures) (c .before .psn-plus .ensures)
     (c .held-after .ensures) (c .before .before .before .before .newly .ensures .0) (c .before .before .less .ensures)
 
-pub ack-spec : {M : Type 1} → statement M
-ack-spec =
+pub acknowledge-spec : {M : Type 1} → statement M
+acknowledge-spec =
     tie.close
     (tie.spec
     long-requires
