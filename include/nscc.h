@@ -62,7 +62,7 @@ enum nscc_refusal {
     NSCC_REFUSED_REASON = 22,       /* a NACK's reason over 2 */
     NSCC_REFUSED_EV = 23,           /* an EV that is not below the EV count */
     NSCC_REFUSED_TRIGGER = 24,      /* an ACK that does not cover its trigger */
-    NSCC_REFUSED_TOO_LONG = 28      /* nscc_chunk: with the chunk the log would have 2^48 bytes or more */
+    NSCC_REFUSED_LOG_TOO_LONG = 28  /* nscc_chunk: with the chunk the log would have 2^48 bytes or more */
 };
 
 /*

@@ -8,7 +8,7 @@ use nscc::{Refusal, Word, IN_FLIGHT_ADDED, WORDS};
 use std::fmt;
 
 /// Room for every number of an answer.
-const NUMBERS: usize = Refusal::TooLong as usize + 1;
+const NUMBERS: usize = Refusal::LogTooLong as usize + 1;
 
 /// The letters of M-103.
 pub const LETTERS: [char; 5] = ['s', 'c', 'g', 'a', 'n'];

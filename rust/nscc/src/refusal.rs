@@ -21,7 +21,7 @@ pub enum Refusal {
     Reason = 22,
     Ev = 23,
     Trigger = 24,
-    TooLong = 28,
+    LogTooLong = 28,
 }
 
 impl Refusal {
@@ -48,7 +48,7 @@ impl Refusal {
             Refusal::Reason,
             Refusal::Ev,
             Refusal::Trigger,
-            Refusal::TooLong,
+            Refusal::LogTooLong,
         ];
         ALL.into_iter().find(|refusal| refusal.number() == number)
     }
@@ -74,7 +74,7 @@ impl fmt::Display for Refusal {
             Refusal::Reason => "a NACK's reason over 2",
             Refusal::Ev => "an EV that is not below the EV count",
             Refusal::Trigger => "an ACK does not cover its trigger",
-            Refusal::TooLong => "a log would have 2^48 bytes or more",
+            Refusal::LogTooLong => "a log would have 2^48 bytes or more",
         };
         write!(f, "{}: {why}", self.number())
     }

@@ -290,7 +290,7 @@ fn refused_chunks() {
     part.words[PartWord::At as usize] = (1 << 48) - 1;
     let mut chunk = |part: &mut Part| context.chunk(part, &[55], false, &mut [9; 1]);
     let before = part;
-    assert_eq!(chunk(&mut part), Err(Refusal::TooLong));
+    assert_eq!(chunk(&mut part), Err(Refusal::LogTooLong));
     assert_eq!(part, before);
     part.words[PartWord::Piece as usize] = 62;
     let before = part;
