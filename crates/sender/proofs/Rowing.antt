@@ -28,6 +28,13 @@ use Rattle.sender.specs.Steps.{routeOf, pathStep}
 use Rattle.sender.specs.Events.{decided, says}
 use Rattle.sender.specs.declared.Controller.{Controller}
 use Rattle.sender.specs.declared.Send.{Send}
+use Rattle.rules.specs.declared.verdict.Verdict.the-variants.{Accepted}
+use Rattle.rules.specs.Verdict.{numberOf}
+
+-- an accepted event has number 0
+pub accepted-number : numberOf Accepted ≡ 0
+unfolding numberOf
+accepted-number = refl
 
 -- ---- any rows
 

@@ -1,5 +1,6 @@
 // Each event for a caller who knows that state and buffers hold together: the entry point without its test of number 2. A replay tests
-// once; what an event leaves holds together again (proofs/Kept), whatever it answers.
+// once; what an event leaves holds together again (proofs/Kept), whatever it answers. What is accepted answers `Accepted` itself and not
+// its judge's verdict: so the compiler knows it, and where a replay goes on does not wait for the event.
 use crate::Ack;
 use crate::Answer;
 use crate::Controller;
@@ -12,6 +13,7 @@ use crate::Send;
 use crate::judge;
 use crate::steps;
 use crate::unheard;
+use rules::verdict::Verdict;
 use rules::verdict::is_accepted;
 ghost use mathlib.Core.Path.{_≡_};
 ghost use mathlib.Core.Bool.{true};
@@ -41,7 +43,10 @@ pub fn new_data<'a>(
         return Answer { state: c, verdict };
     }
     let state = steps::new_data(c, time, bytes);
-    Answer { state, verdict }
+    Answer {
+        state,
+        verdict: Verdict::Accepted,
+    }
 }
 
 // A new packet or a resend.
@@ -64,7 +69,10 @@ pub fn send<'a, 'b, 'c, 'd, 'e>(
         return Answer { state: c, verdict };
     }
     let state = steps::send(c, status, size, sent, resent, evs, time, a);
-    Answer { state, verdict }
+    Answer {
+        state,
+        verdict: Verdict::Accepted,
+    }
 }
 
 // An ACK.
@@ -92,7 +100,7 @@ pub fn ack<'a, 'b, 'c, 'd, 'e>(
     let sampling = sensed.sampling;
     Heard {
         state,
-        verdict,
+        verdict: Verdict::Accepted,
         feedback: Feedback::Sampled(sampling),
     }
 }
@@ -122,7 +130,7 @@ pub fn nack<'a, 'b, 'c>(
     let sampling = sensed.sampling;
     Heard {
         state,
-        verdict,
+        verdict: Verdict::Accepted,
         feedback: Feedback::Sampled(sampling),
     }
 }
@@ -147,7 +155,10 @@ pub fn loss<'a, 'b, 'c>(
         return Answer { state: c, verdict };
     }
     let state = steps::loss(c, status, size, sent, resent, evs, time, a);
-    Answer { state, verdict }
+    Answer {
+        state,
+        verdict: Verdict::Accepted,
+    }
 }
 
 // The next path. The EV times are only read, the ring is lent for what is required of it.
@@ -176,7 +187,7 @@ pub fn path<'a>(
     let state = stepped.state;
     Routed {
         state,
-        verdict,
+        verdict: Verdict::Accepted,
         ev: stepped.ev,
     }
 }

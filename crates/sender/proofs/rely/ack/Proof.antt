@@ -12,7 +12,7 @@ use Rattle.sender.specs.Rows.{ackAllRows}
 use Rattle.sender.specs.Steps.{ackSampling, ackStep}
 use Rattle.sender.specs.Events.{saysOf, onAck}
 use Rattle.sender.proofs.Sounds.{sound-bounded}
-use Rattle.sender.proofs.Rowing.{answer-refused, answer-accepted, says-nothing, says-sample}
+use Rattle.sender.proofs.Rowing.{accepted-number, answer-refused, answer-accepted, says-nothing, says-sample}
 use Rattle.sender.proofs.rely.ack.Statement.{statement}
 use Rattle.sender.proofs.rely.ack.Tie as tie
 
@@ -90,8 +90,8 @@ returns-2 c =
     let zero = accepted-zero _ _ (e .before .is-accepted .ensures) (not-false _ (e .if1 .left)) in
     let answer = answer-accepted (handed s) (rows s) (stepped s) _ _ (s .pre) (numberOf (j .judge-ack .result)) (j .judge-ack .ensures) zero
     (k .ack .result .state) (ring (l .1 .0) (l .1 .1 .0) (l .1 .1 .1 .0) (l .1 .1 .1 .1 .0)) (l .1 .1 .1 .1 .1 .0)
-    (k .ack .ensures .0) refl zero in
-    (answer, says-sample answer (ackSampling (s .args .time) (s .args .a) (handed s)) zero (ap some (k .ack .ensures .1)))
+    (k .ack .ensures .0) refl accepted-number in
+    (answer, says-sample answer (ackSampling (s .args .time) (s .args .a) (handed s)) accepted-number (ap some (k .ack .ensures .1)))
 
 pub ack-spec : {M : Type 1} → statement M
 ack-spec =

@@ -11,7 +11,7 @@ use Rattle.sender.specs.Rows.{lossAllRows}
 use Rattle.sender.specs.Steps.{lossStep}
 use Rattle.sender.specs.Events.{onLoss}
 use Rattle.sender.proofs.Sounds.{sound-bounded, sound-even}
-use Rattle.sender.proofs.Rowing.{answer-refused, answer-accepted}
+use Rattle.sender.proofs.Rowing.{accepted-number, answer-refused, answer-accepted}
 use Rattle.sender.proofs.rely.loss.Statement.{statement}
 use Rattle.sender.proofs.rely.loss.Tie as tie
 
@@ -72,7 +72,7 @@ returns-2 c =
     let zero = accepted-zero _ _ (e .before .is-accepted .ensures) (not-false _ (e .if1 .left)) in
     answer-accepted (handed s) (rows s) (stepped s) _ _ (s .pre) (numberOf (j .judge-loss .result)) (j .judge-loss .ensures) zero
     (k .loss .result) (ring (l .1 .0) (s .args .size .now) (s .args .sent .now) (s .args .resent .now)) (l .1 .1 .1 .1 .1 .0)
-    (k .loss .ensures) refl zero
+    (k .loss .ensures) refl accepted-number
 
 pub loss-spec : {M : Type 1} → statement M
 loss-spec =

@@ -12,7 +12,7 @@ use Rattle.sender.specs.Rows.{nackAllRows}
 use Rattle.sender.specs.Steps.{nackSampling, nackStep}
 use Rattle.sender.specs.Events.{saysOf, onNack}
 use Rattle.sender.proofs.Sounds.{sound-bounded, sound-even}
-use Rattle.sender.proofs.Rowing.{answer-refused, answer-accepted, says-nothing, says-sample}
+use Rattle.sender.proofs.Rowing.{accepted-number, answer-refused, answer-accepted, says-nothing, says-sample}
 use Rattle.sender.proofs.rely.nack.Statement.{statement}
 use Rattle.sender.proofs.rely.nack.Tie as tie
 
@@ -85,8 +85,8 @@ returns-2 c =
     let answer = answer-accepted (handed s) (rows s) (stepped s) _ _ (s .pre) (numberOf (j .judge-nack .result))
     (j .judge-nack .ensures) zero
     (k .nack .result .state) (ring (l .1 .0) (s .args .size .now) (s .args .sent .now) (s .args .resent .now)) (l .1 .1 .1 .1 .1 .0)
-    (k .nack .ensures .0) refl zero in
-    (answer, says-sample answer (nackSampling (s .args .time) (s .args .a) (handed s)) zero (ap some (k .nack .ensures .1)))
+    (k .nack .ensures .0) refl accepted-number in
+    (answer, says-sample answer (nackSampling (s .args .time) (s .args .a) (handed s)) accepted-number (ap some (k .nack .ensures .1)))
 
 pub nack-spec : {M : Type 1} → statement M
 nack-spec =

@@ -12,7 +12,7 @@ use Rattle.sender.specs.Steps.{newDataStep}
 use Rattle.sender.specs.Events.{onNewData}
 use Rattle.sender.specs.declared.Controller.{Controller}
 use Rattle.sender.proofs.Sounds.{sound-bounded}
-use Rattle.sender.proofs.Rowing.{answer-refused, answer-accepted}
+use Rattle.sender.proofs.Rowing.{accepted-number, answer-refused, answer-accepted}
 use Rattle.sender.proofs.rely.new_data.Statement.{statement}
 use Rattle.sender.proofs.rely.new_data.Tie as tie
 
@@ -65,7 +65,7 @@ returns-2 c =
     let zero = accepted-zero _ _ (e .before .is-accepted .ensures) (not-false _ (e .if1 .left)) in
     answer-accepted (handed s) (rows s) (stepped s) _ _ (s .pre) (numberOf (j .judge-new-data .result)) (j .judge-new-data .ensures) zero
     (c .new-data .result) (handed s .slots) (handed s .times)
-    (ap (λ (x : Controller). world x (handed s .slots) (handed s .times)) (c .new-data .ensures)) refl zero
+    (ap (λ (x : Controller). world x (handed s .slots) (handed s .times)) (c .new-data .ensures)) refl accepted-number
 
 pub new-data-spec : {M : Type 1} → statement M
 new-data-spec =

@@ -5,6 +5,7 @@ use Prim.Native.Nat.{ℕ}
 use borrow.Author.Needs.{needs}
 use borrow.Author.Tests.{not-true, not-false}
 use Rattle.rules.specs.Verdict.{numberOf, accepted-zero, refused-not}
+use Rattle.rules.specs.declared.verdict.Verdict.the-variants.{Accepted}
 use Rattle.ledger.specs.Ring.{ring}
 use Rattle.sender.specs.World.{World, world, routed}
 use Rattle.sender.specs.Rows.{pathRows}
@@ -13,7 +14,7 @@ use Rattle.sender.specs.Events.{onPath}
 use Rattle.sender.specs.declared.Controller.{Controller}
 use Rattle.sender.proofs.Sounds.{sound-facts, sound-bounded}
 use Rattle.sender.proofs.Stepping.{time-facts}
-use Rattle.sender.proofs.Rowing.{entry-refused, entry-accepted, taken, untaken}
+use Rattle.sender.proofs.Rowing.{accepted-number, entry-refused, entry-accepted, taken, untaken}
 use Rattle.sender.proofs.rely.path.Statement.{statement}
 use Rattle.sender.proofs.rely.path.Tie as tie
 
@@ -62,8 +63,8 @@ returns-2 c =
     let time = s .args .time in
     let zero = accepted-zero _ _ (e .before .is-accepted .ensures) (not-false _ (e .if1 .left)) in
     entry-accepted w (pathRows time (w .state)) (taken time w) (λ n. untaken n w) (s .pre) (numberOf (j .result)) (j .ensures)
-    (routed (numberOf (j .result)) (p .result .ev) (p .result .state) (w .slots) (w .times)) zero
-    (ap (λ (n : ℕ). routed n (p .result .ev) (p .result .state) (w .slots) (w .times)) zero
+    (routed (numberOf Accepted) (p .result .ev) (p .result .state) (w .slots) (w .times)) zero
+    (ap (λ (n : ℕ). routed n (p .result .ev) (p .result .state) (w .slots) (w .times)) accepted-number
     ∙ ap₂ (λ (e : ℕ) (x : Controller). routed 0 e x (w .slots) (w .times)) (p .ensures .1) (p .ensures .0))
 
 pub path-spec : {M : Type 1} → statement M

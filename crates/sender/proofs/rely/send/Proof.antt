@@ -11,7 +11,7 @@ use Rattle.sender.specs.Rows.{sendAllRows}
 use Rattle.sender.specs.Steps.{sendStep}
 use Rattle.sender.specs.Events.{onSend}
 use Rattle.sender.proofs.Sounds.{sound-bounded, sound-even}
-use Rattle.sender.proofs.Rowing.{answer-refused, answer-accepted}
+use Rattle.sender.proofs.Rowing.{accepted-number, answer-refused, answer-accepted}
 use Rattle.sender.proofs.rely.send.Statement.{statement}
 use Rattle.sender.proofs.rely.send.Tie as tie
 
@@ -87,7 +87,7 @@ returns-2 c =
     let zero = accepted-zero _ _ (e .before .is-accepted .ensures) (not-false _ (e .if1 .left)) in
     answer-accepted (handed s) (rows s) (stepped s) _ _ (s .pre) (numberOf (j .judge-send .result)) (j .judge-send .ensures) zero
     (k .send .result) (ring (l .1 .0) (l .1 .1 .0) (l .1 .1 .1 .0) (l .1 .1 .1 .1 .0)) (handed s .times)
-    (k .send .ensures) refl zero
+    (k .send .ensures) refl accepted-number
 
 pub send-spec : {M : Type 1} → statement M
 send-spec =
