@@ -1,0 +1,2 @@
+-- What the contracts of `bits` cite.
+pub mod Bits
