@@ -23,12 +23,12 @@ unfolding plus
 plus-lt p k = omega arith
 
 -- a sum with its turns written out
-plus-turns : (p k : ℕ) → plus p k + (p + k) / psns * psns ≡ p + k
+pub plus-turns : (p k : ℕ) → plus p k + (p + k) / psns * psns ≡ p + k
 unfolding plus
 plus-turns p k = omega arith
 
 -- a difference with its turns written out
-turns : (a b : ℕ) → minus psns a b + b + laps psns a b * psns ≡ a + (b / psns + 1) * psns
+pub turns : (a b : ℕ) → minus psns a b + b + laps psns a b * psns ≡ a + (b / psns + 1) * psns
 turns a b = minus-turns psns a b (omega arith)
 
 -- going on by a, and then by b

@@ -2,3 +2,4 @@
 pub mod Wraps
 pub mod Counts
 pub mod Cover
+pub mod CoverWord

@@ -1,8 +1,11 @@
 // Wrapped numbers: packet sequence numbers (32 bits), received counts (24 bits), and what an ACK covers.
 // Document 01, "The ledger". Each function answers for every argument.
 ghost use mathlib.Core.Path.{_≡_};
+ghost use mathlib.Core.Logic.{_⊎_};
+ghost use Prim.Native.Nat.{_+_, _≤_};
 ghost use Rattle.serial.specs.Wrap.{minus};
-ghost use Rattle.serial.specs.Psn.{psns, plus, bitOf, covered, backOf, spanOf, unsentOrOld};
+ghost use Rattle.bits.specs.Bits.{wordBits, wordOf};
+ghost use Rattle.serial.specs.Psn.{psns, reach, plus, bitOf, covered, backOf, spanOf, unsentOrOld};
 ghost use Rattle.serial.specs.Count.{aheadOf, gapOf, isOld, forwardOf};
 
 // How far behind a PSN may lie and still be covered: 2^30.
@@ -46,6 +49,26 @@ pub fn covers(cum: u32, map: u64, psn: u32) -> bool
         return true;
     }
     bit_of(map, psn_minus(psn, psn_plus(cum, 1)))
+}
+
+// What an ACK covers of the 64 PSNs from psn on: bit j tells of the PSN j after psn. An inner step: the caller proves that they do not
+// come into cum's reach from behind, as PSNs a quarter of the ring of numbers and more away do.
+pub fn covered_word(cum: u32, map: u64, psn: u32) -> u64
+    requires { ⌜ (minus psns cum psn ≤ reach) ⊎ (reach + wordBits ≤ minus psns cum psn) ⌝ }
+    ensures { λ r. ⌜ r ≡ wordOf (λ j. covered cum map (plus psn j)) ⌝ }
+{
+    let behind = psn_minus(cum, psn);
+    if behind <= REACH {
+        if 63 <= behind {
+            return u64::MAX;
+        }
+        return ((1 << (behind + 1)) - 1) | (map << (behind + 1));
+    }
+    let ahead = psn_minus(psn, psn_plus(cum, 1));
+    if ahead < 64 {
+        return map >> ahead;
+    }
+    0
 }
 
 // back: how far cum lies behind the last PSN sent.
