@@ -1,135 +1,156 @@
 -- An ACK's ledger step: what its two halves ask holds, together they give the definition, and the ledger that is left holds together. By
 -- the laws of queues, the facts of a ledger that holds together, and the one theorem that keeps them.
 -- Assumes nothing.
-use mathlib.Core.Path.{_≡_, sym, ap, ap₂, _∙_, subst}
+use mathlib.Core.Path.{_≡_, sym, ap, _∙_}
 use mathlib.Core.Bool.{Bool, true, _&&_}
 use mathlib.Core.List.{List}
 use Prim.Native.Nat.{ℕ, _+_, _-_, _^_, _≤_, _<_}
 use native.Mathlib.Nat.{add-zero}
 use native.Mathlib.Omega.{arith}
-use lib.ListN.{length, getD, drop, length-drop}
+use lib.ListN.{length, getD, drop, length-drop, List·getD-eq-default}
 use lib.Seq.{getD-drop}
 use lib.IntN.{ℤ, pos, _-ℤ_}
 use mir.Syntax.{w64}
 use mir.Val.{toZ, ofZ}
 use Rattle.rules.specs.Branch.{so-both}
 use Rattle.rules.specs.Rows.{firstOf}
+use Rattle.bits.specs.Bits.{bitAt}
 use Rattle.serial.specs.Psn.{plus, covered, backOf, spanOf}
 use Rattle.serial.specs.Count.{counts, isOld}
-use Rattle.serial.proofs.Cover.{plus-lt, minus-step, sent-facts, beyond}
+use Rattle.serial.proofs.Cover.{plus-lt, minus-step, sent-facts}
 use Rattle.ledger.specs.Packets.{doneStatus, noPacket, withStatus, isOut, flyingOne, markedOne, markedSize, sumOf, coverOne, coverAll}
 use Rattle.ledger.specs.Packets.{coveredSum, doneRun}
 use Rattle.ledger.specs.Bounds.{Flown}
-use Rattle.ledger.specs.Ring.{Ring, Ledger, ledger, capOf, laid, queueOf, longOf, packets}
-use Rattle.ledger.specs.Sound.{SoundLedger, isCapacity, stands, soundLedger}
+use Rattle.ledger.specs.Ring.{Ring, Ledger, ledger, capOf, packetAt, placeOf, laid, queueOf, longOf, packets}
+use Rattle.ledger.specs.Memory.{Memory, shown, ledgerShown, kept, keptOf, Words}
+use Rattle.ledger.specs.Sound.{SoundLedger, stands, soundLedger, Lengths}
 use Rattle.ledger.specs.Steps.{heldOf, newlyOf, acknowledgeOf}
 use Rattle.ledger.specs.Rows.{ackRows}
-use Rattle.ledger.specs.Delivery.{Laid, Cover, Covered, Retired}
+use Rattle.ledger.specs.Delivery.{slots, Standing, Reached, Covered, Retired}
 use Rattle.ledger.specs.declared.Flow.{Flow}
 use Rattle.ledger.specs.declared.Totals.{Totals}
 use Rattle.ledger.specs.declared.Packet.{Packet}
-use Rattle.ledger.proofs.Geometry.{cap-facts, laid-cap, laid-even, queue-laid}
+use Rattle.ledger.proofs.Geometry.{cap-facts, laid-cap, laid-at, queue-laid}
 use Rattle.ledger.proofs.Facts.{Live, live-later, Facts, packets-long, stands-facts, stands-laid, packets-laid, tallies-facts}
 use Rattle.ledger.proofs.Facts.{tallies-test, sound-ledger-parts, sound-ledger-whole, sound-ledger-facts}
 use Rattle.ledger.proofs.Queues.{OfOut, flying-out, marked-out, bytes-out, cover-long, cover-each, cover-sum, run-adds, run-le}
 use Rattle.ledger.proofs.Queues.{run-next}
 use Rattle.ledger.proofs.Signs.{word, flown-word, flown-less, sound-ledger-flown}
 use Rattle.ledger.proofs.Judging.{ack-facts}
+use Rattle.ledger.proofs.Shows.{stands-lengths, stands-words, kept-is}
+use Rattle.ledger.proofs.WordsShown.{even-cap, live-bits, live-packet, caps, mark-out}
+use Rattle.ledger.proofs.WordsReached.{beyond-next, near-or-far}
 
 -- covering keeps the number of packets
 covered-long : (cov : ℕ → Bool) (f : Flow) (r : Ring) → length (coverAll cov (f .low) (packets f r)) ≡ longOf f
 covered-long cov f r = cover-long cov (f .low) (packets f r) ∙ packets-long f r
 
--- ---- the two halves of the step
+-- ---- what the two halves of the step ask
 
--- a ring laid out with a queue of as many packets
-laid-so : (cap low : ℕ) (xs : List Packet) (n : ℕ) → isCapacity cap ≡ true → length xs ≡ n → n ≤ cap → Laid (laid cap low xs) low n
-laid-so cap low xs n ok e fit =
-    let c = laid-cap cap low xs in
-    let E = laid-even cap (cap-facts cap ok) low xs in
+-- a sound ledger's memory stands
+standing : (f : Flow) (t : Totals) (m : Memory) → SoundLedger (ledgerShown f t m) → Standing m f
+unfolding packetAt
+standing f t m K =
+    let F : Facts (K .mtu) (K .clock) f (shown (f .low) (f .next) m) = sound-ledger-facts K in
+    let L = stands-lengths (K .mtu) (K .clock) f m (K .stands-so) in
+    let W = stands-words (K .mtu) (K .clock) f m (K .stands-so) in
+    let c : capOf (shown (f .low) (f .next) m) ≡ slots m = even-cap (f .low) (f .next) L in
+    let fit : longOf f ≤ slots m = omega (arith, F .fits) in
     record {
-      cap = rw c ok;
-      size = E .size;
-      sent = E .sent;
-      resent = E .resent;
-      fits = omega arith;
-      is = ap₂ (λ (k : ℕ) (q : List Packet). laid k low q) (sym c) (sym (queue-laid cap (cap-facts cap ok) low xs n e fit));
+      lengths = L;
+      words = W;
+      fits = fit;
+      marks =
+          λ k h.
+          let i : ℕ = placeOf (slots m) (f .low) k in
+          let e = ap (λ (x : Packet). x .status) (live-packet f L k h ∙ live-bits f L k h W fit) in
+          mark-out (bitAt (m .outstanding) i) (bitAt (m .marked) i) (omega (arith, F .live k h .status-most, e));
+      empty =
+          λ k h l.
+          let r : Ring = shown (f .low) (f .next) m in
+          let xs : List Packet = packets f r in
+          ap (λ (s : Ring). packetAt s (placeOf (slots m) (f .low) k))
+          (F .laid-so ∙ ap (λ (n : ℕ). laid n (f .low) xs) c)
+          ∙ laid-at (slots m) (cap-facts (slots m) (L .cap)) (f .low) xs k l
+          ∙ List·getD-eq-default xs noPacket (omega (arith, packets-long f r));
     }
 
 -- n is the number of packets that the code computes
-module _ {l : Ledger} {n : ℕ} (K : SoundLedger l) (is-long : n ≡ longOf (l .flow)) where
-  F : Facts (K .mtu) (K .clock) (l .flow) (l .slots)
-  F = sound-ledger-facts K
+module _ {f : Flow} {t : Totals} {n : ℕ} (m : Memory) (K : SoundLedger (ledgerShown f t m)) (is-long : n ≡ longOf f) where
+  stood : Standing m f
+  stood = standing f t m K
 
   few : n ≤ 4096
-  few = omega (arith, F .fits, F .even .few)
+  few = omega (arith, stood .fits, caps stood .most)
 
   pub reach-asks : (map : ℕ) {span : ℕ} → span ≡ spanOf map → (n ≤ 4096) × (span ≤ 64)
   unfolding spanOf
   reach-asks map e = (few, omega arith)
 
   -- what the first half asks; `far` is how far the code looks
-  pub cover-asks : (count : ℕ) {cum map back span far : ℕ} → firstOf (ackRows (l .flow) (l .totals .«in_flight») cum map count) ≡ 0
-      → back ≡ backOf (l .flow .next) cum → span ≡ spanOf map → far ≡ n + span - back → Cover l far cum map
-  unfolding longOf packets
+  pub cover-asks : (count : ℕ) {cum map back span far : ℕ} → firstOf (ackRows f (t .«in_flight») cum map count) ≡ 0
+      → back ≡ backOf (f .next) cum → span ≡ spanOf map → far ≡ n + span - back → Standing m f × Reached m f t far cum map
+  unfolding longOf
   cover-asks count {cum} {map} accepted eb es ef =
-      let sent = ack-facts (l .flow) (l .totals .«in_flight») cum map count accepted .0 in
-      let s = sent-facts (l .flow .next) cum map sent in
-      record {
-        laid-out =
-            record {
-              cap = F .cap;
-              size = F .even .size;
-              sent = F .even .sent;
-              resent = F .even .resent;
-              fits = F .fits;
-              is = F .laid-so;
-            };
-        within = omega arith;
-        beyond = λ j lo hi. beyond (l .flow .low) (l .flow .next) cum map j (omega (arith, few)) sent hi (omega arith);
-        flying = K .flying-least;
-        marked = K .marked-least;
-        bytes = K .bytes-least;
-      }
+      let sent = ack-facts f (t .«in_flight») cum map count accepted .0 in
+      let s = sent-facts (f .next) cum map sent in (
+        stood,
+        record {
+          within = omega (arith, is-long, s .1);
+          beyond = λ j lo hi. beyond-next (f .low) (f .next) cum map j sent (omega (arith, few, is-long)) hi (omega (arith, is-long, s .1));
+          near = λ k h. near-or-far (f .low) (f .next) cum k (omega (arith, few, is-long)) (omega (arith, is-long, s .1)) (s .0);
+          flying = K .flying-least;
+          marked = K .marked-least;
+          bytes = K .bytes-least;
+        },
+      )
 
-  module _ {cum map : ℕ} {t : Totals} {r : Ring} (D : Covered l cum map t r) where
+  module _ {cum map : ℕ} {u : Totals} {r : Ring} (D : Covered (ledgerShown f t m) cum map u r) where
+    -- in-flight, as the machine's word reads, is in its bounds
+    flown : Flown (2 ^ 26) (u .«in_flight»)
+    flown = rw (D .in-flight) (sound-ledger-flown K)
+
+    pub less-asks : Flown (2 ^ 26) (toZ w64 (ofZ w64 (u .«in_flight»)))
+    less-asks = flown-word (u .«in_flight») flown
+
     after : List Packet
-    after = coverAll (covered cum map) (l .flow .low) (packets (l .flow) (l .slots))
+    after = coverAll (covered cum map) (f .low) (packets f (shown (f .low) (f .next) m))
 
     after-long : length after ≡ n
     unfolding after
-    after-long = covered-long (covered cum map) (l .flow) (l .slots) ∙ sym is-long
+    after-long = covered-long (covered cum map) f (shown (f .low) (f .next) m) ∙ sym is-long
 
-    -- what the second half asks
-    pub retire-asks : Laid r (l .flow .low) n
-    unfolding after
-    retire-asks =
-        subst (λ (s : Ring). Laid s (l .flow .low) n) (sym (D .ring-is))
-        (laid-so (capOf (l .slots)) (l .flow .low) after n (F .cap) after-long (omega (arith, F .fits)))
-
-    -- in-flight, as the machine's word reads, is in its bounds
-    flown : Flown (2 ^ 26) (t .«in_flight»)
-    flown = rw (D .in-flight) (sound-ledger-flown K)
-
-    pub less-asks : Flown (2 ^ 26) (toZ w64 (ofZ w64 (t .«in_flight»)))
-    less-asks = flown-word (t .«in_flight») flown
-
-    -- and together they give the definition
-    pub acked : (count : ℕ) {gone low held bytes : ℕ} {z : ℤ} {s : Ring} → Retired r (l .flow .low) n gone s
-        → low ≡ plus (l .flow .low) gone
-        → held ≡ heldOf count (l .flow .held) → bytes ≡ newlyOf count (l .flow .held) → z ≡ toZ w64 (ofZ w64 (t .«in_flight»)) -ℤ pos bytes
-        → ledger (record { low = low; next = l .flow .next; held = held; backlog = l .flow .backlog })
-        (record { flying = t .flying; marked = t .marked; «marked_bytes» = t .«marked_bytes»; «in_flight» = z }) s
-        ≡ acknowledgeOf cum map count l
+    -- together they give the definition
+    stepped : (count : ℕ) {gone low held bytes : ℕ} {z : ℤ} {s : Ring} → Retired r (f .low) n gone s
+        → low ≡ plus (f .low) gone
+        → held ≡ heldOf count (f .held) → bytes ≡ newlyOf count (f .held) → z ≡ toZ w64 (ofZ w64 (u .«in_flight»)) -ℤ pos bytes
+        → ledger (record { low = low; next = f .next; held = held; backlog = f .backlog })
+        (record { flying = u .flying; marked = u .marked; «marked_bytes» = u .«marked_bytes»; «in_flight» = z }) s
+        ≡ acknowledgeOf cum map count (ledgerShown f t m)
     unfolding after acknowledgeOf
-    acked count {gone} R el eh eb ez =
-        let q : queueOf r (l .flow .low) n ≡ after =
-        ap (λ (x : Ring). queueOf x (l .flow .low) n) (D .ring-is)
-        ∙ queue-laid (capOf (l .slots)) (cap-facts (capOf (l .slots)) (F .cap)) (l .flow .low) after n after-long
-        (omega (arith, F .fits)) in
+    stepped count {gone} R el eh eb ez =
+        let ring : Ring = shown (f .low) (f .next) m in
+        let cap : capOf ring ≡ slots m = even-cap (f .low) (f .next) (stood .lengths) in
+        let q : queueOf r (f .low) n ≡ after =
+        ap (λ (x : Ring). queueOf x (f .low) n) (D .ring-is)
+        ∙ queue-laid (capOf ring) (rw cap (caps stood)) (f .low) after n after-long (omega (arith, stood .fits, is-long)) in
         let g : gone ≡ doneRun after = R .run ∙ ap doneRun q in
-        let c : capOf r ≡ capOf (l .slots) = ap capOf (D .ring-is) ∙ laid-cap (capOf (l .slots)) (l .flow .low) after in
-        rw (el, eh, ez, word (t .«in_flight») flown, eb, D .flying, D .marked, D .bytes, D .in-flight, R .ring-is, c, q, g)
+        let c : capOf r ≡ capOf ring = ap capOf (D .ring-is) ∙ laid-cap (capOf ring) (f .low) after in
+        rw (el, eh, ez, word (u .«in_flight») flown, eb, D .flying, D .marked, D .bytes, D .in-flight, R .ring-is, c, q, g)
+
+    -- and what is kept is what is kept of it
+    pub acked : (count : ℕ) {gone low held bytes : ℕ} {z : ℤ} (k : Memory) → Lengths k → Words k
+        → Retired r (f .low) n gone (shown (plus (f .low) gone) (f .next) k)
+        → low ≡ plus (f .low) gone
+        → held ≡ heldOf count (f .held) → bytes ≡ newlyOf count (f .held) → z ≡ toZ w64 (ofZ w64 (u .«in_flight»)) -ℤ pos bytes
+        → kept (record { low = low; next = f .next; held = held; backlog = f .backlog })
+        (record { flying = u .flying; marked = u .marked; «marked_bytes» = u .«marked_bytes»; «in_flight» = z }) k
+        ≡ keptOf (acknowledgeOf cum map count (ledgerShown f t m))
+    acked count k L W R el eh eb ez =
+        kept-is (record { low = _; next = f .next; held = _; backlog = f .backlog })
+        (record { flying = u .flying; marked = u .marked; «marked_bytes» = u .«marked_bytes»; «in_flight» = _ }) k
+        (acknowledgeOf cum map count (ledgerShown f t m)) L W
+        (stepped count (rw el R) el eh eb ez)
 
 -- ---- the ledger that is left holds together
 

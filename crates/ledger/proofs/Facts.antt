@@ -1,39 +1,37 @@
 -- What a sound ledger tells, fact by fact, and the way back: a queue of live packets, laid out, with a flow that counts it, holds together
 -- (`stands-laid`). By the laws of walks and the ring's geometry.
 -- Assumes nothing.
-use mathlib.Core.Path.{_≡_, refl, sym, ap, _∙_, subst, fun-ext}
-use mathlib.Core.Bool.{Bool, true, false, _&&_, and-true}
+use mathlib.Core.Path.{_≡_, refl, sym, ap, _∙_, subst}
+use mathlib.Core.Bool.{true, false, _&&_}
 use mathlib.Core.Logic.{by-cases}
 use mathlib.Core.List.{List}
-use Prim.Native.Nat.{ℕ, _+_, _-_, _*_, _^_, _%_, _≤_, _<_}
+use Prim.Native.Nat.{ℕ, _-_, _*_, _^_, _≤_, _<_}
 use native.Mathlib.Nat.{le-refl, mul-le-mul}
 use native.Mathlib.Decide.{decLt}
 use native.Mathlib.Omega.{arith}
 use lib.IntN.{ℤ, pos, negsuc}
 use lib.ListN.{length, getD, List·getD-eq-default}
 use lib.Dec.{leb, ltb, eqb}
-use borrow.Author.Tests.{leb-true, ltb-true, eqb-true, le-leb, lt-leb, lt-ltb, eq-eqb, ne-eqb, not-true}
-use Rattle.rules.specs.Branch.{ifLt, lt-yes, lt-no, eq-both}
+use borrow.Author.Tests.{leb-true, ltb-true, eqb-true, le-leb, lt-ltb, eq-eqb, ne-eqb, not-true}
+use Rattle.rules.specs.Branch.{lt-yes, lt-no, eq-both}
 use Rattle.rules.specs.Test.{inside, both, whole, inside-tells, inside-yes}
 use Rattle.serial.specs.Psn.{psns}
 use Rattle.serial.specs.Count.{counts}
 use Rattle.ledger.specs.Packets.{flyingStatus, doneStatus, noPacket, isDone, flyingOne, markedOne, markedSize, sumOf}
 use Rattle.ledger.specs.Bounds.{sizeLeast, resentMost, backlogMost, inBounds, Flown}
-use Rattle.ledger.specs.Ring.{Ring, Ledger, ledger, tabulate, capOf, packetAt, placeOf, longOf, laid, queueOf, packets, offsetOf}
+use Rattle.ledger.specs.Ring.{Ring, Ledger, ledger, capOf, packetAt, placeOf, longOf, laid, packets, offsetOf}
 use Rattle.ledger.specs.Ring.{packetOf}
 use Rattle.ledger.specs.Sound.{allTo, isCapacity, isRing, isLive, isZero, slotOk, headOk, stands, tallies, soundLedger, Even}
-use Rattle.ledger.specs.Sound.{SoundLedger, Tallied}
+use Rattle.ledger.specs.Sound.{SoundLedger}
 use Rattle.ledger.specs.declared.Flow.{Flow}
 use Rattle.ledger.specs.declared.Totals.{Totals}
 use Rattle.ledger.specs.declared.Packet.{Packet}
-use Rattle.ledger.proofs.Walks.{all-at, all-of, all-join, sum-append, sum-bound}
+use Rattle.ledger.proofs.Walks.{all-at, all-of, sum-bound}
 use Rattle.ledger.proofs.Geometry.{
   Cap,
   cap-facts,
-  place-low,
   queue-long,
   queue-at,
-  queue-join,
   laid-cap,
   laid-even,
   laid-at,
@@ -54,7 +52,7 @@ pub record Live (mtu clock : ℕ) (x : Packet) : Type 0 where
   pub resent-most : x .resent ≤ resentMost
 
 -- four numbers make a packet
-packets-same : {a b c d e f g h : ℕ} → a ≡ e → b ≡ f → c ≡ g → d ≡ h
+pub packets-same : {a b c d e f g h : ℕ} → a ≡ e → b ≡ f → c ≡ g → d ≡ h
     → _≡_ {A = Packet} (record { status = a; size = b; sent = c; resent = d }) (record { status = e; size = f; sent = g; resent = h })
 packets-same i j k l = rw (i, j, k, l)
 
@@ -400,97 +398,3 @@ module _ (mtu maxwnd clock : ℕ) (l : Ledger) where
 
 pub sound-ledger-facts : {l : Ledger} (c : SoundLedger l) → Facts (c .mtu) (c .clock) (l .flow) (l .slots)
 sound-ledger-facts {l} c = stands-facts (c .mtu) (c .clock) (l .flow) (l .slots) (c .stands-so)
-
--- ---- the walks of the test
-
--- n packets from low's slot on, whose number is a PSN with the same slots
-module _ (mtu clock : ℕ) (r : Ring) (C : Cap (capOf r)) (low : ℕ) where
-  slots-low : (n : ℕ) → slotOk mtu clock r (low % capOf r) n ≡ slotOk mtu clock r low n
-  unfolding slotOk
-  slots-low n =
-      fun-ext
-      (λ k.
-      ap (λ (p : ℕ). let x = packetAt r p in ifLt k n (isLive mtu clock x) (isZero x)) (place-low (capOf r) C low k))
-
-  queue-low : (n : ℕ) → queueOf r (low % capOf r) n ≡ queueOf r low n
-  unfolding queueOf
-  queue-low n = ap (λ (f : ℕ → Packet). tabulate f n) (fun-ext (λ k. ap (packetAt r) (place-low (capOf r) C low k)))
-
-  pub tally-low : (a m n : ℕ) (s : Bool) (x y z : ℕ) → a ≡ low % capOf r → m ≡ n → Tallied mtu clock r a m s x y z
-      → Tallied mtu clock r low n s x y z
-  tally-low a m n s x y z ea em T =
-      let U : Tallied mtu clock r (low % capOf r) n s x y z = rw (ea, em) at T in
-      record {
-        sound-is = U .sound-is ∙ ap (λ (f : ℕ → Bool). allTo f n) (slots-low n);
-        flying-is = U .flying-is ∙ ap (sumOf flyingOne) (queue-low n);
-        marked-is = U .marked-is ∙ ap (sumOf markedOne) (queue-low n);
-        bytes-is = U .bytes-is ∙ ap (sumOf markedSize) (queue-low n);
-      }
-
--- two stretches of packets, the second of which begins where the first ends
-module _ (mtu clock : ℕ) (r : Ring) (low a j m : ℕ) (on : (k : ℕ) → placeOf (capOf r) a k ≡ placeOf (capOf r) low (j + k)) where
-  sum-join : (adds : Packet → ℕ) (x y : ℕ) → x ≡ sumOf adds (queueOf r low j) → y ≡ sumOf adds (queueOf r a m)
-      → x + y ≡ sumOf adds (queueOf r low (j + m))
-  sum-join adds x y e f = rw (queue-join r low a j m on, e, f) (sym (sum-append adds (queueOf r low j) (queueOf r a m)))
-
-  pub tally-join : (n : ℕ) (s t : Bool) (x y z u v w : ℕ) → n ≡ j + m → Tallied mtu clock r low j s x y z → Tallied mtu clock r a m t u v w
-      → Tallied mtu clock r low n (s && t) (x + u) (y + v) (z + w)
-  tally-join n s t x y z u v w e T U =
-      rw e (record {
-        sound-is =
-            rw (T .sound-is, U .sound-is)
-            (sym (all-join (slotOk mtu clock r low (j + m)) (slotOk mtu clock r low j) (slotOk mtu clock r a m) j m
-            (λ k l. slot-live mtu clock r low (j + m) k (omega arith) ∙ sym (slot-live mtu clock r low j k l))
-            (λ k l.
-            slot-live mtu clock r low (j + m) (j + k) (omega arith)
-            ∙ ap (λ (p : ℕ). isLive mtu clock (packetAt r p)) (sym (on k))
-            ∙ sym (slot-live mtu clock r a m k l))));
-        flying-is = sum-join flyingOne x u (T .flying-is) (U .flying-is);
-        marked-is = sum-join markedOne y v (T .marked-is) (U .marked-is);
-        bytes-is = sum-join markedSize z w (T .bytes-is) (U .bytes-is);
-      })
-
-  -- a stretch of slots behind the n packets
-  pub rest-join : (n : ℕ) (s t : Bool) → n ≤ j → s ≡ allTo (slotOk mtu clock r low n) j → t ≡ allTo (slotOk 0 0 r a 0) m
-      → (s && t) ≡ allTo (slotOk mtu clock r low n) (j + m)
-  rest-join n s t h e f =
-      rw (e, f)
-      (sym (all-join (slotOk mtu clock r low n) (slotOk mtu clock r low n) (slotOk 0 0 r a 0) j m (λ k l. refl)
-      (λ k l.
-      slot-zero mtu clock r low n (j + k) (omega arith)
-      ∙ ap (λ (p : ℕ). isZero (packetAt r p)) (sym (on k))
-      ∙ sym (slot-zero 0 0 r a 0 k (omega arith)))))
-
--- ---- the test of the ledger, as it is made
-
-regroup : (s a b c d : Bool) → (s && a && b && c && d) ≡ (s && (a && b && c && d))
-regroup true a b c d = refl
-regroup false a b c d = refl
-
-module _ (mtu maxwnd clock : ℕ) (f : Flow) (t : Totals) (r : Ring) (n : ℕ) (e : n ≡ longOf f) where
-  pub not-ring : isRing r ≡ false → false ≡ soundLedger mtu maxwnd clock (ledger f t r)
-  unfolding soundLedger stands
-  not-ring h = simp h
-
-  pub too-long : isRing r ≡ true → capOf r < n → false ≡ soundLedger mtu maxwnd clock (ledger f t r)
-  unfolding soundLedger stands
-  too-long h l = simp (h, lt-leb (longOf f) (capOf r) (rw e at l))
-
-  -- low and next are machine words: their tests hold
-  pub all-tests : isRing r ≡ true → n ≤ capOf r → (s a h b : Bool) (x y z : ℕ) → Tallied mtu clock r (f .low) n s x y z
-      → a ≡ allTo (slotOk mtu clock r (f .low) n) (capOf r) → h ≡ headOk r (f .low) n → b ≡ inBounds maxwnd (t .«in_flight»)
-      → f .low < psns → f .next < psns
-      → (a && h && ltb (f .held) counts && leb (f .backlog) backlogMost && eqb (t .flying) x && eqb (t .marked) y
-      && eqb (t .«marked_bytes») z && b)
-      ≡ soundLedger mtu maxwnd clock (ledger f t r)
-  unfolding soundLedger stands tallies packets
-  all-tests ok l s a h b x y z T ea eh eb low next =
-      rw (ea, eh, eb, T .flying-is, T .marked-is, T .bytes-is, e, ok, le-leb (longOf f) (capOf r) (rw e at l))
-      (simp (lt-ltb (f .low) psns low, lt-ltb (f .next) psns next, and-true)
-      (regroup
-      (allTo (slotOk mtu clock r (f .low) (longOf f)) (capOf r) && headOk r (f .low) (longOf f) && ltb (f .held) counts
-      && leb (f .backlog) backlogMost)
-      (eqb (t .flying) (sumOf flyingOne (packets f r)))
-      (eqb (t .marked) (sumOf markedOne (packets f r)))
-      (eqb (t .«marked_bytes») (sumOf markedSize (packets f r)))
-      (inBounds maxwnd (t .«in_flight»))))

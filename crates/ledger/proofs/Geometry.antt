@@ -5,7 +5,7 @@ use mathlib.Core.Path.{_≡_, refl, sym, ap, _∙_, subst}
 use mathlib.Core.Bool.{Bool, true, false, _||_}
 use mathlib.Core.Logic.{_⊎_, inl, inr, ⊎-elim, by-cases}
 use mathlib.Core.List.{List, [], _∷_, _++_}
-use Prim.Native.Nat.{ℕ, suc, _+_, _-_, _^_, _%_, _≤_, _<_}
+use Prim.Native.Nat.{ℕ, suc, _+_, _-_, _*_, _/_, _^_, _%_, _≤_, _<_}
 use native.Mathlib.Nat.{mod-eq-of-lt, mod-eq-sub-mod, mod-lt, mod-mod, mod-add-mod, mod-mod-of-dvd, dvd-of-mod-eq-zero, add-mod-right}
 use native.Mathlib.Nat.{add-zero, add-assoc}
 use native.Mathlib.Decide.{decLe}
@@ -15,6 +15,7 @@ use lib.Seq.{ext-getD, getD-set-same, getD-set-other, set-getD, getD-append-seam
 use lib.Dec.{eqb}
 use lib.Bits.{bitAnd, and-mask}
 use borrow.Author.Tests.{eqb-true}
+use Rattle.bits.specs.Bits.{wordBits}
 use Rattle.serial.specs.Wrap.{minus}
 use Rattle.serial.specs.Psn.{psns, plus}
 use Rattle.serial.proofs.Cover.{plus-plus, plus-minus}
@@ -28,16 +29,18 @@ use Rattle.ledger.proofs.Walks.{length-tabulate, getD-tabulate, tabulat
 
 -- ---- capacities
 
--- what the laws use of a capacity: its bounds, that it divides 2^32, so that PSNs that wrap keep their places,
--- and that a remainder is a mask
+-- what the laws use of a capacity: its bounds, that it divides 2^32, so that PSNs that wrap keep their places, that it is whole words of
+-- bits, and that a remainder is a mask
 pub record Cap (n : ℕ) : Type 0 where
   pub least : 64 ≤ n
   pub most : n ≤ 4096
   pub divides : psns % n ≡ 0
+  pub words : n / wordBits * wordBits ≡ n
   pub masks : (p : ℕ) → bitAnd p (n - 1) ≡ p % n
 
-cap-is : (j : ℕ) → 64 ≤ 2 ^ j → 2 ^ j ≤ 4096 → psns % 2 ^ j ≡ 0 → (n : ℕ) → eqb n (2 ^ j) ≡ true → Cap n
-cap-is j a b d n e = rw (eqb-true n (2 ^ j) e) (record { least = a; most = b; divides = d; masks = λ p. and-mask p j })
+cap-is : (j : ℕ) → 64 ≤ 2 ^ j → 2 ^ j ≤ 4096 → psns % 2 ^ j ≡ 0 → 2 ^ j / wordBits * wordBits ≡ 2 ^ j → (n : ℕ)
+    → eqb n (2 ^ j) ≡ true → Cap n
+cap-is j a b d w n e = rw (eqb-true n (2 ^ j) e) (record { least = a; most = b; divides = d; words = w; masks = λ p. and-mask p j })
 
 -- either part of a test holds where the whole does
 either : {n : ℕ} (a b : Bool) → (a ≡ true → Cap n) → (b ≡ true → Cap n) → (a || b) ≡ true → Cap n
@@ -52,12 +55,12 @@ cap-facts n =
     (either _ _
     (either _ _
     (either _ _
-    (either _ _ (cap-is 6 (omega arith) (omega arith) refl n) (cap-is 7 (omega arith) (omega arith) refl n))
-    (cap-is 8 (omega arith) (omega arith) refl n))
-    (cap-is 9 (omega arith) (omega arith) refl n))
-    (cap-is 10 (omega arith) (omega arith) refl n))
-    (cap-is 11 (omega arith) (omega arith) refl n))
-    (cap-is 12 (omega arith) (omega arith) refl n)
+    (either _ _ (cap-is 6 (omega arith) (omega arith) refl refl n) (cap-is 7 (omega arith) (omega arith) refl refl n))
+    (cap-is 8 (omega arith) (omega arith) refl refl n))
+    (cap-is 9 (omega arith) (omega arith) refl refl n))
+    (cap-is 10 (omega arith) (omega arith) refl refl n))
+    (cap-is 11 (omega arith) (omega arith) refl refl n))
+    (cap-is 12 (omega arith) (omega arith) refl refl n)
 
 -- ---- places
 
@@ -113,12 +116,12 @@ module _ (cap : ℕ) (C : Cap cap) (low : ℕ) where
   place-round =
       place-flat cap ∙ add-mod-right (low % cap) cap ∙ ap (λ (x : ℕ). x % cap) (sym (add-zero (low % cap))) ∙ sym (place-flat 0)
 
-  age-lt : (i : ℕ) → ageOf cap low i < cap
+  pub age-lt : (i : ℕ) → ageOf cap low i < cap
   unfolding ageOf
   age-lt i = mod-lt (i + (cap - low % cap)) pos
 
   -- places and ages are inverse
-  age-place : (k : ℕ) → k < cap → ageOf cap low (placeOf cap low k) ≡ k
+  pub age-place : (k : ℕ) → k < cap → ageOf cap low (placeOf cap low k) ≡ k
   unfolding ageOf
   age-place k h =
       let l : low % cap < cap = mod-lt low pos in
@@ -129,7 +132,7 @@ module _ (cap : ℕ) (C : Cap cap) (low : ℕ) where
       (⊎-elim (λ p. ⊎-elim (λ q. omega arith) (λ q. omega arith) two) (λ p. ⊎-elim (λ q. omega arith) (λ q. omega arith) two)
       (mod-two cap (low % cap + k) (omega arith)))
 
-  place-age : (i : ℕ) → i < cap → placeOf cap low (ageOf cap low i) ≡ i
+  pub place-age : (i : ℕ) → i < cap → placeOf cap low (ageOf cap low i) ≡ i
   unfolding ageOf
   place-age i h =
       let l : low % cap < cap = mod-lt low pos in
@@ -278,7 +281,7 @@ module _ (field : Packet → ℕ) where
 
 -- ---- a queue laid over the ring
 
-rings : {a b c d e f g h : List ℕ} → a ≡ e → b ≡ f → c ≡ g → d ≡ h → ring a b c d ≡ ring e f g h
+pub rings : {a b c d e f g h : List ℕ} → a ≡ e → b ≡ f → c ≡ g → d ≡ h → ring a b c d ≡ ring e f g h
 rings i j k l = rw (i, j, k, l)
 
 module _ (cap low : ℕ) (xs : List Packet) where
@@ -353,23 +356,6 @@ module _ (cap : ℕ) (C : Cap cap) (low : ℕ) where
       → putAt (laid cap low xs) (placeOf cap low k) x ≡ laid cap low (set xs k x)
   laid-put xs k x h f =
       laid-store xs (set xs k x) k x (omega arith) (getD-set-same xs k x noPacket h) (λ j l n. sym (getD-set-other xs k j x noPacket n))
-
-  -- the same of a store to the status alone
-  pub laid-status : (xs : List Packet) (k s : ℕ) → k < length xs → length xs ≤ cap
-      → ring (set (laid cap low xs .status) (placeOf cap low k) s) (laid cap low xs .size) (laid cap low xs .sent) (laid cap low xs .resent)
-      ≡ laid cap low (set xs k (withStatus s (getD xs k noPacket)))
-  unfolding laid putAt
-  laid-status xs k s h f =
-      rings refl
-      (kept (λ x. x .size))
-      (kept (λ x. x .sent))
-      (kept (λ x. x .resent))
-      ∙ laid-put xs k (withStatus s (getD xs k noPacket)) h f
-    where
-      kept : (field : Packet → ℕ) → lay field cap low xs ≡ set (lay field cap low xs) (placeOf cap low k) (field (getD xs k noPacket))
-      kept field =
-          sym (set-getD (lay field cap low xs) (placeOf cap low k) 0)
-          ∙ ap (set (lay field cap low xs) (placeOf cap low k)) (lay-at field cap C low xs k (omega arith))
 
   -- a packet behind the others
   pub laid-snoc : (xs : List Packet) (x : Packet) → length xs < cap

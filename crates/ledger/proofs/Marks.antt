@@ -5,19 +5,18 @@ use mathlib.Core.Bool.{true}
 use Prim.Native.Nat.{ℕ, _+_, _-_, _%_, _^_, _≤_, _<_}
 use native.Mathlib.Omega.{arith}
 use lib.IntN.{ℤ, pos, _-ℤ_}
-use lib.ListN.{set}
 use Rattle.rules.specs.Rows.{firstOf}
 use Rattle.serial.specs.Psn.{psns}
 use Rattle.ledger.specs.declared.Packet.{Packet}
 use Rattle.ledger.specs.Packets.{flyingStatus, markedStatus, withStatus, isFlying, isDone, flyingOne}
-use Rattle.ledger.specs.Ring.{ring, Ledger, ledger, capOf, longOf, offsetOf, packetOf}
+use Rattle.ledger.specs.Ring.{Ring, Ledger, ledger, capOf, putAt, longOf, offsetOf, packetOf}
 use Rattle.ledger.specs.Sound.{soundLedger, SoundLedger}
 use Rattle.ledger.specs.Steps.{markOf}
 use Rattle.ledger.specs.Rows.{markRows}
 use Rattle.ledger.proofs.Facts.{Live, live-later, packet-live, packet-some, sound-ledger-facts}
 use Rattle.ledger.proofs.Signs.{flown-less}
 use Rattle.ledger.proofs.Judging.{mark-facts}
-use Rattle.ledger.proofs.Sends.{flying-adds, marked-adds, flies, found-le, status-changed, sound-ledger-tells, change-keeps}
+use Rattle.ledger.proofs.Sends.{flying-adds, marked-adds, flies, found-le, put-changed, sound-ledger-tells, change-keeps}
 
 -- a marked packet is live
 marked-live : (mtu clock : ℕ) (x : Packet) → Live mtu clock x → Live mtu clock (withStatus markedStatus x)
@@ -56,6 +55,10 @@ pub record Markable (l : Ledger) (x : Packet) : Type 0 where
   pub one : 1 ≤ l .totals .flying
   pub small : x .size < 2 ^ 32
 
+pub mark-some : (l : Ledger) (psn : ℕ) → isFlying (packetOf (l .flow) (l .slots) psn) ≡ true → (x : Packet)
+    → x ≡ packetOf (l .flow) (l .slots) psn → 0 < x .status
+mark-some l psn m x e = rw e (omega (arith, flies (packetOf (l .flow) (l .slots) psn) m))
+
 module _ (l : Ledger) (c : SoundLedger l) (psn : ℕ) (m : isFlying (packetOf (l .flow) (l .slots) psn) ≡ true) (x : Packet)
     (e : x ≡ packetOf (l .flow) (l .slots) psn) where
   there : offsetOf (l .flow) psn < longOf (l .flow)
@@ -70,16 +73,17 @@ module _ (l : Ledger) (c : SoundLedger l) (psn : ℕ) (m : isFlying (packetOf (l
       rw e (record { one = omega (arith, a .0, c .flying-least); small = omega (arith, live .size-most, c .mtu-high) })
 
   -- what the code leaves
-  pub mark-is : psn < psns → (i : ℕ) (z : ℤ) → i ≡ psn % capOf (l .slots) → z ≡ l .totals .«in_flight» -ℤ pos (x .size)
+  pub mark-is : psn < psns → (i : ℕ) (z : ℤ) (s : Ring) → i ≡ psn % capOf (l .slots) → z ≡ l .totals .«in_flight» -ℤ pos (x .size)
+      → s ≡ putAt (l .slots) i (withStatus markedStatus x)
       → ledger (l .flow)
       (record {
         flying = l .totals .flying - 1;
         marked = l .totals .marked + 1;
         «marked_bytes» = l .totals .«marked_bytes» + x .size;
         «in_flight» = z;
-      })
-      (ring (set (l .slots .status) i markedStatus) (l .slots .size) (l .slots .sent) (l .slots .resent))
+      }) s
       ≡ markOf psn l
   unfolding markOf
-  mark-is fits i z ei ez =
-      rw (ez, e, status-changed (c .mtu) (c .clock) (l .flow) (l .slots) (sound-ledger-facts c) psn there fits i ei markedStatus)
+  mark-is fits i z s ei ez es =
+      let p = put-changed (c .mtu) (c .clock) (l .flow) (l .slots) (sound-ledger-facts c) psn there fits i ei (withStatus markedStatus x) in
+      rw (ez, es, p, e)

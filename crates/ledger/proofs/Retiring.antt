@@ -1,110 +1,304 @@
--- The loop that clears the done packets at the front, over lists and numbers: its invariant, where it starts, one turn, and where it ends.
--- By the laws of queues and of the ring.
+-- The done packets at the front leave the ring: how many they are, by the first outstanding bit; which slots are emptied; and the ring that
+-- is left, slot by slot.
 -- Assumes nothing.
-use mathlib.Core.Path.{_≡_, sym, ap, ap₂, _∙_, subst}
-use mathlib.Core.List.{_∷_}
-use Prim.Native.Nat.{ℕ, _+_, _%_, _≤_, _<_, zero-le}
-use native.Mathlib.Nat.{zero-add, add-zero}
+use mathlib.Core.Path.{_≡_, refl, sym, ap, _∙_}
+use mathlib.Core.Bool.{Bool, true, false, not, cond, false≢true}
+use mathlib.Core.List.{List, [], _∷_}
+use mathlib.Core.Logic.{_⊎_, inl, inr, ⊎-elim, by-cases}
+use Prim.Native.Nat.{ℕ, suc, _+_, _-_, _%_, _≤_, _<_}
+use native.Mathlib.Nat.{mod-eq-of-lt, mod-eq-sub-mod, add-mod-right}
+use native.Mathlib.Decide.{decLt}
 use native.Mathlib.Omega.{arith}
-use native.Mathlib.Numerals.{add-one}
-use lib.ListN.{length, getD, drop, length-drop}
-use lib.Seq.{drop-cons, getD-drop}
+use lib.Dec.{eqb}
+use lib.ListN.{length, getD, drop, List·getD-eq-default}
+use lib.Seq.{getD-drop}
+use Rattle.rules.specs.Branch.{ifSo, ifEq}
+use Rattle.bits.specs.Bits.{bitAt, lowest}
+use Rattle.bits.proofs.Words.{lowest-le, lowest-before, lowest-same}
+use Rattle.serial.specs.Wrap.{minus}
 use Rattle.serial.specs.Psn.{psns, plus}
-use Rattle.serial.proofs.Cover.{plus-plus}
-use Rattle.ledger.specs.Packets.{doneStatus, noPacket, doneRun}
-use Rattle.ledger.specs.Ring.{Ring, capOf, packetAt, putAt, placeOf, laid, queueOf}
-use Rattle.ledger.specs.Sound.{Even}
-use Rattle.ledger.specs.Delivery.{Laid, Retired}
+use Rattle.serial.proofs.Cover.{minus-step}
+use Rattle.ledger.specs.Packets.{doneStatus, noPacket, isDone, doneRun}
+use Rattle.ledger.specs.Ring.{ageOf, placeOf, packetAt, laid, longOf, packets}
+use Rattle.ledger.specs.Memory.{Memory, memory, slotsOf, sizeIn, resentIn, inWindow, statusOf, shown, Words}
+use Rattle.ledger.specs.Sound.{Lengths}
+use Rattle.ledger.specs.Delivery.{emptied, slots, Standing, Retired}
+use Rattle.ledger.specs.declared.Flow.{Flow}
 use Rattle.ledger.specs.declared.Packet.{Packet}
-use Rattle.ledger.proofs.Geometry.{Cap, cap-facts, place-first, place-plus, place-lt, place-next, queue-long, laid-cap, laid-even}
-use Rattle.ledger.proofs.Geometry.{laid-at, laid-tail}
-use Rattle.ledger.proofs.Queues.{plus-none, run-more, run-stop, run-end}
+use Rattle.ledger.proofs.Geometry.{Cap, place-flat, place-plus, age-lt, place-age, laid-cap, laid-even, laid-at}
+use Rattle.ledger.proofs.Facts.{packets-long}
+use Rattle.ledger.proofs.Shows.{slots-even, shown-is}
+use Rattle.ledger.proofs.Emptying.{run-yes, run-before, run-after, empty-long, empty-yes, empty-no}
+use Rattle.ledger.proofs.Fronts.{bitOfAge}
+use Rattle.ledger.proofs.WordsShown.{slotShown, even-cap, slot-shows, in-window, out-window, caps, age-of, live-shows}
+use Rattle.ledger.proofs.WordsShown.{packet-at, lengths-kept, words-kept}
 
--- the first k packets, all done, are gone; i is the slot of the next
-pub record Inv (r : Ring) (low n : ℕ) (after : Ring) (i k : ℕ) : Type 0 where
-  pub pre : Laid r low n
-  pub le : k ≤ n
-  pub place : i ≡ placeOf (capOf r) low k
-  pub run : doneRun (queueOf r low n) ≡ k + doneRun (drop k (queueOf r low n))
-  pub ring-is : after ≡ laid (capOf r) (plus low k) (drop k (queueOf r low n))
+-- ---- how many
 
-module _ {r : Ring} {low n : ℕ} (P : Laid r low n) where
-  pub caps : Cap (capOf r)
-  caps = cap-facts (capOf r) (P .cap)
+run-step : (b : Bool) (p q : ℕ) → p ≡ q → cond b (suc p) 0 ≡ cond (not b) 0 (suc q)
+run-step true p q e = ap suc e
+run-step false p q e = refl
 
-  pub starts : {i : ℕ} → low < psns → i ≡ low % capOf r → Inv r low n r i 0
-  starts b e =
-      record {
-        pre = P;
-        le = zero-le;
-        place = e ∙ sym (place-first (capOf r) low b);
-        run = sym (zero-add (doneRun (queueOf r low n)));
-        ring-is = P .is ∙ ap (λ (p : ℕ). laid (capOf r) p (queueOf r low n)) (sym (plus-none low b));
-      }
+-- the run of done packets ends at the first that is not done
+run-lowest : (xs : List Packet) → doneRun xs ≡ lowest (λ k. not (isDone (getD xs k noPacket))) (length xs)
+unfolding doneRun lowest isDone ifEq ifSo
+run-lowest [] = refl
+run-lowest (x ∷ xs) = run-step (eqb (x .status) doneStatus) (doneRun xs) _ (run-lowest xs)
 
-module _ {r : Ring} {low n : ℕ} {after : Ring} {i k : ℕ} (I : Inv r low n after i k) where
-  pub even : Even after
-  even = subst Even (sym (I .ring-is)) (laid-even (capOf r) (caps (I .pre)) (plus low k) (drop k (queueOf r low n)))
+-- a packet of the flow is done where its slot is not outstanding
+not-done : (m : Memory) (i : ℕ) (out mark : Bool) → (mark ≡ true → out ≡ true) → not (isDone (slotShown m i true out mark)) ≡ out
+unfolding isDone statusOf ifSo
+not-done m i true true h = refl
+not-done m i true false h = refl
+not-done m i false true h = absurd (false≢true (h refl))
+not-done m i false false h = refl
 
-  -- the slices keep their lengths
-  pub same-cap : capOf after ≡ capOf r
-  same-cap = ap capOf (I .ring-is) ∙ laid-cap (capOf r) (plus low k) (drop k (queueOf r low n))
+-- an emptied slot shows no packet
+nothing : _≡_ {A = Packet} (record { status = statusOf false false false; size = sizeIn 0; sent = 0; resent = resentIn 0 }) noPacket
+unfolding statusOf ifSo sizeIn resentIn
+nothing = refl
 
-  pub same-size : length (after .size) ≡ length (r .size)
-  same-size = even .size ∙ same-cap ∙ sym (I .pre .size)
+-- ---- which slots
 
-  pub same-sent : length (after .sent) ≡ length (r .sent)
-  same-sent = even .sent ∙ same-cap ∙ sym (I .pre .sent)
+-- the slots of the first `gone` packets are zero, the others as they were
+pub record Cut (cap low gone : ℕ) (xs ys : List ℕ) : Type 0 where
+  pub long : length ys ≡ length xs
+  pub emptied-at : (x : ℕ) → x < cap → ageOf cap low x < gone → getD ys x 0 ≡ 0
+  pub kept-at : (x : ℕ) → x < cap → gone ≤ ageOf cap low x → getD ys x 0 ≡ getD xs x 0
 
-  pub same-resent : length (after .resent) ≡ length (r .resent)
-  same-resent = even .resent ∙ same-cap ∙ sym (I .pre .resent)
+module _ (low : ℕ) {cap i : ℕ} (C : Cap cap) (e : i ≡ low % cap) (l : i < cap) where
+  -- the slot of packet a, before the ring's end or behind it
+  place-is : (a : ℕ) → a < cap → ((i + a < cap) × (placeOf cap low a ≡ i + a)) ⊎ ((cap ≤ i + a) × (placeOf cap low a + cap ≡ i + a))
+  place-is a h =
+      let p : placeOf cap low a ≡ (i + a) % cap = place-flat cap C low a ∙ ap (λ (x : ℕ). (x + a) % cap) (sym e) in
+      by-cases (decLt (i + a) cap) (λ y. inl (y, p ∙ mod-eq-of-lt y))
+      (λ n.
+      let g : cap ≤ i + a = omega arith in
+      let s : (i + a) % cap ≡ i + a - cap = mod-eq-sub-mod g ∙ mod-eq-of-lt (omega arith) in
+      inr (g, omega arith))
 
-  pub slot-lt : i < capOf r
-  slot-lt = rw (I .place) (place-lt (capOf r) (caps (I .pre)) low k)
+  -- slot x, by its age
+  slot-is : (x : ℕ) → x < cap → let a = ageOf cap low x in ((i + a < cap) × (x ≡ i + a)) ⊎ ((cap ≤ i + a) × (x + cap ≡ i + a))
+  slot-is x h =
+      let b = place-age cap C low x h in
+      ⊎-elim (λ p. inl (p .0, sym b ∙ p .1)) (λ p. inr (p .0, omega (arith, p .1)))
+      (place-is (ageOf cap low x) (age-lt cap C low x))
 
-  -- the slot, seen from the PSN that is low by then
-  slot-is : i ≡ placeOf (capOf r) (plus low k) 0
-  slot-is = I .place ∙ ap (placeOf (capOf r) low) (sym (add-zero k)) ∙ sym (place-plus (capOf r) low k 0)
+  module _ {gone : ℕ} (few : gone ≤ cap) (xs : List ℕ) where
+    -- one run up to the ring's end ..
+    pub cut-one : {ys : List ℕ} → i + gone ≤ cap → ys ≡ emptied i (i + gone) xs → Cut cap low gone xs ys
+    cut-one fits is =
+        rw is (record {
+          long = empty-long i (i + gone) xs;
+          emptied-at =
+              λ x h a.
+              empty-yes i (i + gone) xs x
+              (⊎-elim (λ p. run-yes i (i + gone) x (omega arith) (omega arith)) (λ p. absurd (omega arith)) (slot-is x h));
+          kept-at =
+              λ x h a.
+              let lt = age-lt cap C low x in
+              empty-no i (i + gone) xs x
+              (⊎-elim (λ p. run-after i (i + gone) x (omega arith)) (λ p. run-before i (i + gone) x (omega arith)) (slot-is x h));
+        })
 
-  -- the run ends at k
-  done : doneRun (drop k (queueOf r low n)) ≡ 0 → Retired r low n k after
-  done e = record { run = omega (arith, I .run); ring-is = I .ring-is }
+    -- .. or one up to it, and one from the ring's start on
+    pub cut-two : {ys zs : List ℕ} → cap < i + gone → ys ≡ emptied i cap xs → zs ≡ emptied 0 (i + gone - cap) ys → Cut cap low gone xs zs
+    cut-two over first second =
+        let end : ℕ = i + gone - cap in
+        rw (second, first) (record {
+          long = empty-long 0 end (emptied i cap xs) ∙ empty-long i cap xs;
+          emptied-at =
+              λ x h a.
+              ⊎-elim
+              (λ p.
+              empty-no 0 end (emptied i cap xs) x (run-after 0 end x (omega arith))
+              ∙ empty-yes i cap xs x (run-yes i cap x (omega arith) h))
+              (λ p. empty-yes 0 end (emptied i cap xs) x (run-yes 0 end x (omega arith) (omega arith)))
+              (slot-is x h);
+          kept-at =
+              λ x h a.
+              let lt = age-lt cap C low x in
+              ⊎-elim
+              (λ p. absurd (omega arith))
+              (λ p.
+              empty-no 0 end (emptied i cap xs) x (run-after 0 end x (omega arith))
+              ∙ empty-no i cap xs x (run-before i cap x (omega arith)))
+              (slot-is x h);
+        })
 
-  pub ends : n ≤ k → Retired r low n k after
-  ends h = done (run-end (queueOf r low n) k (omega (arith, queue-long r low n)))
+-- ---- the ring that is left
 
-  module _ (h : k < n) where
-    in-queue : k < length (queueOf r low n)
-    in-queue = omega (arith, queue-long r low n)
+module _ {m : Memory} {f : Flow} {gone : ℕ} {sizes sent : List ℕ} (S : Standing m f) (b : f .low < psns)
+    (first : gone ≡ lowest (bitOfAge (m .outstanding) (f .low)) (longOf f))
+    (D : Cut (slots m) (f .low) gone (m .sizes) sizes) (E : Cut (slots m) (f .low) gone (m .sent) sent) where
+  abbrev after : Memory
+  after = memory (m .outstanding) (m .marked) sizes sent
 
-    -- the status that the turn reads
-    status-is : getD (after .status) i 0 ≡ getD (queueOf r low n) k noPacket .status
-    unfolding packetAt
-    status-is =
-        ap (λ (x : Packet). x .status)
-        (ap₂ packetAt (I .ring-is) slot-is
-        ∙ laid-at (capOf r) (caps (I .pre)) (plus low k) (drop k (queueOf r low n)) 0 (omega (arith, caps (I .pre) .least))
-        ∙ getD-drop k (queueOf r low n) 0 noPacket
-        ∙ ap (λ (j : ℕ). getD (queueOf r low n) j noPacket) (add-zero k))
+  abbrev new : ℕ
+  new = plus (f .low) gone
 
-    pub stops : (getD (after .status) i 0 ≡ doneStatus → ⊥) → Retired r low n k after
-    stops not = done (run-stop (queueOf r low n) k in-queue (λ e. not (status-is ∙ e)))
+  abbrev xs : List Packet
+  xs = packets f (shown (f .low) (f .next) m)
 
-    cut : drop k (queueOf r low n) ≡ getD (queueOf r low n) k noPacket ∷ drop (k + 1) (queueOf r low n)
-    cut = rw (add-one, drop-cons (queueOf r low n) k noPacket in-queue)
+  gone-le : gone ≤ longOf f
+  gone-le = omega (arith, lowest-le (bitOfAge (m .outstanding) (f .low)) (longOf f))
 
-    pub again : {next : Ring} {j : ℕ} → getD (after .status) i 0 ≡ doneStatus → next ≡ putAt after i noPacket → j ≡ (i + 1) % capOf r
-        → Inv r low n next j (k + 1)
-    again e put ej =
-        record {
-          pre = I .pre;
-          le = omega arith;
-          place = ej ∙ ap (λ (s : ℕ). (s + 1) % capOf r) (I .place) ∙ sym (place-next (capOf r) (caps (I .pre)) low k);
-          run = omega (arith, I .run, run-more (queueOf r low n) k in-queue (sym status-is ∙ e));
-          ring-is =
-              put
-              ∙ ap₂ (λ (a : Ring) (s : ℕ). putAt a s noPacket) (I .ring-is ∙ ap (laid (capOf r) (plus low k)) cut) slot-is
-              ∙ laid-tail (capOf r) (caps (I .pre)) (plus low k) (getD (queueOf r low n) k noPacket) (drop (k + 1) (queueOf r low n))
-              (omega (arith, length-drop (k + 1) (queueOf r low n), queue-long r low n, I .pre .fits))
-              ∙ ap (λ (p : ℕ). laid (capOf r) p (drop (k + 1) (queueOf r low n))) (plus-plus low k 1);
-        }
+  lengths : Lengths after
+  lengths = lengths-kept (S .lengths) (D .long) (E .long)
+
+  words : Words after
+  words = words-kept (S .words)
+
+  -- as many as stand before the first outstanding one are done
+  run-is : gone ≡ doneRun xs
+  run-is =
+      first
+      ∙ sym
+      (run-lowest xs
+      ∙ ap (lowest (λ k. not (isDone (getD xs k noPacket)))) (packets-long f (shown (f .low) (f .next) m))
+      ∙ lowest-same (λ k. not (isDone (getD xs k noPacket))) (bitOfAge (m .outstanding) (f .low)) (longOf f)
+      (λ k h.
+      ap (λ (x : Packet). not (isDone x)) (packet-at S k h ∙ live-shows S k h)
+      ∙ not-done m (placeOf (slots m) (f .low) k) (bitAt (m .outstanding) (placeOf (slots m) (f .low) k))
+      (bitAt (m .marked) (placeOf (slots m) (f .low) k)) (S .marks k h)))
+
+  -- the packets that are left
+  left-long : minus psns (f .next) new + gone ≡ longOf f
+  unfolding longOf
+  left-long = minus-step (f .low) (f .next) gone gone-le
+
+  abbrev aged : ℕ → ℕ
+  aged x = ageOf (slots m) new x
+
+  aged-lt : (x : ℕ) → aged x < slots m
+  aged-lt x = age-lt (slots m) (caps S) new x
+
+  -- slot x is that of packet gone + its new age
+  slot-new : (x : ℕ) → x < slots m → placeOf (slots m) (f .low) (gone + aged x) ≡ x
+  slot-new x h = sym (place-plus (slots m) (f .low) gone (aged x)) ∙ place-age (slots m) (caps S) new x h
+
+  left-at : (x : ℕ) → getD (drop gone xs) (aged x) noPacket ≡ getD xs (gone + aged x) noPacket
+  left-at x = getD-drop gone xs (aged x) noPacket
+
+  none-at : (x : ℕ) → longOf f ≤ gone + aged x → getD (drop gone xs) (aged x) noPacket ≡ noPacket
+  none-at x h = left-at x ∙ List·getD-eq-default xs noPacket (omega (arith, packets-long f (shown (f .low) (f .next) m)))
+
+  shows : (x : ℕ) → x < slots m
+      → packetAt (shown new (f .next) after) x
+      ≡ slotShown after x (inWindow (slots m) new (f .next) x) (bitAt (m .outstanding) x) (bitAt (m .marked) x)
+  shows x h = slot-shows new (f .next) lengths words x h
+
+  -- a slot that is kept
+  module _ (x : ℕ) (h : x < slots m) (k : gone + aged x < slots m) where
+    age-old : ageOf (slots m) (f .low) x ≡ gone + aged x
+    age-old = ap (ageOf (slots m) (f .low)) (sym (slot-new x h)) ∙ age-of S (gone + aged x) k
+
+    same : (live : Bool)
+        → slotShown after x live (bitAt (m .outstanding) x) (bitAt (m .marked) x)
+        ≡ slotShown m x live (bitAt (m .outstanding) x) (bitAt (m .marked) x)
+    same live = rw (D .kept-at x h (omega (arith, age-old)), E .kept-at x h (omega (arith, age-old)))
+
+    kept-live : gone + aged x < longOf f → packetAt (shown new (f .next) after) x ≡ getD (drop gone xs) (aged x) noPacket
+    kept-live n =
+        shows x h
+        ∙ rw (in-window (slots m) new (f .next) x (omega (arith, left-long))) (same true)
+        ∙ ap (λ (y : ℕ). slotShown m y true (bitAt (m .outstanding) y) (bitAt (m .marked) y)) (sym (slot-new x h))
+        ∙ sym (live-shows S (gone + aged x) n)
+        ∙ sym (packet-at S (gone + aged x) n)
+        ∙ sym (left-at x)
+
+    kept-empty : longOf f ≤ gone + aged x → packetAt (shown new (f .next) after) x ≡ getD (drop gone xs) (aged x) noPacket
+    unfolding longOf
+    kept-empty n =
+        shows x h
+        ∙ rw (out-window (slots m) new (f .next) x (omega (arith, left-long))) (same false)
+        ∙ sym
+        (slot-shows (f .low) (f .next) (S .lengths) (S .words) x h
+        ∙ ap (λ (live : Bool). slotShown m x live (bitAt (m .outstanding) x) (bitAt (m .marked) x))
+        (out-window (slots m) (f .low) (f .next) x (omega (arith, age-old))))
+        ∙ ap (packetAt (shown (f .low) (f .next) m)) (sym (slot-new x h))
+        ∙ S .empty (gone + aged x) n k
+        ∙ sym (none-at x n)
+
+  -- a slot that is emptied
+  module _ (x : ℕ) (h : x < slots m) (k : slots m ≤ gone + aged x) where
+    abbrev old : ℕ
+    old = gone + aged x - slots m
+
+    -- it was that of one of the packets that are gone
+    slot-old : placeOf (slots m) (f .low) old ≡ x
+    slot-old =
+        let e : f .low % slots m + old + slots m ≡ f .low % slots m + (gone + aged x) = omega arith in
+        place-flat (slots m) (caps S) (f .low) old
+        ∙ sym (add-mod-right (f .low % slots m + old) (slots m))
+        ∙ ap (λ (y : ℕ). y % slots m) e
+        ∙ sym (place-flat (slots m) (caps S) (f .low) (gone + aged x))
+        ∙ slot-new x h
+
+    old-lt : old < gone
+    old-lt = omega (arith, aged-lt x)
+
+    age-gone : ageOf (slots m) (f .low) x < gone
+    age-gone =
+        let e : ageOf (slots m) (f .low) x ≡ old =
+        ap (ageOf (slots m) (f .low)) (sym slot-old) ∙ age-of S old (omega (arith, old-lt, gone-le, S .fits)) in
+        omega (arith, old-lt)
+
+    no-out : bitAt (m .outstanding) x ≡ false
+    no-out =
+        ap (bitAt (m .outstanding)) (sym slot-old)
+        ∙ lowest-before (bitOfAge (m .outstanding) (f .low)) (longOf f) old (omega (arith, old-lt))
+
+    no-mark : bitAt (m .marked) x ≡ false
+    no-mark = go (bitAt (m .marked) x) refl
+      where
+        go : (c : Bool) → bitAt (m .marked) x ≡ c → c ≡ false
+        go false e = refl
+        go true e =
+            absurd
+            (false≢true
+            (sym no-out
+            ∙ ap (bitAt (m .outstanding)) (sym slot-old)
+            ∙ S .marks old (omega (arith, old-lt, gone-le)) (ap (bitAt (m .marked)) slot-old ∙ e)))
+
+    emptied-slot : packetAt (shown new (f .next) after) x ≡ getD (drop gone xs) (aged x) noPacket
+    unfolding longOf
+    emptied-slot =
+        shows x h
+        ∙ rw (
+          out-window (slots m) new (f .next) x (omega (arith, left-long, S .fits)),
+          no-out,
+          no-mark,
+          D .emptied-at x h age-gone,
+          E .emptied-at x h age-gone,
+        ) nothing
+        ∙ sym (none-at x (omega (arith, S .fits)))
+
+  each-slot : (x : ℕ) → x < slots m → packetAt (shown new (f .next) after) x ≡ getD (drop gone xs) (aged x) noPacket
+  each-slot x h =
+      by-cases (decLt (gone + aged x) (slots m))
+      (λ k.
+      by-cases (decLt (gone + aged x) (longOf f)) (λ n. kept-live x h k n) (λ n. kept-empty x h k (omega arith)))
+      (λ k. emptied-slot x h (omega arith))
+
+  ring-left : shown new (f .next) after ≡ laid (slots m) new (drop gone xs)
+  ring-left =
+      let C = caps S in
+      let e : slots m ≡ slotsOf after = sym (slots-even after lengths) in
+      shown-is new (f .next) after (laid (slots m) new (drop gone xs)) lengths (laid-even (slots m) C new (drop gone xs))
+      (laid-cap (slots m) new (drop gone xs) ∙ e)
+      (λ x l.
+      let n : x < slots m = omega (arith, e) in
+      each-slot x n
+      ∙ sym
+      (ap (packetAt (laid (slots m) new (drop gone xs))) (sym (place-age (slots m) C new x n))
+      ∙ laid-at (slots m) C new (drop gone xs) (aged x) (aged-lt x)))
+
+  pub retires : {n : ℕ} → n ≡ longOf f → Retired (shown (f .low) (f .next) m) (f .low) n gone (shown new (f .next) after)
+  unfolding packets
+  retires e =
+      rw e
+      (record {
+        run = run-is;
+        ring-is = ring-left ∙ ap (λ (c : ℕ). laid c new (drop gone xs)) (sym (even-cap (f .low) (f .next) (S .lengths)));
+      })

@@ -22,15 +22,16 @@ use Rattle.serial.proofs.Cover.{plus-lt}
 use Rattle.ledger.specs.declared.Flow.{Flow}
 use Rattle.ledger.specs.declared.Totals.{Totals}
 use Rattle.ledger.specs.declared.Packet.{Packet}
-use Rattle.ledger.specs.Packets.{flyingStatus, markedStatus, noPacket, withStatus, isFlying, isMarked, isDone, flyingOne, markedOne}
+use Rattle.ledger.specs.Packets.{flyingStatus, markedStatus, noPacket, isFlying, isMarked, isDone, flyingOne, markedOne}
 use Rattle.ledger.specs.Packets.{markedSize, sumOf}
 use Rattle.ledger.specs.Bounds.{sizeLeast, backlogMost, resentMost, Flown}
-use Rattle.ledger.specs.Ring.{Ring, ring, Ledger, ledger, capOf, putAt, placeOf, laid, longOf, packets, offsetOf, packetOf}
+use Rattle.ledger.specs.Ring.{Ring, Ledger, ledger, capOf, putAt, placeOf, laid, longOf, packets, offsetOf, packetOf}
+use Rattle.ledger.specs.Memory.{sizeEnd}
 use Rattle.ledger.specs.Sound.{stands, soundLedger, SoundLedger}
 use Rattle.ledger.specs.Steps.{changed, supplyOf, newPacket, pushOf, resentPacket, resendOf}
 use Rattle.ledger.specs.Rows.{newRows, resendRows}
 use Rattle.ledger.proofs.Walks.{sum-append, sum-one, sum-set, sum-at-le}
-use Rattle.ledger.proofs.Geometry.{cap-facts, place-psn, laid-put, laid-snoc, laid-status}
+use Rattle.ledger.proofs.Geometry.{cap-facts, place-psn, laid-put, laid-snoc}
 use Rattle.ledger.proofs.Facts.{
   Live,
   Facts,
@@ -88,7 +89,7 @@ module _ (mtu clock : ℕ) (f : Flow) (r : Ring) (F : Facts mtu clock f r) (psn 
   unfolding packetOf
   found-le adds = sum-at-le adds (packets f r) (offsetOf f psn) within
 
-  -- its slot overwritten, and its status alone
+  -- its slot overwritten
   module _ (fits : psn < psns) (i : ℕ) (e : i ≡ psn % capOf r) where
     here : i ≡ placeOf (capOf r) (f .low) (offsetOf f psn)
     unfolding offsetOf
@@ -100,14 +101,6 @@ module _ (mtu clock : ℕ) (f : Flow) (r : Ring) (F : Facts mtu clock f r) (psn 
         ap (λ (s : Ring). putAt s i y) (F .laid-so)
         ∙ ap (λ (j : ℕ). putAt (laid (capOf r) (f .low) (packets f r)) j y) here
         ∙ laid-put (capOf r) (cap-facts (capOf r) (F .cap)) (f .low) (packets f r) (offsetOf f psn) y within fit
-
-    pub status-changed : (s : ℕ) → ring (set (r .status) i s) (r .size) (r .sent) (r .resent)
-        ≡ changed f r psn (withStatus s (packetOf f r psn))
-    unfolding changed packetOf
-    status-changed s =
-        ap (λ (q : Ring). ring (set (q .status) i s) (q .size) (q .sent) (q .resent)) (F .laid-so)
-        ∙ ap (λ (j : ℕ). let q = laid (capOf r) (f .low) (packets f r) in ring (set (q .status) j s) (q .size) (q .sent) (q .resent)) here
-        ∙ laid-status (capOf r) (cap-facts (capOf r) (F .cap)) (f .low) (packets f r) (offsetOf f psn) s within fit
 
   module _ (y : Packet) where
     changed-packets : packets f (changed f r psn y) ≡ set (packets f r) (offsetOf f psn) y
@@ -193,7 +186,7 @@ new-room mtu clock f r F psn size e =
     (n .1, by-cases (decLt (longOf f) (capOf r)) (λ l. l) (λ g. absurd (n .2 (omega (arith, F .fits)))))
 
 -- one PSN more
-long-more : (low next : ℕ) → minus psns next low < 4096 → minus psns (plus next 1) low ≡ minus psns next low + 1
+pub long-more : (low next : ℕ) → minus psns next low < 4096 → minus psns (plus next 1) low ≡ minus psns next low + 1
 unfolding plus
 long-more low next few =
     sym
@@ -333,7 +326,11 @@ pub record Resendable (l : Ledger) (x : Packet) : Type 0 where
   pub resent : x .resent ≤ resentMost
   pub one : 1 ≤ l .totals .marked
   pub bytes : x .size ≤ l .totals .«marked_bytes»
-  pub small : x .size < 2 ^ 32
+  pub small : x .size < sizeEnd
+
+pub resend-some : (l : Ledger) (psn : ℕ) → isMarked (packetOf (l .flow) (l .slots) psn) ≡ true → (x : Packet)
+    → x ≡ packetOf (l .flow) (l .slots) psn → 0 < x .status
+resend-some l psn m x e = rw e (omega (arith, waits (packetOf (l .flow) (l .slots) psn) m))
 
 module _ (l : Ledger) (c : SoundLedger l) (psn : ℕ) (m : isMarked (packetOf (l .flow) (l .slots) psn) ≡ true) (x : Packet)
     (e : x ≡ packetOf (l .flow) (l .slots) psn) where

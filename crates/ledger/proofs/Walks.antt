@@ -40,7 +40,7 @@ module _ (f : ℕ → Bool) where
   all-of (suc n) h = whole (all-of n (λ k l. h k (omega arith))) (h n (le-refl (suc n)))
 
 -- a test that agrees at each of them
-all-same : (f g : ℕ → Bool) (n : ℕ) → ((k : ℕ) → k < n → f k ≡ g k) → allTo f n ≡ allTo g n
+pub all-same : (f g : ℕ → Bool) (n : ℕ) → ((k : ℕ) → k < n → f k ≡ g k) → allTo f n ≡ allTo g n
 unfolding allTo
 all-same f g zero h = refl
 all-same f g (suc n) h = rw (all-same f g n (λ k l. h k (omega arith)), h n (le-refl (suc n)))

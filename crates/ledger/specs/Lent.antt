@@ -1,10 +1,10 @@
--- The lent ring as contracts name it: the four slices as they are given, before the call and after it.
+-- The ring's memory as contracts name it: the four lent slices as they are given, before the call and after it.
 -- Assumes nothing.
 use mathlib.Core.List.{List}
 use Prim.Native.Nat.{ℕ}
 use denote.Ref.{RefT}
 use denote.Triple.Both.{Both}
-use Rattle.ledger.specs.Ring.{Ring, ring}
+use Rattle.ledger.specs.Memory.{Memory, memory}
 
 -- a slice, as a `requires` sees it
 abbrev pub Slice : Type 0
@@ -14,11 +14,11 @@ Slice = RefT (List ℕ)
 abbrev pub LentSlice : Type 0
 LentSlice = Both Slice Slice
 
-abbrev pub ringGiven : Slice → Slice → Slice → Slice → Ring
-ringGiven status size sent resent = ring (status .now) (size .now) (sent .now) (resent .now)
+abbrev pub memoryGiven : Slice → Slice → Slice → Slice → Memory
+memoryGiven outstanding marked sizes sent = memory (outstanding .now) (marked .now) (sizes .now) (sent .now)
 
-abbrev pub ringBefore : LentSlice → LentSlice → LentSlice → LentSlice → Ring
-ringBefore status size sent resent = ringGiven (status .entry) (size .entry) (sent .entry) (resent .entry)
+abbrev pub memoryBefore : LentSlice → LentSlice → LentSlice → LentSlice → Memory
+memoryBefore outstanding marked sizes sent = memoryGiven (outstanding .entry) (marked .entry) (sizes .entry) (sent .entry)
 
-abbrev pub ringAfter : LentSlice → LentSlice → LentSlice → LentSlice → Ring
-ringAfter status size sent resent = ringGiven (status .exit) (size .exit) (sent .exit) (resent .exit)
+abbrev pub memoryAfter : LentSlice → LentSlice → LentSlice → LentSlice → Memory
+memoryAfter outstanding marked sizes sent = memoryGiven (outstanding .exit) (marked .exit) (sizes .exit) (sent .exit)

@@ -5,17 +5,19 @@
 -- Assumes nothing.
 use mathlib.Core.Bool.{Bool, true, not, _&&_, _||_}
 use mathlib.Core.List.{List}
-use Prim.Native.Nat.{ℕ, zero, suc, _^_, _≤_, _<_}
+use Prim.Native.Nat.{ℕ, zero, suc, _*_, _^_, _≤_, _<_}
 use mathlib.Core.Path.{_≡_}
 use lib.ListN.{length}
 use lib.Dec.{leb, ltb, eqb}
 use Rattle.rules.specs.Branch.{ifLt}
 use Rattle.rules.specs.Test.{inside}
+use Rattle.bits.specs.Bits.{wordBits, bitAt}
 use Rattle.serial.specs.Psn.{psns}
 use Rattle.serial.specs.Count.{counts}
 use Rattle.ledger.specs.Packets.{flyingStatus, doneStatus, isDone, flyingOne, markedOne, markedSize, sumOf}
 use Rattle.ledger.specs.Bounds.{sizeLeast, resentMost, backlogMost, inBounds, Flown}
-use Rattle.ledger.specs.Ring.{Ring, Ledger, capOf, packetAt, placeOf, longOf, queueOf, packets}
+use Rattle.ledger.specs.Ring.{Ring, Ledger, capOf, packetAt, placeOf, longOf, packets}
+use Rattle.ledger.specs.Memory.{Memory, slotsOf, inWindow}
 use Rattle.ledger.specs.declared.Flow.{Flow}
 use Rattle.ledger.specs.declared.Totals.{Totals}
 use Rattle.ledger.specs.declared.Packet.{Packet}
@@ -36,6 +38,19 @@ isRing r =
     && eqb (length (r .size)) (capOf r)
     && eqb (length (r .sent)) (capOf r)
     && eqb (length (r .resent)) (capOf r)
+
+-- the same of the memory: as many slots of each kind as there are bits
+unfoldable pub isEven : Memory → Bool
+isEven m = isCapacity (slotsOf m) && eqb (length (m .sizes)) (slotsOf m) && eqb (length (m .sent)) (slotsOf m)
+
+-- the bits, in the words of number 2 over the memory: "a marked bit without an outstanding one, or a bit outside low..next-1" is none
+unfoldable pub bitsAt : ℕ → ℕ → Memory → ℕ → Bool
+bitsAt low next m i =
+    not (bitAt (m .marked) i && not (bitAt (m .outstanding) i))
+    && (inWindow (slotsOf m) low next i || not (bitAt (m .outstanding) i || bitAt (m .marked) i))
+
+unfoldable pub bitsOk : ℕ → ℕ → Memory → Bool
+bitsOk low next m = allTo (bitsAt low next m) (slotsOf m)
 
 -- a slot in low..next-1
 unfoldable pub isLive : ℕ → ℕ → Packet → Bool
@@ -92,6 +107,13 @@ pub record Even (r : Ring) : Type 0 where
   pub sent : length (r .sent) ≡ capOf r
   pub resent : length (r .resent) ≡ capOf r
 
+-- a memory of even lengths, as facts
+pub record Lengths (m : Memory) : Type 0 where
+  pub cap : isCapacity (length (m .outstanding) * wordBits) ≡ true
+  pub marked : length (m .marked) ≡ length (m .outstanding)
+  pub sizes : length (m .sizes) ≡ length (m .outstanding) * wordBits
+  pub sent : length (m .sent) ≡ length (m .outstanding) * wordBits
+
 -- What a step relies on, for some settings and clock: the flow and its ring hold together, the totals are at least those of its packets and
 -- leave room, and in-flight is in its bounds. (At least and not equal: the totals may be over other packets too.)
 pub record SoundLedger (l : Ledger) : Type 0 where
@@ -108,10 +130,3 @@ pub record SoundLedger (l : Ledger) : Type 0 where
   pub bytes-least : sumOf markedSize (packets (l .flow) (l .slots)) ≤ l .totals .«marked_bytes»
   pub bytes-most : l .totals .«marked_bytes» < 2 ^ 62
   pub flown : Flown maxwnd (l .totals .«in_flight»)
-
--- what one walk over the n packets from low on finds
-pub record Tallied (mtu clock : ℕ) (r : Ring) (low n : ℕ) (sound : Bool) (flying marked bytes : ℕ) : Type 0 where
-  pub sound-is : sound ≡ allTo (slotOk mtu clock r low n) n
-  pub flying-is : flying ≡ sumOf flyingOne (queueOf r low n)
-  pub marked-is : marked ≡ sumOf markedOne (queueOf r low n)
-  pub bytes-is : bytes ≡ sumOf markedSize (queueOf r low n)

@@ -1,194 +1,132 @@
-// An ACK's ledger step: what it covers is done, done packets at the front leave the ring, the count is taken in.
+// An ACK's ledger step: what it covers is done, done packets at the front leave the ring, the count is taken in. The packets are looked at
+// 64 at a time, those of one word of the bits.
 use crate::Books;
 use crate::Flow;
-use crate::Packet;
 use crate::Totals;
 use crate::judge::less;
 use crate::judge::newly;
-use crate::slots::after;
+use crate::seek::front;
 use crate::slots::long;
 use crate::slots::place;
-use crate::slots::write;
+use crate::stretch::bytes_in;
 ghost use mathlib.Core.Path.{_≡_};
-ghost use mathlib.Core.Bool.{_&&_, _||_};
-ghost use Prim.Native.Nat.{_+_, _-_, _≤_};
-ghost use lib.Dec.{eqb};
+ghost use Prim.Native.Nat.{_+_, _-_, _*_, _≤_, _<_};
+ghost use lib.ListN.{length, set, getD};
 ghost use Rattle.rules.specs.Rows.{firstOf};
-ghost use Rattle.serial.specs.Psn.{covered};
-ghost use Rattle.ledger.specs.Lent.{ringGiven, ringBefore, ringAfter};
-ghost use Rattle.ledger.specs.Packets.{flyingStatus, markedStatus};
-ghost use Rattle.ledger.specs.Ring.{ring, ledger};
+ghost use Rattle.bits.specs.Bits.{wordBits, without};
+ghost use Rattle.serial.specs.Psn.{plus};
+ghost use Rattle.ledger.specs.Lent.{memoryGiven, memoryBefore, memoryAfter};
+ghost use Rattle.ledger.specs.Memory.{shown, ledgerShown, kept, keptOf};
+ghost use Rattle.ledger.specs.Ring.{longOf};
 ghost use Rattle.ledger.specs.Sound.{SoundLedger};
 ghost use Rattle.ledger.specs.Steps.{heldOf, acknowledgeOf};
 ghost use Rattle.ledger.specs.Rows.{ackRows};
-ghost use Rattle.ledger.specs.Delivery.{Laid, Cover, Covered, Run, Spent, Onward, Retired};
+ghost use Rattle.ledger.specs.Delivery.{lessened, Counted, emptied, Standing, Reached, Covered, Retired};
 
-// Whether an ACK delivers a packet: "Covered flying or marked packets become done". The status is asked first: most slots of a walk are
-// done, and coverage need not be worked out for them.
-fn delivers(status: u8, cum: u32, map: u64, psn: u32) -> bool
-    ensures { λ r. ⌜ r ≡ ((eqb status flyingStatus || eqb status markedStatus) && covered cum map psn) ⌝ }
-{
-    if (status == crate::FLYING) | (status == crate::MARKED) {
-        return serial::covers(cum, map, psn);
-    }
-    false
-}
-
-// The packets in the slots from..to-1, which lie beside each other; the first comes k after low. What is covered leaves the totals. Of the
-// packets before the run none is to be delivered, and after it none of its own; what then covers the rest covers all.
-fn cover_run<'a, 'b>(
-    status: &'a mut [u8],
-    size: &'b [u32],
-    sent: &'b [u64],
-    resent: &'b [u8],
-    flow: Flow,
-    reach: u32,
-    k: u32,
-    from: usize,
-    to: usize,
-    cum: u32,
-    map: u64,
+// The packets of word q that the mask covers are done, and have left the totals.
+fn cover_word<'a, 'b, 'c>(
+    outstanding: &'a mut [u64],
+    marked: &'b mut [u64],
+    sizes: &'c [u32],
+    q: usize,
+    mask: u64,
     totals: Totals,
 ) -> Totals
-    requires { ⌜ Cover (ledger flow totals (ringGiven status size sent resent)) reach cum map ⌝ }
-    requires { ⌜ Run (ledger flow totals (ringGiven status size sent resent)) reach k from to ⌝ }
-    requires { ⌜ Spent (ledger flow totals (ringGiven status size sent resent)) cum map k ⌝ }
-    ensures { λ r. ⌜ Cover (ledger flow r (ringAfter status size sent resent)) reach cum map ⌝ }
-    ensures { λ r. ⌜ Spent (ledger flow r (ringAfter status size sent resent)) cum map (k + (to - from)) ⌝ }
-    ensures { λ r. ⌜ Onward (ledger flow totals (ringBefore status size sent resent)) (ledger flow r (ringAfter status size sent resent))
-        cum map ⌝ }
+    requires { ⌜ (q < length (now outstanding)) × (q < length (now marked)) × ((q + 1) * wordBits ≤ length (now sizes)) × (q < wordBits) ⌝ }
+    requires { ⌜ Counted (getD (now outstanding) q 0) (getD (now marked) q 0) mask (now sizes) q totals ⌝ }
+    ensures { λ r. ⌜ (now (outstanding .exit) ≡ set (now (outstanding .entry)) q (without (getD (now (outstanding .entry)) q 0) mask))
+        × (now (marked .exit) ≡ set (now (marked .entry)) q (without (getD (now (marked .entry)) q 0) mask)) ⌝ }
+    ensures { λ r. ⌜ r ≡ lessened (getD (now (outstanding .entry)) q 0) (getD (now (marked .entry)) q 0) mask (now (sizes .entry)) q
+        totals ⌝ }
 {
-    let mut flying = totals.flying;
-    let mut marked = totals.marked;
-    let mut marked_bytes = totals.marked_bytes;
-    let mut i = from;
-    while i < to {
-        let s = status[i];
-        if delivers(
-            s,
-            cum,
-            map,
-            serial::psn_plus(flow.low, k + (i - from) as u32),
-        ) {
-            if s == crate::MARKED {
-                marked -= 1;
-                marked_bytes -= size[i] as u64;
-            } else {
-                flying -= 1;
-            }
-            status[i] = crate::DONE;
-        }
-        i += 1;
-    }
+    let out = outstanding[q];
+    let mark = marked[q];
+    let waiting = bits::count(mark, mask);
+    let flying = totals.flying;
+    let marks = totals.marked;
+    let marked_bytes = totals.marked_bytes;
+    outstanding[q] = bits::clear(out, mask);
+    marked[q] = bits::clear(mark, mask);
     Totals {
-        flying,
-        marked,
-        marked_bytes,
+        flying: flying - (bits::count(out, mask) - waiting),
+        marked: marks - waiting,
+        marked_bytes: marked_bytes - bytes_in(sizes, q, mark & mask),
         in_flight: totals.in_flight,
     }
 }
 
-// The first `reach` packets from low on are looked at; the ACK covers none beyond. What is covered leaves the totals. The slots from that
-// of low to the ring's end are one run, those from slot 0 on the other: no index wraps in a loop.
-fn cover<'a, 'b>(
-    status: &'a mut [u8],
-    size: &'b [u32],
-    sent: &'b [u64],
-    resent: &'b [u8],
+// The first `far` packets from low on are looked at, a word at a time; the ACK covers none beyond. What is covered leaves the totals.
+fn cover<'a, 'b, 'c>(
+    outstanding: &'a mut [u64],
+    marked: &'b mut [u64],
+    sizes: &'c [u32],
+    sent: &'c [u64],
     flow: Flow,
-    reach: u32,
+    far: u32,
     cum: u32,
     map: u64,
     totals: Totals,
 ) -> Totals
-    requires { ⌜ Cover (ledger flow totals (ringGiven status size sent resent)) reach cum map ⌝ }
-    ensures { λ r. ⌜ Covered (ledger flow totals (ringBefore status size sent resent)) cum map r (ringAfter status size sent resent) ⌝ }
+    requires { ⌜ Standing (memoryGiven outstanding marked sizes sent) flow ⌝ }
+    requires { ⌜ Reached (memoryGiven outstanding marked sizes sent) flow totals far cum map ⌝ }
+    ensures { λ r. ⌜ Standing (memoryAfter outstanding marked sizes sent) flow ⌝ }
+    ensures { λ r. ⌜ Covered (ledgerShown flow totals (memoryBefore outstanding marked sizes sent)) cum map r
+        (shown (flow .low) (flow .next) (memoryAfter outstanding marked sizes sent)) ⌝ }
 {
-    let cap = status.len();
-    let i = place(cap, flow.low);
-    let end = i + reach as usize;
-    if end <= cap {
-        return cover_run(
-            status,
-            size,
-            sent,
-            resent,
-            flow,
-            reach,
-            0,
-            i,
-            end,
-            cum,
-            map,
-            totals,
-        );
+    let cap = sent.len();
+    let mut left = totals;
+    let mut k: u32 = 0;
+    while k < far {
+        let psn = serial::psn_plus(flow.low, k);
+        let i = place(cap, psn);
+        let r = i % bits::WORD_BITS;
+        let mask = serial::covered_word(cum, map, psn) << r;
+        left = cover_word(outstanding, marked, sizes, i / bits::WORD_BITS, mask, left);
+        k += (bits::WORD_BITS - r) as u32;
     }
-    let left = cover_run(
-        status,
-        size,
-        sent,
-        resent,
-        flow,
-        reach,
-        0,
-        i,
-        cap,
-        cum,
-        map,
-        totals,
-    );
-    cover_run(
-        status,
-        size,
-        sent,
-        resent,
-        flow,
-        reach,
-        (cap - i) as u32,
-        0,
-        end - cap,
-        cum,
-        map,
-        left,
-    )
+    left
 }
 
-// The done packets at the front leave the ring, at most n; how many.
-fn retire<'a, 'b, 'c, 'd>(
-    status: &'a mut [u8],
-    size: &'b mut [u32],
+// The slots from..to-1 become zero.
+fn empty_run<'a, 'b>(sizes: &'a mut [u32], sent: &'b mut [u64], from: usize, to: usize)
+    requires { ⌜ (from ≤ to) × (to ≤ length (now sizes)) × (to ≤ length (now sent)) ⌝ }
+    ensures { λ _. ⌜ (now (sizes .exit) ≡ emptied from to (now (sizes .entry)))
+        × (now (sent .exit) ≡ emptied from to (now (sent .entry))) ⌝ }
+{
+    let mut i = from;
+    while i < to {
+        sizes[i] = 0;
+        sent[i] = 0;
+        i += 1;
+    }
+}
+
+// The done packets at the front leave the ring, at most n; how many. Their slots lie in one run, or in one up to the ring's end and one
+// from its start on.
+fn retire<'a, 'b, 'c>(
+    outstanding: &'a [u64],
+    marked: &'a [u64],
+    sizes: &'b mut [u32],
     sent: &'c mut [u64],
-    resent: &'d mut [u8],
-    low: u32,
+    flow: Flow,
     n: u32,
 ) -> u32
-    requires { ⌜ Laid (ringGiven status size sent resent) low n ⌝ }
-    ensures { λ r. ⌜ Retired (ringBefore status size sent resent) low n r (ringAfter status size sent resent) ⌝ }
+    requires { ⌜ n ≡ longOf flow ⌝ }
+    requires { ⌜ Standing (memoryGiven outstanding marked sizes sent) flow ⌝ }
+    ensures { λ r. ⌜ Retired (shown (flow .low) (flow .next) (memoryBefore outstanding marked sizes sent)) (flow .low) n r
+        (shown (plus (flow .low) r) (flow .next) (memoryAfter outstanding marked sizes sent)) ⌝ }
 {
-    let cap = status.len();
-    let mut i = place(cap, low);
-    let mut k: u32 = 0;
-    while k < n {
-        if status[i] != crate::DONE {
-            return k;
-        }
-        k += 1;
-        write(
-            status,
-            size,
-            sent,
-            resent,
-            i,
-            Packet {
-                status: crate::EMPTY,
-                size: 0,
-                sent: 0,
-                resent: 0,
-            },
-        );
-        i = after(cap, i);
+    let gone = front(outstanding, flow.low, n);
+    let cap = sent.len();
+    let i = place(cap, flow.low);
+    let end = i + gone as usize;
+    if end <= cap {
+        empty_run(sizes, sent, i, end);
+        return gone;
     }
-    k
+    empty_run(sizes, sent, i, cap);
+    empty_run(sizes, sent, 0, end - cap);
+    gone
 }
 
 // How many packets from low on an ACK can cover: none beyond the one of its highest set bit.
@@ -218,15 +156,15 @@ pub fn acknowledge<'a, 'b, 'c, 'd>(
     map: u64,
     count: u32,
     books: Books,
-    status: &'a mut [u8],
-    size: &'b mut [u32],
-    sent: &'c mut [u64],
-    resent: &'d mut [u8],
+    outstanding: &'a mut [u64],
+    marked: &'b mut [u64],
+    sizes: &'c mut [u32],
+    sent: &'d mut [u64],
 ) -> Books
-    requires { ⌜ SoundLedger (ledger (books .flow) (books .totals) (ringGiven status size sent resent)) ⌝ }
+    requires { ⌜ SoundLedger (ledgerShown (books .flow) (books .totals) (memoryGiven outstanding marked sizes sent)) ⌝ }
     requires { ⌜ firstOf (ackRows (books .flow) (books .totals .«in_flight») cum map count) ≡ 0 ⌝ }
-    ensures { λ r. ⌜ ledger (r .flow) (r .totals) (ringAfter status size sent resent)
-        ≡ acknowledgeOf cum map count (ledger (books .flow) (books .totals) (ringBefore status size sent resent)) ⌝ }
+    ensures { λ r. ⌜ kept (r .flow) (r .totals) (memoryAfter outstanding marked sizes sent)
+        ≡ keptOf (acknowledgeOf cum map count (ledgerShown (books .flow) (books .totals) (memoryBefore outstanding marked sizes sent))) ⌝ }
 {
     let mut flow = books.flow;
     let low = flow.low;
@@ -234,17 +172,17 @@ pub fn acknowledge<'a, 'b, 'c, 'd>(
     let n = long(flow);
     let far = reach(n, serial::back(flow.next, cum), serial::span(map));
     let mut totals = cover(
-        status,
-        size,
+        outstanding,
+        marked,
+        sizes,
         sent,
-        resent,
         flow,
         far,
         cum,
         map,
         books.totals,
     );
-    let gone = retire(status, size, sent, resent, low, n);
+    let gone = retire(outstanding, marked, sizes, sent, flow, n);
     totals.in_flight = less(totals.in_flight, newly(count, held));
     flow.low = serial::psn_plus(low, gone);
     flow.held = held_after(count, held);

@@ -10,9 +10,10 @@ ghost use Prim.Native.Nat.{_<_, _*_, _^_};
 ghost use lib.IntN.{pos, _-ℤ_};
 ghost use Rattle.rules.specs.Rows.{firstOf};
 ghost use Rattle.rules.specs.Verdict.{numberOf};
-ghost use Rattle.ledger.specs.Lent.{ringGiven, ringBefore};
+ghost use Rattle.ledger.specs.Lent.{memoryGiven, memoryBefore};
+ghost use Rattle.ledger.specs.Memory.{shown};
 ghost use Rattle.ledger.specs.Bounds.{sinks, Flown};
-ghost use Rattle.ledger.specs.Sound.{Even};
+ghost use Rattle.ledger.specs.Sound.{Lengths};
 ghost use Rattle.ledger.specs.Steps.{newlyOf};
 ghost use Rattle.ledger.specs.Rows.{newRows, resendRows, ackRows, markRows};
 
@@ -62,17 +63,18 @@ pub fn judge_new(flow: Flow, cap: usize, psn: u32, size: u32) -> Verdict
 // A resend: 8.
 pub fn judge_resend<'a>(
     flow: Flow,
-    status: &'a [u8],
-    size: &'a [u32],
+    outstanding: &'a [u64],
+    marked: &'a [u64],
+    sizes: &'a [u32],
     sent: &'a [u64],
-    resent: &'a [u8],
     psn: u32,
     bytes: u32,
 ) -> Verdict
-    requires { ⌜ Even (ringGiven status size sent resent) ⌝ }
-    ensures { λ r. ⌜ numberOf r ≡ firstOf (resendRows flow (ringBefore status size sent resent) psn bytes) ⌝ }
+    requires { ⌜ Lengths (memoryGiven outstanding marked sizes sent) ⌝ }
+    ensures { λ r. ⌜ numberOf r
+        ≡ firstOf (resendRows flow (shown (flow .low) (flow .next) (memoryBefore outstanding marked sizes sent)) psn bytes) ⌝ }
 {
-    let x = find(flow, status, size, sent, resent, psn);
+    let x = find(flow, outstanding, marked, sizes, sent, psn);
     if (x.status != crate::MARKED) | (bytes != x.size) {
         return Verdict::WrongPsn;
     }
@@ -98,19 +100,20 @@ pub fn judge_ack(books: Books, cum: u32, map: u64, count: u32) -> Verdict
 // A NACK or a loss: 10, 11.
 pub fn judge_mark<'a>(
     books: Books,
-    status: &'a [u8],
-    size: &'a [u32],
+    outstanding: &'a [u64],
+    marked: &'a [u64],
+    sizes: &'a [u32],
     sent: &'a [u64],
-    resent: &'a [u8],
     psn: u32,
 ) -> Verdict
-    requires { ⌜ Even (ringGiven status size sent resent) ⌝ }
+    requires { ⌜ Lengths (memoryGiven outstanding marked sizes sent) ⌝ }
     requires { ⌜ Flown (2 ^ 26) (books .totals .«in_flight») ⌝ }
-    ensures { λ r. ⌜ numberOf r ≡ firstOf (markRows (books .flow) (books .totals .«in_flight») (ringBefore status size sent resent) psn) ⌝ }
+    ensures { λ r. ⌜ numberOf r ≡ firstOf (markRows (books .flow) (books .totals .«in_flight»)
+        (shown (books .flow .low) (books .flow .next) (memoryBefore outstanding marked sizes sent)) psn) ⌝ }
 {
     let flow = books.flow;
     let totals = books.totals;
-    let x = find(flow, status, size, sent, resent, psn);
+    let x = find(flow, outstanding, marked, sizes, sent, psn);
     if x.status != crate::FLYING {
         return Verdict::NotFlying;
     }

@@ -1,14 +1,15 @@
-// The ledger of sent packets: document 01, "The ledger". The ring is lent as four slices of one length: a slot's status, size, send time
-// and resend count; PSN p lives at p mod capacity.
+// The ledger of sent packets: document 01, "The ledger". The ring is lent as four slices (request M-109): a bit a slot of those outstanding
+// and one of those marked, in words of 64; a slot's size and resend count in one number; its send time. PSN p lives at p mod capacity.
 pub mod deliver;
 pub mod judge;
 pub mod mark;
+pub mod seek;
 pub mod send;
 pub mod slots;
 pub mod sound;
 mod stretch;
 
-// The status of a slot.
+// The status that a slot shows.
 pub const EMPTY: u8 = 0;
 
 pub const FLYING: u8 = 1;
@@ -17,11 +18,17 @@ pub const MARKED: u8 = 2;
 
 pub const DONE: u8 = 3;
 
+// A marked bit without an outstanding one: no slot's status.
+pub const NO_STATUS: u8 = 4;
+
+// A slot's size and resend count are one number: size + 2^16 · resends.
+pub const SIZE_END: u32 = 65536;
+
 // "Size outside 41..MTU": the smallest packet.
 pub const SIZE_LEAST: u32 = 41;
 
 // "A resend count over 2" does not hold together: the count stops at 2.
-pub const RESENT_MOST: u8 = 2;
+pub const RESENT_MOST: u32 = 2;
 
 // "Backlog at most 2^40."
 pub const BACKLOG_MOST: u64 = 1 << 40;
@@ -59,5 +66,5 @@ pub struct Packet {
     pub status: u8,
     pub size: u32,
     pub sent: u64,
-    pub resent: u8,
+    pub resent: u32,
 }

@@ -1,18 +1,18 @@
 // New data, a new packet, and a resend. Inner steps: the caller proves that the ledger holds together and that no row refuses the event.
 use crate::Books;
 use crate::Flow;
-use crate::Packet;
 use crate::slots::find;
+use crate::slots::fly;
 use crate::slots::place;
-use crate::slots::write;
 ghost use mathlib.Core.Path.{_≡_};
 ghost use mathlib.Core.Bool.{true};
 ghost use Prim.Native.Nat.{_+_, _≤_, _<_, _^_, min};
 ghost use lib.IntN.{pos, _+ℤ_};
-ghost use Rattle.ledger.specs.Lent.{ringGiven, ringBefore, ringAfter};
+ghost use Rattle.ledger.specs.Lent.{memoryGiven, memoryBefore, memoryAfter};
+ghost use Rattle.ledger.specs.Memory.{sizeEnd, slotsOf, shown, ledgerShown, kept, keptOf};
 ghost use Rattle.ledger.specs.Packets.{isMarked};
 ghost use Rattle.ledger.specs.Bounds.{backlogMost, resentMost, Flown};
-ghost use Rattle.ledger.specs.Ring.{ledger, capOf, longOf, packetOf};
+ghost use Rattle.ledger.specs.Ring.{longOf, packetOf};
 ghost use Rattle.ledger.specs.Sound.{SoundLedger};
 ghost use Rattle.ledger.specs.Steps.{supplyOf, pushOf, resendOf};
 
@@ -41,35 +41,24 @@ pub fn push<'a, 'b, 'c, 'd>(
     time: u64,
     bytes: u32,
     books: Books,
-    status: &'a mut [u8],
-    size: &'b mut [u32],
-    sent: &'c mut [u64],
-    resent: &'d mut [u8],
+    outstanding: &'a mut [u64],
+    marked: &'b mut [u64],
+    sizes: &'c mut [u32],
+    sent: &'d mut [u64],
 ) -> Books
-    requires { ⌜ SoundLedger (ledger (books .flow) (books .totals) (ringGiven status size sent resent)) ⌝ }
-    requires { ⌜ (bytes ≤ books .flow .backlog) × (longOf (books .flow) < capOf (ringGiven status size sent resent)) ⌝ }
-    ensures { λ r. ⌜ ledger (r .flow) (r .totals) (ringAfter status size sent resent)
-        ≡ pushOf time bytes (ledger (books .flow) (books .totals) (ringBefore status size sent resent)) ⌝ }
+    requires { ⌜ SoundLedger (ledgerShown (books .flow) (books .totals) (memoryGiven outstanding marked sizes sent)) ⌝ }
+    requires { ⌜ (bytes ≤ books .flow .backlog) × (bytes < sizeEnd) ⌝ }
+    requires { ⌜ longOf (books .flow) < slotsOf (memoryGiven outstanding marked sizes sent) ⌝ }
+    ensures { λ r. ⌜ kept (r .flow) (r .totals) (memoryAfter outstanding marked sizes sent)
+        ≡ keptOf (pushOf time bytes (ledgerShown (books .flow) (books .totals) (memoryBefore outstanding marked sizes sent))) ⌝ }
 {
     let mut flow = books.flow;
     let mut totals = books.totals;
     let next = flow.next;
     let backlog = flow.backlog;
     let flying = totals.flying;
-    let i = place(status.len(), next);
-    write(
-        status,
-        size,
-        sent,
-        resent,
-        i,
-        Packet {
-            status: crate::FLYING,
-            size: bytes,
-            sent: time,
-            resent: 0,
-        },
-    );
+    let i = place(sent.len(), next);
+    fly(outstanding, marked, sizes, sent, i, bytes, 0, time);
     flow.next = serial::psn_plus(next, 1);
     flow.backlog = backlog - bytes as u64;
     totals.flying = flying + 1;
@@ -78,7 +67,7 @@ pub fn push<'a, 'b, 'c, 'd>(
 }
 
 // The resend count, up by one and stopping at 2.
-fn once_more(resent: u8) -> u8
+fn once_more(resent: u32) -> u32
     requires { ⌜ resent ≤ resentMost ⌝ }
     ensures { λ r. ⌜ r ≡ min (resent + 1) resentMost ⌝ }
 {
@@ -93,39 +82,38 @@ pub fn resend<'a, 'b, 'c, 'd>(
     time: u64,
     psn: u32,
     books: Books,
-    status: &'a mut [u8],
-    size: &'b mut [u32],
-    sent: &'c mut [u64],
-    resent: &'d mut [u8],
+    outstanding: &'a mut [u64],
+    marked: &'b mut [u64],
+    sizes: &'c mut [u32],
+    sent: &'d mut [u64],
 ) -> Books
-    requires { ⌜ SoundLedger (ledger (books .flow) (books .totals) (ringGiven status size sent resent)) ⌝ }
-    requires { ⌜ isMarked (packetOf (books .flow) (ringGiven status size sent resent) psn) ≡ true ⌝ }
-    ensures { λ r. ⌜ ledger (r .flow) (r .totals) (ringAfter status size sent resent)
-        ≡ resendOf time psn (ledger (books .flow) (books .totals) (ringBefore status size sent resent)) ⌝ }
+    requires { ⌜ SoundLedger (ledgerShown (books .flow) (books .totals) (memoryGiven outstanding marked sizes sent)) ⌝ }
+    requires { ⌜ isMarked (packetOf (books .flow) (shown (books .flow .low) (books .flow .next)
+        (memoryGiven outstanding marked sizes sent)) psn)
+        ≡ true ⌝ }
+    ensures { λ r. ⌜ kept (r .flow) (r .totals) (memoryAfter outstanding marked sizes sent)
+        ≡ keptOf (resendOf time psn (ledgerShown (books .flow) (books .totals) (memoryBefore outstanding marked sizes sent))) ⌝ }
 {
     let flow = books.flow;
     let mut totals = books.totals;
     let flying = totals.flying;
-    let marked = totals.marked;
+    let waiting = totals.marked;
     let marked_bytes = totals.marked_bytes;
-    let x = find(flow, status, size, sent, resent, psn);
+    let x = find(flow, outstanding, marked, sizes, sent, psn);
     let bytes = x.size as u64;
-    let i = place(status.len(), psn);
-    write(
-        status,
-        size,
+    let i = place(sent.len(), psn);
+    fly(
+        outstanding,
+        marked,
+        sizes,
         sent,
-        resent,
         i,
-        Packet {
-            status: crate::FLYING,
-            size: x.size,
-            sent: time,
-            resent: once_more(x.resent),
-        },
+        x.size,
+        once_more(x.resent),
+        time,
     );
     totals.flying = flying + 1;
-    totals.marked = marked - 1;
+    totals.marked = waiting - 1;
     totals.marked_bytes = marked_bytes - bytes;
     totals.in_flight = more(totals.in_flight, bytes);
     Books { flow, totals }

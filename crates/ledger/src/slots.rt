@@ -1,12 +1,16 @@
-// Slots of the ring: where a PSN lives, what its slot says.
+// Slots of the ring: where a PSN lives, what its slot shows. Inner steps: the caller proves that the slices' lengths go together.
 use crate::Flow;
 use crate::Packet;
 ghost use mathlib.Core.Path.{_≡_};
-ghost use mathlib.Core.Bool.{true};
-ghost use Prim.Native.Nat.{_%_, _+_, _<_};
-ghost use Rattle.ledger.specs.Lent.{ringGiven, ringBefore, ringAfter};
-ghost use Rattle.ledger.specs.Ring.{ring, capOf, packetAt, putAt, longOf, packetOf};
-ghost use Rattle.ledger.specs.Sound.{isCapacity, Even};
+ghost use mathlib.Core.Bool.{true, false};
+ghost use Prim.Native.Nat.{_*_, _%_, _<_, _≤_};
+ghost use lib.ListN.{length, set};
+ghost use Rattle.bits.specs.Bits.{wordBits, putBit};
+ghost use Rattle.ledger.specs.Bounds.{resentMost};
+ghost use Rattle.ledger.specs.Lent.{memoryGiven, memoryBefore, memoryAfter};
+ghost use Rattle.ledger.specs.Memory.{memory, shown, statusOf, sizeEnd, packed, sizeIn, resentIn};
+ghost use Rattle.ledger.specs.Ring.{longOf, packetOf};
+ghost use Rattle.ledger.specs.Sound.{isCapacity, Lengths};
 
 // The slot of a PSN: "capacity a power of two", so that the remainder is a mask.
 pub(crate) fn place(cap: usize, psn: u32) -> usize
@@ -16,26 +20,6 @@ pub(crate) fn place(cap: usize, psn: u32) -> usize
     psn as usize & (cap - 1)
 }
 
-// The same where the caller does not say that the length is a capacity.
-fn place_in_any(cap: usize, psn: u32) -> usize
-    requires { ⌜ 0 < cap ⌝ }
-    ensures { λ r. ⌜ (r ≡ psn % cap) × (r < cap) ⌝ }
-{
-    psn as usize % cap
-}
-
-// The slot after slot i, round the ring.
-pub(crate) fn after(cap: usize, i: usize) -> usize
-    requires { ⌜ i < cap ⌝ }
-    ensures { λ r. ⌜ (r ≡ (i + 1) % cap) × (r < cap) ⌝ }
-{
-    let next = i + 1;
-    if next < cap {
-        return next;
-    }
-    0
-}
-
 // next - low: how many packets the ledger has.
 pub(crate) fn long(flow: Flow) -> u32
     ensures { λ r. ⌜ r ≡ longOf flow ⌝ }
@@ -43,62 +27,61 @@ pub(crate) fn long(flow: Flow) -> u32
     serial::psn_minus(flow.next, flow.low)
 }
 
-// What slot i says.
-pub(crate) fn read<'a>(
-    status: &'a [u8],
-    size: &'a [u32],
-    sent: &'a [u64],
-    resent: &'a [u8],
-    i: usize,
-) -> Packet
-    requires { ⌜ Even (ringGiven status size sent resent) ⌝ }
-    requires { ⌜ i < capOf (ringGiven status size sent resent) ⌝ }
-    ensures { λ r. ⌜ r ≡ packetAt (ringBefore status size sent resent) i ⌝ }
+// The status that the two bits of a slot in low..next-1 show.
+fn status_of(out: bool, mark: bool) -> u8
+    ensures { λ r. ⌜ r ≡ statusOf true out mark ⌝ }
 {
-    Packet {
-        status: status[i],
-        size: size[i],
-        sent: sent[i],
-        resent: resent[i],
+    if out {
+        if mark {
+            return crate::MARKED;
+        }
+        return crate::FLYING;
     }
+    if mark {
+        return crate::NO_STATUS;
+    }
+    crate::DONE
 }
 
-// Slot i, overwritten.
-pub(crate) fn write<'a, 'b, 'c, 'd>(
-    status: &'a mut [u8],
-    size: &'b mut [u32],
-    sent: &'c mut [u64],
-    resent: &'d mut [u8],
-    i: usize,
-    x: Packet,
-)
-    requires { ⌜ Even (ringGiven status size sent resent) ⌝ }
-    requires { ⌜ i < capOf (ringGiven status size sent resent) ⌝ }
-    ensures { λ _. ⌜ ringAfter status size sent resent ≡ putAt (ringBefore status size sent resent) i x ⌝ }
+// The size of a slot's number.
+pub(crate) fn size_in(w: u32) -> u32
+    ensures { λ r. ⌜ (r ≡ sizeIn w) × (r < sizeEnd) ⌝ }
 {
-    status[i] = x.status;
-    size[i] = x.size;
-    sent[i] = x.sent;
-    resent[i] = x.resent;
+    w % crate::SIZE_END
 }
 
-// The packet of a PSN; all zero outside low..next-1. An inner step: its caller proves that the four slices have one length.
+// The resend count of a slot's number.
+fn resent_in(w: u32) -> u32
+    ensures { λ r. ⌜ r ≡ resentIn w ⌝ }
+{
+    w / crate::SIZE_END
+}
+
+// The packet of a PSN; all zero outside low..next-1.
 pub fn find<'a>(
     flow: Flow,
-    status: &'a [u8],
-    size: &'a [u32],
+    outstanding: &'a [u64],
+    marked: &'a [u64],
+    sizes: &'a [u32],
     sent: &'a [u64],
-    resent: &'a [u8],
     psn: u32,
 ) -> Packet
-    requires { ⌜ Even (ringGiven status size sent resent) ⌝ }
-    ensures { λ r. ⌜ r ≡ packetOf flow (ringBefore status size sent resent) psn ⌝ }
+    requires { ⌜ Lengths (memoryGiven outstanding marked sizes sent) ⌝ }
+    ensures { λ r. ⌜ r ≡ packetOf flow (shown (flow .low) (flow .next) (memoryBefore outstanding marked sizes sent)) psn ⌝ }
 {
     let low = flow.low;
     let offset = serial::psn_minus(psn, low);
     if offset < long(flow) {
-        let i = place_in_any(status.len(), psn);
-        return read(status, size, sent, resent, i);
+        let i = place(sent.len(), psn);
+        let out = bits::is_set(outstanding, i);
+        let mark = bits::is_set(marked, i);
+        let w = sizes[i];
+        return Packet {
+            status: status_of(out, mark),
+            size: size_in(w),
+            sent: sent[i],
+            resent: resent_in(w),
+        };
     }
     Packet {
         status: crate::EMPTY,
@@ -106,4 +89,27 @@ pub fn find<'a>(
         sent: 0,
         resent: 0,
     }
+}
+
+// Slot i holds a packet that flies: outstanding and not marked.
+pub(crate) fn fly<'a, 'b, 'c, 'd>(
+    outstanding: &'a mut [u64],
+    marked: &'b mut [u64],
+    sizes: &'c mut [u32],
+    sent: &'d mut [u64],
+    i: usize,
+    bytes: u32,
+    resent: u32,
+    time: u64,
+)
+    requires { ⌜ Lengths (memoryGiven outstanding marked sizes sent) ⌝ }
+    requires { ⌜ (i < length (now outstanding) * wordBits) × (bytes < sizeEnd) × (resent ≤ resentMost) ⌝ }
+    ensures { λ _. ⌜ memoryAfter outstanding marked sizes sent
+        ≡ memory (putBit (now (outstanding .entry)) i true) (putBit (now (marked .entry)) i false)
+        (set (now (sizes .entry)) i (packed bytes resent)) (set (now (sent .entry)) i time) ⌝ }
+{
+    bits::put(outstanding, i, true);
+    bits::put(marked, i, false);
+    sizes[i] = bytes + crate::SIZE_END * resent;
+    sent[i] = time;
 }

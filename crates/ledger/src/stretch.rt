@@ -1,29 +1,18 @@
-// Tests and sums over a stretch of slots, from..to-1, that lie beside each other: what number 2's walks are made of. Each looks at one of
-// the ring's slices (the marked bytes at two), so that the compiler takes as many elements at a time as their width allows. Inner steps:
-// the caller proves that there are the slots.
+// Tests and sums over slots that lie beside each other, from..to-1, and over whole words of bits: what number 2's test is made of. Each
+// looks at one of the ring's slices, so that the compiler takes as many elements at a time as their width allows. Inner steps: the caller
+// proves that there are the slots.
+use crate::slots::size_in;
 ghost use mathlib.Core.Path.{_≡_};
-ghost use Prim.Native.Nat.{_-_, _*_, _^_, _≤_, _<_, min};
+ghost use Prim.Native.Nat.{_+_, _-_, _*_, _^_, _≤_, _<_, min};
+ghost use lib.Dec.{eqb, leb, ltb};
 ghost use lib.ListN.{length};
-ghost use Rattle.rules.specs.Branch.{ifEq};
-ghost use Rattle.rules.specs.Test.{inside};
-ghost use Rattle.ledger.specs.Packets.{markedStatus};
+ghost use Rattle.bits.specs.Bits.{wordBits, bit, wordOf};
 ghost use Rattle.ledger.specs.Sound.{allTo};
-ghost use Rattle.ledger.specs.Stretch.{between, sumTo, oneAt, sizeAt};
+ghost use Rattle.ledger.specs.Delivery.{sizesOf};
+ghost use Rattle.ledger.specs.Stretch.{allIn, sizedIn, sizedAt, timedAt, clearAt, markOk, onesOf, bytesOf};
 
-// Whether every byte lies in low..high.
-pub(crate) fn bytes_within(xs: &[u8], low: u8, high: u8, from: usize, to: usize) -> bool
-    requires { ⌜ (from ≤ to) × (to ≤ length (now xs)) ⌝ }
-    ensures { λ r. ⌜ r ≡ allTo (between low high (now (xs .entry)) from) (to - from) ⌝ }
-{
-    let mut all = true;
-    let mut i = from;
-    while i < to {
-        let x = xs[i];
-        all = all & ((low <= x) & (x <= high));
-        i += 1;
-    }
-    all
-}
+// The top bit of a time.
+const TOP: u64 = 1 << 63;
 
 // The number, or the largest of 32 bits where it is larger.
 fn top_of(n: u64) -> u32
@@ -35,85 +24,168 @@ fn top_of(n: u64) -> u32
     u32::MAX
 }
 
-// Whether a size lies in low..high; it has 32 bits.
-fn is_within(x: u32, low: u32, high: u32) -> bool
-    ensures { λ r. ⌜ (r ≡ inside low x high) × (x < 2 ^ 32) ⌝ }
+// Whether a slot's number has a size in low..high and at most `most` resends; it has 32 bits.
+fn is_within(w: u32, low: u32, high: u32, most: u32) -> bool
+    ensures { λ r. ⌜ (r ≡ sizedIn low high most w) × (w < 2 ^ 32) ⌝ }
 {
-    (low <= x) & (x <= high)
+    let size = w % crate::SIZE_END;
+    (low <= size) & (size <= high) & (w / crate::SIZE_END <= most)
 }
 
-// Whether every size lies in low..high.
-pub(crate) fn sizes_within(xs: &[u32], low: u32, high: u64, from: usize, to: usize) -> bool
-    requires { ⌜ (from ≤ to) × (to ≤ length (now xs)) ⌝ }
-    ensures { λ r. ⌜ r ≡ allTo (between low high (now (xs .entry)) from) (to - from) ⌝ }
+// Whether every slot's number has a size in low..high and at most `most` resends.
+pub(crate) fn sizes_within(
+    sizes: &[u32],
+    low: u32,
+    high: u64,
+    most: u32,
+    from: usize,
+    to: usize,
+) -> bool
+    requires { ⌜ (from ≤ to) × (to ≤ length (now sizes)) ⌝ }
+    ensures { λ r. ⌜ r ≡ allIn (sizedAt low high most (now (sizes .entry))) from to ⌝ }
 {
     let top = top_of(high);
     let mut all = true;
     let mut i = from;
     while i < to {
-        all = all & is_within(xs[i], low, top);
+        all = all & is_within(sizes[i], low, top, most);
         i += 1;
     }
     all
 }
 
-// Whether no time is past `most`.
-pub(crate) fn times_until(xs: &[u64], most: u64, from: usize, to: usize) -> bool
-    requires { ⌜ (from ≤ to) × (to ≤ length (now xs)) ⌝ }
-    ensures { λ r. ⌜ r ≡ allTo (between 0 most (now (xs .entry)) from) (to - from) ⌝ }
+// 1 for a time past `most`.
+fn one_late(x: u64, most: u64) -> u64
+    ensures { λ r. ⌜ (eqb r 0 ≡ leb x most) × (r ≤ 1) ⌝ }
 {
+    if x > most { 1 } else { 0 }
+}
+
+// Whether no time is past `most`: those past it are counted, at the width of a time, so that nothing is narrowed and no turn ends the loop.
+fn times_counted(sent: &[u64], most: u64, from: usize, to: usize) -> bool
+    requires { ⌜ (from ≤ to) × (to ≤ length (now sent)) ⌝ }
+    ensures { λ r. ⌜ r ≡ allIn (timedAt most (now (sent .entry))) from to ⌝ }
+{
+    let mut late: u64 = 0;
     let mut i = from;
     while i < to {
-        if xs[i] > most {
-            return false;
-        }
+        late += one_late(sent[i], most);
         i += 1;
     }
-    true
+    late == 0
 }
 
-// 1 for a slot of this status.
-fn one_of(x: u8, status: u8) -> u32
-    ensures { λ r. ⌜ (r ≡ ifEq x status 1 0) × (r ≤ 1) ⌝ }
+// The same below the top bit: a time has it, or `most` less the time has it, exactly if the time is past `most`.
+fn times_below_top(sent: &[u64], most: u64, from: usize, to: usize) -> bool
+    requires { ⌜ (from ≤ to) × (to ≤ length (now sent)) × (most < 2 ^ 63) ⌝ }
+    ensures { λ r. ⌜ r ≡ allIn (timedAt most (now (sent .entry))) from to ⌝ }
 {
-    if x == status { 1 } else { 0 }
-}
-
-// How many slots have this status.
-pub(crate) fn count_of(xs: &[u8], status: u8, from: usize, to: usize) -> u32
-    requires { ⌜ (from ≤ to) × (to ≤ length (now xs)) × (to ≤ 4096) ⌝ }
-    ensures { λ r. ⌜ (r ≡ sumTo (oneAt status (now (xs .entry)) from) (to - from)) × (r ≤ 4096) ⌝ }
-{
-    let mut count: u32 = 0;
+    let mut late: u64 = 0;
     let mut i = from;
     while i < to {
-        count += one_of(xs[i], status);
+        let x = sent[i];
+        late = late | (x | std::num::wrapping_sub_u64(most, x));
         i += 1;
+    }
+    late < TOP
+}
+
+// Whether no time is past `most`.
+pub(crate) fn times_until(sent: &[u64], most: u64, from: usize, to: usize) -> bool
+    requires { ⌜ (from ≤ to) × (to ≤ length (now sent)) ⌝ }
+    ensures { λ r. ⌜ r ≡ allIn (timedAt most (now (sent .entry))) from to ⌝ }
+{
+    if most < TOP {
+        return times_below_top(sent, most, from, to);
+    }
+    times_counted(sent, most, from, to)
+}
+
+// The bits of word q whose slots come before slot k.
+fn below(k: usize, q: usize) -> u64
+    requires { ⌜ q < wordBits ⌝ }
+    ensures { λ r. ⌜ r ≡ wordOf (λ j. ltb (q * wordBits + j) k) ⌝ }
+{
+    let at = q * bits::WORD_BITS;
+    if k <= at {
+        return 0;
+    }
+    let r = k - at;
+    if r < bits::WORD_BITS {
+        return (1 << r) - 1;
+    }
+    u64::MAX
+}
+
+// Whether no bit is set at the slots: a word at a time, the bits of other slots left out.
+pub(crate) fn none_set(words: &[u64], from: usize, to: usize) -> bool
+    requires { ⌜ (from ≤ to) × (to ≤ length (now words) * wordBits) × (length (now words) ≤ wordBits) ⌝ }
+    ensures { λ r. ⌜ r ≡ allIn (clearAt (now (words .entry))) from to ⌝ }
+{
+    let mut all = true;
+    let mut q = from / bits::WORD_BITS;
+    while q * bits::WORD_BITS < to {
+        let others = bits::clear(words[q], below(from, q));
+        all = all & (others & below(to, q) == 0);
+        q += 1;
+    }
+    all
+}
+
+// Whether every marked bit is outstanding too.
+pub(crate) fn marks_within<'a>(outstanding: &'a [u64], marked: &'a [u64]) -> bool
+    requires { ⌜ length (now marked) ≡ length (now outstanding) ⌝ }
+    ensures { λ r. ⌜ r ≡ allTo (markOk (now (outstanding .entry)) (now (marked .entry))) (length (now (outstanding .entry)) * wordBits) ⌝ }
+{
+    let mut all = true;
+    let mut q: usize = 0;
+    while q < outstanding.len() {
+        all = all & (bits::clear(marked[q], outstanding[q]) == 0);
+        q += 1;
+    }
+    all
+}
+
+// How many bits are set.
+pub(crate) fn ones(words: &[u64]) -> u32
+    requires { ⌜ length (now words) ≤ wordBits ⌝ }
+    ensures { λ r. ⌜ (r ≡ onesOf (now (words .entry))) × (r ≤ 4096) ⌝ }
+{
+    let mut count: u32 = 0;
+    let mut q: usize = 0;
+    while q < words.len() {
+        let w = words[q];
+        count += bits::count(w, w);
+        q += 1;
     }
     count
 }
 
-// The size where the status is marked.
-fn size_of(status: u8, size: u32) -> u64
-    ensures { λ r. ⌜ (r ≡ ifEq status markedStatus size 0) × (r < 2 ^ 32) ⌝ }
+// The sizes of a word's slots whose bits are set in `hit`, added up: one turn a set bit.
+pub(crate) fn bytes_in(sizes: &[u32], q: usize, hit: u64) -> u64
+    requires { ⌜ ((q + 1) * wordBits ≤ length (now sizes)) × (q < wordBits) ⌝ }
+    ensures { λ r. ⌜ (r ≡ sizesOf (bit hit) (now (sizes .entry)) q) × (r < 2 ^ 22) ⌝ }
 {
-    if status == crate::MARKED {
-        size as u64
-    } else {
-        0
+    let mut left = hit;
+    let mut bytes: u64 = 0;
+    while left != 0 {
+        let j = bits::first(left);
+        bytes += size_in(sizes[q * bits::WORD_BITS + j as usize]) as u64;
+        left = bits::clear(left, 1 << j);
     }
+    bytes
 }
 
 // What the sizes of marked slots add up to.
-pub(crate) fn marked_sum<'a>(status: &'a [u8], size: &'a [u32], from: usize, to: usize) -> u64
-    requires { ⌜ (from ≤ to) × (to ≤ length (now status)) × (to ≤ length (now size)) × (to ≤ 4096) ⌝ }
-    ensures { λ r. ⌜ (r ≡ sumTo (sizeAt (now (status .entry)) (now (size .entry)) from) (to - from)) × (r ≤ 4096 * 2 ^ 32) ⌝ }
+pub(crate) fn marked_sum<'a>(marked: &'a [u64], sizes: &'a [u32]) -> u64
+    requires { ⌜ (length (now marked) * wordBits ≤ length (now sizes)) × (length (now marked) ≤ wordBits) ⌝ }
+    ensures { λ r. ⌜ (r ≡ bytesOf (now (marked .entry)) (now (sizes .entry))) × (r ≤ 2 ^ 28) ⌝ }
 {
     let mut bytes: u64 = 0;
-    let mut i = from;
-    while i < to {
-        bytes += size_of(status[i], size[i]);
-        i += 1;
+    let mut q: usize = 0;
+    while q < marked.len() {
+        bytes += bytes_in(sizes, q, marked[q]);
+        q += 1;
     }
     bytes
 }

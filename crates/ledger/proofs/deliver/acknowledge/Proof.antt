@@ -1,7 +1,12 @@
 -- `deliver::acknowledge` meets its contract: by the laws of proofs/Acked, from what the two halves of the step leave.
-use borrow.Author.Needs.{needs}
+use mathlib.Core.Path.{_∙_}
 use native.Mathlib.Omega.{arith}
-use Rattle.ledger.proofs.Acked.{reach-asks, cover-asks, retire-asks, less-asks, acked}
+use borrow.Author.Needs.{needs}
+use Rattle.ledger.specs.Memory.{Memory, memory, shown, Words}
+use Rattle.ledger.specs.Ring.{Ring}
+use Rattle.ledger.specs.Sound.{Lengths}
+use Rattle.ledger.proofs.WordsShown.{lengths-kept, words-kept}
+use Rattle.ledger.proofs.Acked.{reach-asks, cover-asks, less-asks, acked}
 use Rattle.ledger.proofs.deliver.acknowledge.Statement.{statement}
 use Rattle.ledger.proofs.deliver.acknowledge.Tie as tie
 
@@ -11,6 +16,33 @@ entry w = w .before .before .before .before .before .before
 
 abbrev counted : tie.After-cover → tie.After-long
 counted v = v .before .before .before .before .before .before .before .before
+
+abbrev given : tie.Start → Memory
+given s = memory (s .args .outstanding .now) (s .args .marked .now) (s .args .sizes .now) (s .args .sent .now)
+
+-- the ring that the covering leaves
+abbrev covered : tie.After-cover → Ring
+covered v =
+    let s = entry (counted v) in
+    shown (s .args .books .flow .low) (s .args .books .flow .next)
+    (memory (v .cover .last .0) (v .cover .last .1 .0) (s .args .sizes .now) (s .args .sent .now))
+
+-- the memory that is left
+abbrev left : tie.After-retire → Memory
+left u =
+    let v = u .before .before .before .before .before .before .before .before .before in
+    memory (v .cover .last .0) (v .cover .last .1 .0) (u .retire .last .1 .1 .0) (u .retire .last .1 .1 .1 .0)
+
+-- it has the lengths and words that the covering leaves
+left-lengths : (u : tie.After-retire) → Lengths (left u)
+left-lengths u =
+    let v = u .before .before .before .before .before .before .before .before .before in
+    lengths-kept (v .cover .ensures .0 .lengths) (u .retire .kept .1 .1 .0) (u .retire .kept .1 .1 .1 .0)
+
+left-words : (u : tie.After-retire) → Words (left u)
+left-words u =
+    let v = u .before .before .before .before .before .before .before .before .before in
+    words-kept (v .cover .ensures .0 .words)
 
 long-requires : tie.Need-long-requires
 long-requires c κs = search needs
@@ -24,28 +56,30 @@ span-requires c κs = search needs
 reach-requires : tie.Need-reach-requires
 reach-requires c κs =
     let w = c .before .before in
-    reach-asks (entry w .pre .0) (w .long .ensures) (entry w .args .map) (c .span .ensures)
+    let s = entry w in
+    reach-asks (given s) (s .pre .0) (w .long .ensures) (s .args .map) (c .span .ensures)
 
 cover-requires : tie.Need-cover-requires
 cover-requires c κs =
     let r = c .before .before .before .before in
     let w = r .before .before .before in
-    cover-asks (entry w .pre .0) (w .long .ensures) (entry w .args .count) (entry w .pre .1)
+    let s = entry w in
+    cover-asks (given s) (s .pre .0) (w .long .ensures) (s .args .count) (s .pre .1)
     (r .before .before .back .ensures) (r .before .span .ensures) (r .reach .ensures)
 
 retire-requires : tie.Need-retire-requires
-retire-requires c κs =
-    let v = c .before .before .before .before .before .before in
-    retire-asks (entry (counted v) .pre .0) (counted v .long .ensures) (v .cover .ensures)
+retire-requires c κs = search needs
 
 newly-requires : tie.Need-newly-requires
 newly-requires c κs = search needs
 
 less-requires : tie.Need-less-requires
 less-requires c κs =
-    let v = c .before .before .before .before .before .before .before .before .before .before .before .before .before .before .before
-    .before .before in
-    (less-asks (entry (counted v) .pre .0) (counted v .long .ensures) (v .cover .ensures), omega (arith, c .before .newly .ensures .1))
+    let v = c .before .before .before .before .before .before .before .before .before .before .before .before .before .before .before in
+    let s = entry (counted v) in (
+      less-asks (given s) (s .pre .0) (counted v .long .ensures) {r = covered v} (v .cover .ensures .1),
+      omega (arith, c .before .newly .ensures .1),
+    )
 
 psn-plus-requires : tie.Need-psn-plus-requires
 psn-plus-requires c κs = search needs
@@ -67,10 +101,12 @@ same-length-4 c = search needs
 
 returns : tie.Need-returns
 returns c =
-    let u = c .before .before .before .before .before .before .before .before .before .before .before .before .before in
-    let v = u .before .before .before .before .before .before .before in
+    let u = c .before .before .before .before .before .before .before .before .before in
+    let v = u .before .before .before .before .before .before .before .before .before in
     let s = entry (counted v) in
-    acked (s .pre .0) (counted v .long .ensures) (v .cover .ensures) (s .args .count) (u .retire .ensures) (c .before .psn-plus .ensures)
+    acked (given s) (s .pre .0) (counted v .long .ensures) {r = covered v} (v .cover .ensures .1) (s .args .count) (left u)
+    (left-lengths u) (left-words u)
+    (u .retire .ensures) (c .before .psn-plus .ensures)
     (c .held-after .ensures) (c .before .before .before .before .newly .ensures .0) (c .before .before .less .ensures)
 
 pub acknowledge-spec : {M : Type 1} → statement M

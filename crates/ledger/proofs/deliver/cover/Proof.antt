@@ -1,121 +1,149 @@
--- `deliver::cover` meets its contract: by the laws of proofs/Covering, from what its runs leave.
-use mathlib.Core.Path.{_≡_}
-use Prim.Native.Nat.{_<_, _≤_, zero-le}
+-- `deliver::cover` meets its contract: the loop's invariant is `Inv` of proofs/Covering, whose laws give its start, a turn and the end.
+use mathlib.Core.Path.{sym, ap, _∙_}
+use Prim.Native.Nat.{ℕ, _-_, _*_, _%_, _^_, _<_}
 use native.Mathlib.Omega.{arith}
-use native.Mathlib.Nat.{not-suc-le-zero}
-use borrow.Author.Needs.{needs}
-use lib.ListN.{length}
 use Rattle.serial.specs.Psn.{psns}
+use Rattle.ledger.specs.Memory.{Memory, memory}
+use Rattle.ledger.specs.Ring.{placeOf}
+use Rattle.ledger.specs.Delivery.{slots}
+use Rattle.ledger.proofs.Fronts.{Slot}
+use Rattle.ledger.proofs.WordsShown.{caps}
 use Rattle.ledger.proofs.Covering as covering
 use Rattle.ledger.proofs.deliver.cover.Statement.{statement}
 use Rattle.ledger.proofs.deliver.cover.Tie as tie
 
--- from the place after `place` back to the entry
-abbrev entry : tie.After-place → tie.Start
-entry v = v .before .before .before .before .before
+abbrev Inv-loop : tie.InvT-loop
+Inv-loop outstanding₀ marked₀ sizes sent flow far cum map cap left₀ k₀ outstanding marked left k =
+    covering.Inv (memory outstanding₀ marked₀ sizes sent) flow left₀ far cum map outstanding marked left k
 
-low-fits : (s : tie.Start) → s .args .flow .low < psns
+abbrev μ-loop : tie.MeasureT-loop
+μ-loop outstanding₀ marked₀ sizes sent flow far cum map cap left₀ k₀ outstanding marked left k = far - k
+
+abbrev given : tie.Start Inv-loop μ-loop → Memory
+given s = memory (s .args .outstanding .now) (s .args .marked .now) (s .args .sizes .now) (s .args .sent .now)
+
+-- from the loop's head back to the entry, and from the place after `place` back to the loop's head
+abbrev entry : tie.At-loop Inv-loop μ-loop → tie.Start Inv-loop μ-loop
+entry l = l .before .before .before .before .before
+
+abbrev head : tie.After-place Inv-loop μ-loop → tie.At-loop Inv-loop μ-loop
+head v = v .before .before .before
+
+low-fits : (s : tie.Start Inv-loop μ-loop) → s .args .flow .low < psns
 low-fits s = omega arith
 
--- no more packets are looked at than the ring has slots, and those are few
-fits : (s : tie.Start) → (s .args .reach ≤ length (s .args .status .now)) × (length (s .args .status .now) ≤ 4096)
-fits s =
-    let P = s .pre in
-    (omega (arith, P .within, P .laid-out .fits), covering.caps P .most)
+loop-holds : tie.Need-loop-holds Inv-loop μ-loop
+loop-holds c =
+    let s = c .before .before .before .before in
+    covering.starts (s .pre .0) (s .pre .1) (low-fits s)
 
-place-requires : tie.Need-place-requires
-place-requires c κs = c .before .before .before .before .pre .laid-out .cap
+psn-plus-requires : tie.Need-psn-plus-requires Inv-loop μ-loop
+psn-plus-requires c κs = tt
 
-add-end : tie.Need-add-end
-add-end c = omega (arith, fits (entry c) .0, fits (entry c) .1, c .place .ensures .1)
+place-requires : tie.Need-place-requires Inv-loop μ-loop
+place-requires c κs =
+    let L = entry (c .before .before) .pre .0 .lengths in
+    rw (L .sent) (L .cap)
 
-cover-run-requires : tie.Need-cover-run-requires
-cover-run-requires c κs =
-    let v = c .before .before in
-    let s = entry v in (
-      s .pre,
+-- the slot of packet k
+slot : (v : tie.After-place Inv-loop μ-loop)
+    → Slot (given (entry (head v)) .outstanding) (entry (head v) .args .flow .low) (head v .loop .k) (v .place .result)
+unfolding placeOf
+slot v =
+    let s = entry (head v) in
+    let n = s .pre .0 .lengths .sent in
+    record {
+      caps = caps (s .pre .0);
+      place = rw n at (v .place .ensures .0) ∙ ap (λ (p : ℕ). p % slots (given s)) (v .before .psn-plus .ensures);
+      inside = omega (arith, v .place .ensures .1, n);
+    }
+
+covered-word-requires : tie.Need-covered-word-requires Inv-loop μ-loop
+covered-word-requires c κs =
+    let l = head c in
+    let s = entry l in
+    rw (c .before .psn-plus .ensures) (s .pre .1 .near (l .loop .k) (c .before .before .loop-test .taken))
+
+shl-mask : tie.Need-shl-mask Inv-loop μ-loop
+shl-mask c = omega arith
+
+-- what the mask of a turn tells
+mask : (w : tie.After-covered-word Inv-loop μ-loop)
+    → let v = w .before in
+    let s = entry (head v) in
+    covering.Mask (s .args .flow .low) (s .args .cum) (s .args .map) (head v .loop .k) (v .place .result)
+    (w .covered-word .result * 2 ^ (v .place .result % 64) % 2 ^ 64)
+mask w =
+    let v = w .before in
+    let s = entry (head v) in
+    covering.mask-is (s .args .flow .low) (s .args .cum) (s .args .map) (head v .loop .k) (v .place .result) (v .before .psn-plus .result)
+    (w .covered-word .result) (v .before .psn-plus .ensures) (w .covered-word .ensures)
+
+cover-word-requires : tie.Need-cover-word-requires Inv-loop μ-loop
+cover-word-requires c κs =
+    let w = c .before .before in
+    let v = w .before in
+    let I = head v .loop .inv in
+    let L = I .standing .lengths in
+    let l = slot v .inside in (
       (
-        (covering.run-first (s .pre) (v .place .ensures .0) (low-fits s), omega arith, omega arith, omega arith),
-        λ j l. absurd
-            (not-suc-le-zero l),
+        omega (arith, l, I .out-long),
+        omega (arith, l, I .mark-long),
+        omega (arith, l, L .sizes),
+        omega (arith, l, slot v .caps .most),
       ),
+      covering.counted I (v .before .before .loop-test .taken) (slot v) (mask w),
     )
 
-same-length : tie.Need-same-length
-same-length c = search needs
+sub-k : tie.Need-sub-k Inv-loop μ-loop
+sub-k c = omega arith
 
-returns : tie.Need-returns
-returns c =
-    let r = c .before .before in
-    let s = entry (r .before .before .before) in
-    r .cover-run .ensures .1 .1 _ _
-    (covering.ends (r .cover-run .ensures .0) (low-fits s) (λ j l. r .cover-run .ensures .1 .0 j (omega arith)))
+cast-k : tie.Need-cast-k Inv-loop μ-loop
+cast-k c = omega arith
 
-cover-run-requires-2 : tie.Need-cover-run-requires-2
-cover-run-requires-2 c κs =
-    let v = c .before .before in
-    let s = entry v in (
-      s .pre,
-      (
-        (covering.run-first (s .pre) (v .place .ensures .0) (low-fits s), omega (arith, v .place .ensures .1), omega arith, omega arith),
-        λ j l. absurd (not-suc-le-zero l),
-      ),
-    )
+add-k : tie.Need-add-k Inv-loop μ-loop
+add-k c =
+    let v = c .before .before .before .before .before .before .before .before in
+    let I = head v .loop .inv in
+    omega (arith, v .before .before .loop-test .taken, I .reached .within, I .standing .fits, slot v .caps .most)
 
-sub-cover-run : tie.Need-sub-cover-run
-sub-cover-run c = search needs
+loop-less : tie.Need-loop-less Inv-loop μ-loop
+loop-less c = omega (arith, c .before .before .before .before .before .before .before .before .before .before .loop-test .taken)
 
-cast-cover-run : tie.Need-cast-cover-run
-cast-cover-run c =
-    let s = entry (c .before .before .before .before .before .before) in
-    omega (arith, fits s .1)
+loop-again : tie.Need-loop-again Inv-loop μ-loop
+loop-again c =
+    let t = c .before .before .before .before in
+    let w = t .before .before .before in
+    let v = w .before in
+    covering.again (head v .loop .inv) (v .before .before .loop-test .taken) (slot v) (mask w) (t .cover-word .ensures .0 .0)
+    (t .cover-word .ensures .0 .1) (t .cover-word .ensures .1)
 
-sub-cover-run-2 : tie.Need-sub-cover-run-2
-sub-cover-run-2 c = search needs
+same-length : tie.Need-same-length Inv-loop μ-loop
+same-length c = c .before .loop .inv .out-long
 
-cover-run-requires-3 : tie.Need-cover-run-requires-3
-cover-run-requires-3 c κs =
-    let q = c .before .before .before in
-    let v = q .before .before .before in
-    let s = entry v in
-    let same : length (q .cover-run2 .last .0) ≡ length (s .args .status .now) = search needs in (
-      q .cover-run2 .ensures .0,
-      (
-        (
-          covering.run-second (s .pre) (v .place .ensures .0) (v .place .ensures .1) same,
-          zero-le,
-          omega (arith, fits s .0, v .place .ensures .1),
-          omega (arith, v .place .ensures .1),
-        ),
-        λ j l. q .cover-run2 .ensures .1 .0 j (omega arith),
-      ),
-    )
+same-length-2 : tie.Need-same-length-2 Inv-loop μ-loop
+same-length-2 c = c .before .loop .inv .mark-long ∙ sym (entry (c .before) .pre .0 .lengths .marked)
 
-same-length-2 : tie.Need-same-length-2
-same-length-2 c = search needs
-
-returns-2 : tie.Need-returns-2
-returns-2 c =
-    let r = c .before .before in
-    let q = r .before .before .before .before in
-    let s = entry (q .before .before .before) in
-    q .cover-run2 .ensures .1 .1 _ _
-    (r .cover-run3 .ensures .1 .1 _ _
-    (covering.ends (r .cover-run3 .ensures .0) (low-fits s) (λ j l. r .cover-run3 .ensures .1 .0 j (omega arith))))
+returns : tie.Need-returns Inv-loop μ-loop
+returns c = (covering.stands-on (c .before .loop .inv) (c .loop-test .left), covering.covers (c .before .loop .inv) (c .loop-test .left))
 
 pub cover-spec : {M : Type 1} → statement M
 cover-spec =
     tie.close
     (tie.spec
+    Inv-loop
+    μ-loop
+    loop-holds
+    psn-plus-requires
     place-requires
-    add-end
-    cover-run-requires
+    covered-word-requires
+    shl-mask
+    cover-word-requires
+    sub-k
+    cast-k
+    add-k
+    loop-less
+    loop-again
     same-length
-    returns
-    cover-run-requires-2
-    sub-cover-run
-    cast-cover-run
-    sub-cover-run-2
-    cover-run-requires-3
     same-length-2
-    returns-2)
+    returns)

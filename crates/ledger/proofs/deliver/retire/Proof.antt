@@ -1,105 +1,128 @@
--- `deliver::retire` meets its contract: the loop's invariant is `Inv` of proofs/Retiring, whose laws give its
--- start, a turn and where it ends.
-use Prim.Native.Nat.{_-_}
+-- `deliver::retire` meets its contract: by the laws of proofs/Retiring, from what its runs leave.
+use mathlib.Core.Path.{_≡_, ap, _∙_}
+use Prim.Native.Nat.{_+_, _%_, _≤_, _<_}
 use native.Mathlib.Omega.{arith}
-use Rattle.ledger.specs.Ring.{ring}
-use Rattle.ledger.proofs.Retiring as retiring
+use borrow.Author.Needs.{needs}
+use Rattle.bits.specs.Bits.{lowest}
+use Rattle.serial.specs.Psn.{psns}
+use Rattle.ledger.specs.Memory.{Memory, memory}
+use Rattle.ledger.specs.Delivery.{slots}
+use Rattle.ledger.specs.Ring.{longOf}
+use Rattle.ledger.proofs.Fronts.{bitOfAge}
+use Rattle.ledger.proofs.WordsShown.{caps}
+use Rattle.ledger.proofs.Retiring.{cut-one, cut-two, retires}
 use Rattle.ledger.proofs.deliver.retire.Statement.{statement}
 use Rattle.ledger.proofs.deliver.retire.Tie as tie
 
-abbrev Inv-loop : tie.InvT-loop
-Inv-loop status₀ size₀ sent₀ resent₀ low n cap i₀ k₀ status size sent resent i k =
-    retiring.Inv (ring status₀ size₀ sent₀ resent₀) low n (ring status size sent resent) i k
+abbrev given : tie.Start → Memory
+given s = memory (s .args .outstanding .now) (s .args .marked .now) (s .args .sizes .now) (s .args .sent .now)
 
-abbrev μ-loop : tie.MeasureT-loop
-μ-loop status₀ size₀ sent₀ resent₀ low n cap i₀ k₀ status size sent resent i k = n - k
+-- from the place after `place` back to the entry
+abbrev entry : tie.After-place → tie.Start
+entry v = v .before .before .before .before .before .before
 
-place-requires : tie.Need-place-requires Inv-loop μ-loop
-place-requires c κs = c .before .before .before .before .pre .cap
+low-fits : (s : tie.Start) → s .args .flow .low < psns
+low-fits s = omega arith
 
-loop-holds : tie.Need-loop-holds Inv-loop μ-loop
-loop-holds c =
-    let s = c .before .before .before .before .before in
-    retiring.starts (s .pre) (s .fits .low .fits) (c .place .ensures .0)
+-- the slot of low
+slot : (v : tie.After-place) → let s = entry v in
+    (v .place .result ≡ s .args .flow .low % slots (given s)) × (v .place .result < slots (given s))
+slot v =
+    let e = entry v .pre .1 .lengths .sent in
+    (rw e at (v .place .ensures .0), omega (arith, v .place .ensures .1, e))
 
-slice-read-if1 : tie.Need-slice-read-if1 Inv-loop μ-loop
-slice-read-if1 c = let l = c .before .before in omega (arith, retiring.same-cap (l .loop .inv), retiring.slot-lt (l .loop .inv))
+-- how many packets leave
+gone-is : (v : tie.After-place)
+    → v .before .front .result ≡ lowest (bitOfAge (given (entry v) .outstanding) (entry v .args .flow .low)) (longOf (entry v .args .flow))
+gone-is v =
+    let s = entry v in
+    v .before .front .ensures .0 ∙ ap (lowest (bitOfAge (given s .outstanding) (s .args .flow .low))) (s .pre .0)
 
-same-length : tie.Need-same-length Inv-loop μ-loop
-same-length c = retiring.same-cap (c .before .before .before .loop .inv)
+few : (v : tie.After-place) → v .before .front .result ≤ slots (given (entry v))
+few v = omega (arith, v .before .front .ensures .1, entry v .pre .0, entry v .pre .1 .fits)
 
-same-length-2 : tie.Need-same-length-2 Inv-loop μ-loop
-same-length-2 c = retiring.same-size (c .before .before .before .loop .inv)
+front-requires : tie.Need-front-requires
+front-requires c κs = search needs
 
-same-length-3 : tie.Need-same-length-3 Inv-loop μ-loop
-same-length-3 c = retiring.same-sent (c .before .before .before .loop .inv)
+place-requires : tie.Need-place-requires
+place-requires c κs =
+    let L = c .before .before .before .before .before .pre .1 .lengths in
+    rw (L .sent) (L .cap)
 
-same-length-4 : tie.Need-same-length-4 Inv-loop μ-loop
-same-length-4 c = retiring.same-resent (c .before .before .before .loop .inv)
+cast-end : tie.Need-cast-end
+cast-end c = search needs
 
-returns : tie.Need-returns Inv-loop μ-loop
-returns c = retiring.stops (c .before .before .before .loop .inv) (c .before .before .loop-test .taken) (c .if1 .taken)
+add-end : tie.Need-add-end
+add-end c = search needs
 
-add-k : tie.Need-add-k Inv-loop μ-loop
-add-k c = omega arith
+empty-run-requires : tie.Need-empty-run-requires
+empty-run-requires c κs = search needs
 
-write-requires : tie.Need-write-requires Inv-loop μ-loop
-write-requires c κs =
-    let l = c .before .before .before .before .before .before .before in
-    (retiring.even (l .loop .inv), omega (arith, retiring.same-cap (l .loop .inv), retiring.slot-lt (l .loop .inv)))
+same-length : tie.Need-same-length
+same-length c = search needs
 
--- from the place after `write` back to the turn's start
-abbrev turn : tie.After-write Inv-loop μ-loop → tie.In-loop Inv-loop μ-loop
-turn w = w .before .before .before .before .before .before .before
+same-length-2 : tie.Need-same-length-2
+same-length-2 c = search needs
 
-after-requires : tie.Need-after-requires Inv-loop μ-loop
-after-requires c κs = retiring.slot-lt (turn (c .before .before .before .before .before .before .before .before) .before .loop .inv)
+returns : tie.Need-returns
+returns c =
+    let r = c .before .before .before .before in
+    let v = r .before .before .before .before in
+    let s = entry v in
+    let m = given s in
+    let n = s .pre .1 .lengths .sent in
+    let fits : v .place .result + v .before .front .result ≤ slots m = omega (arith, r .before .before .before .if1 .taken, n) in
+    retires (s .pre .1) (low-fits s) (gone-is v)
+    (cut-one (s .args .flow .low) (caps (s .pre .1)) (slot v .0) (slot v .1) (few v) (m .sizes) fits (r .empty-run .ensures .0))
+    (cut-one (s .args .flow .low) (caps (s .pre .1)) (slot v .0) (slot v .1) (few v) (m .sent) fits (r .empty-run .ensures .1))
+    (s .pre .0)
 
-loop-less : tie.Need-loop-less Inv-loop μ-loop
-loop-less c = omega (arith, turn (c .before .before .before .before .before .before .before .before .before) .loop-test .taken)
+empty-run-requires-2 : tie.Need-empty-run-requires-2
+empty-run-requires-2 c κs = search needs
 
-loop-again : tie.Need-loop-again Inv-loop μ-loop
-loop-again c =
-    let w = c .before .before .before .before .before .before .before .before .before in
-    retiring.again (turn w .before .loop .inv) (turn w .loop-test .taken) (w .before .before .before .before .before .if1 .left)
-    (w .write .ensures) (c .after .ensures .0)
+sub-empty-run : tie.Need-sub-empty-run
+sub-empty-run c = search needs
 
-same-length-5 : tie.Need-same-length-5 Inv-loop μ-loop
-same-length-5 c = retiring.same-cap (c .before .loop .inv)
+empty-run-requires-3 : tie.Need-empty-run-requires-3
+empty-run-requires-3 c κs = search needs
 
-same-length-6 : tie.Need-same-length-6 Inv-loop μ-loop
-same-length-6 c = retiring.same-size (c .before .loop .inv)
+same-length-3 : tie.Need-same-length-3
+same-length-3 c = search needs
 
-same-length-7 : tie.Need-same-length-7 Inv-loop μ-loop
-same-length-7 c = retiring.same-sent (c .before .loop .inv)
+same-length-4 : tie.Need-same-length-4
+same-length-4 c = search needs
 
-same-length-8 : tie.Need-same-length-8 Inv-loop μ-loop
-same-length-8 c = retiring.same-resent (c .before .loop .inv)
-
-returns-2 : tie.Need-returns-2 Inv-loop μ-loop
-returns-2 c = retiring.ends (c .before .loop .inv) (c .loop-test .left)
+returns-2 : tie.Need-returns-2
+returns-2 c =
+    let q = c .before .before .before .before in
+    let r = q .before .before .before .before .before .before .before in
+    let v = r .before .before .before .before in
+    let s = entry v in
+    let m = given s in
+    let n = s .pre .1 .lengths .sent in
+    let over : slots m < v .place .result + v .before .front .result = omega (arith, r .before .before .before .if1 .left, n) in
+    retires (s .pre .1) (low-fits s) (gone-is v)
+    (cut-two (s .args .flow .low) (caps (s .pre .1)) (slot v .0) (slot v .1) (few v) (m .sizes) over
+    (rw n at (r .empty-run2 .ensures .0)) (rw n at (q .empty-run3 .ensures .0)))
+    (cut-two (s .args .flow .low) (caps (s .pre .1)) (slot v .0) (slot v .1) (few v) (m .sent) over
+    (rw n at (r .empty-run2 .ensures .1)) (rw n at (q .empty-run3 .ensures .1)))
+    (s .pre .0)
 
 pub retire-spec : {M : Type 1} → statement M
 retire-spec =
     tie.close
     (tie.spec
-    Inv-loop
-    μ-loop
+    front-requires
     place-requires
-    loop-holds
-    slice-read-if1
+    cast-end
+    add-end
+    empty-run-requires
     same-length
     same-length-2
+    returns
+    empty-run-requires-2
+    sub-empty-run
+    empty-run-requires-3
     same-length-3
     same-length-4
-    returns
-    add-k
-    write-requires
-    after-requires
-    loop-less
-    loop-again
-    same-length-5
-    same-length-6
-    same-length-7
-    same-length-8
     returns-2)

@@ -2,14 +2,17 @@
 use mathlib.Core.Path.{refl, _∙_}
 use borrow.Author.Needs.{needs}
 use Rattle.rules.specs.Verdict.{numberOf}
-use Rattle.ledger.specs.Ring.{Ring, ring}
+use Rattle.ledger.specs.Ring.{Ring}
+use Rattle.ledger.specs.Memory.{memory, shown}
 use Rattle.ledger.proofs.Signs.{sinks-word}
 use Rattle.ledger.proofs.Judging.{mark-10, mark-11, mark-0}
 use Rattle.ledger.proofs.judge.judge_mark.Statement.{statement}
 use Rattle.ledger.proofs.judge.judge_mark.Tie as tie
 
 abbrev slots : tie.Start → Ring
-slots s = ring (s .args .status .now) (s .args .size .now) (s .args .sent .now) (s .args .resent .now)
+slots s =
+    shown (s .args .books .flow .low) (s .args .books .flow .next)
+    (memory (s .args .outstanding .now) (s .args .marked .now) (s .args .sizes .now) (s .args .sent .now))
 
 find-requires : tie.Need-find-requires
 find-requires c κs = search needs

@@ -1,13 +1,16 @@
 -- `judge_resend` tests the row of a resend on the packet that it finds.
 use borrow.Author.Needs.{needs}
 use Rattle.rules.specs.Verdict.{numberOf}
-use Rattle.ledger.specs.Ring.{Ring, ring}
+use Rattle.ledger.specs.Ring.{Ring}
+use Rattle.ledger.specs.Memory.{memory, shown}
 use Rattle.ledger.proofs.Judging.{resend-8, resend-0}
 use Rattle.ledger.proofs.judge.judge_resend.Statement.{statement}
 use Rattle.ledger.proofs.judge.judge_resend.Tie as tie
 
 abbrev slots : tie.Start → Ring
-slots s = ring (s .args .status .now) (s .args .size .now) (s .args .sent .now) (s .args .resent .now)
+slots s =
+    shown (s .args .flow .low) (s .args .flow .next)
+    (memory (s .args .outstanding .now) (s .args .marked .now) (s .args .sizes .now) (s .args .sent .now))
 
 find-requires : tie.Need-find-requires
 find-requires c κs = search needs

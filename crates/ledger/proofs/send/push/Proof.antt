@@ -1,27 +1,26 @@
--- `push` stores a packet behind the others (`push-is`); a ledger that holds together leaves room for every sum.
+-- `push` stores a packet behind the others (`push-kept`); a ledger that holds together leaves room for every sum.
 use mathlib.Core.Path.{_∙_, ap}
 use native.Mathlib.Omega.{arith}
 use lib.IntN.{ℤ, pos, _+ℤ_}
 use borrow.Author.Needs.{needs}
-use Rattle.ledger.specs.Ring.{Ledger, ring, ledger}
-use Rattle.ledger.proofs.Facts.{sound-ledger-facts}
+use Rattle.ledger.specs.Memory.{Memory, memory}
 use Rattle.ledger.proofs.Signs.{sound-ledger-flown, word, flown-word}
-use Rattle.ledger.proofs.Sends.{push-is}
+use Rattle.ledger.proofs.Keeping.{sound-lengths, times-cap, push-kept}
 use Rattle.ledger.proofs.send.push.Statement.{statement}
 use Rattle.ledger.proofs.send.push.Tie as tie
 
--- the ledger that came in
-abbrev books-in : tie.Start → Ledger
-books-in s =
-    ledger (s .args .books .flow) (s .args .books .totals)
-    (ring (s .args .status .now) (s .args .size .now) (s .args .sent .now) (s .args .resent .now))
+-- the memory that came in
+abbrev slots : tie.Start → Memory
+slots s = memory (s .args .outstanding .now) (s .args .marked .now) (s .args .sizes .now) (s .args .sent .now)
 
 place-requires : tie.Need-place-requires
-place-requires c κs = sound-ledger-facts (c .before .before .before .before .before .before .pre .0) .cap
+place-requires c κs = let s = c .before .before .before .before .before .before in times-cap _ _ (slots s) (s .pre .0)
 
-write-requires : tie.Need-write-requires
-write-requires c κs = let p = c .before .before .before .before in
-    (sound-ledger-facts (p .before .before .before .before .before .before .before .pre .0) .even, p .place .ensures .1)
+fly-requires : tie.Need-fly-requires
+fly-requires c κs =
+    let s = c .before .before .before .before .before .before .before .before .before .before .before in
+    let L = sound-lengths _ _ (slots s) (s .pre .0) in
+    (L, (omega (arith, c .before .before .before .before .place .ensures .1, L .sent), s .pre .1 .0 .1, omega arith))
 
 psn-plus-requires : tie.Need-psn-plus-requires
 psn-plus-requires c κs = search needs
@@ -52,25 +51,21 @@ same-length-4 c = search needs
 
 returns : tie.Need-returns
 returns c =
-    let q = c .before .before in
-    let w = q .before .before .before .before .before .before .before .before .before in
-    let p = w .before .before .before .before .before in
+    let p = c .before .before .before .before .before .before .before .before .before .before .before .before .before .before .before
+    .before in
     let s = p .before .before .before .before .before .before .before in
     let a = s .args in
-    let l = books-in s in
-    push-is (s .pre .0 .mtu) (s .pre .0 .clock) (l .flow) (l .slots) (sound-ledger-facts (s .pre .0)) (s .pre .1 .1)
-    (l .totals) (a .time) (a .bytes) (p .place .result) (q .psn-plus .result) (c .more .result)
-    (ring (w .write .last .0) (w .write .last .1 .0) (w .write .last .1 .1 .0) (w .write .last .1 .1 .1 .0))
-    (p .place .ensures .0) (q .psn-plus .ensures)
-    (c .more .ensures ∙ ap (λ (z : ℤ). z +ℤ pos (a .bytes)) (word (l .totals .«in_flight») (sound-ledger-flown (s .pre .0))))
-    (w .write .ensures)
+    push-kept (a .books .flow) (a .books .totals) (slots s) (s .pre .0) (s .pre .1 .1) (p .place .result) (p .place .ensures .0)
+    (a .time) (a .bytes) (c .before .before .psn-plus .result) (c .more .result) (s .pre .1 .0 .1) (c .before .before .psn-plus .ensures)
+    (c .more .ensures ∙ ap (λ (z : ℤ). z +ℤ pos (a .bytes)) (word (a .books .totals .«in_flight») (sound-ledger-flown (s .pre .0))))
+    _ (c .before .before .before .before .before .before .before .before .before .before .before .fly .ensures)
 
 pub push-spec : {M : Type 1} → statement M
 push-spec =
     tie.close
     (tie.spec
     place-requires
-    write-requires
+    fly-requires
     psn-plus-requires
     sub-flow
     add-totals

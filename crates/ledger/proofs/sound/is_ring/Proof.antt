@@ -1,6 +1,7 @@
--- `is_ring` is the definition's chain of comparisons, after `is_capacity`.
+-- `is_ring` makes the tests of `isEven`, each by a number of its own (`even-test`).
+use Rattle.ledger.specs.Memory.{memory}
+use Rattle.ledger.proofs.Tally.{even-test}
 use borrow.Author.Needs.{needs}
-use Rattle.ledger.specs.Sound.{isRing}
 use Rattle.ledger.proofs.sound.is_ring.Statement.{statement}
 use Rattle.ledger.proofs.sound.is_ring.Tie as tie
 
@@ -8,8 +9,9 @@ is-capacity-requires : tie.Need-is-capacity-requires
 is-capacity-requires c κs = search needs
 
 returns : tie.Need-returns
-unfolding isRing
-returns c = rw (c .is-capacity .ensures)
+returns c =
+    let a = c .before .before .before .before .before .args in
+    rw (c .is-capacity .ensures) (even-test (memory (a .outstanding .now) (a .marked .now) (a .sizes .now) (a .sent .now)))
 
 pub is-ring-spec : {M : Type 1} → statement M
 is-ring-spec = tie.close (tie.spec is-capacity-requires returns)

@@ -1,18 +1,25 @@
--- `is_sound` makes the tests of `soundLedger`: no ring (`not-ring`), more packets than slots (`too-long`), else
+-- `is_sound` makes the tests of `soundLedger`: bad lengths (`not-even`), more packets than slots (`too-long`), else
 -- all that is left (`all-tests`).
-use mathlib.Core.Path.{_≡_, refl, sym, ap, _∙_}
-use mathlib.Core.Bool.{true}
+use mathlib.Core.Path.{_≡_, sym, ap, ap₂, _∙_}
+use mathlib.Core.Bool.{true, _||_}
 use mir.Syntax.{w64}
 use mir.Val.{toZ, ofZ}
-use Prim.Native.Nat.{_<_}
+use Prim.Native.Nat.{ℕ, _%_, _≤_, _<_}
 use native.Mathlib.Omega.{arith}
-use borrow.Author.Needs.{needs}
+use lib.Dec.{eqb}
+use lib.ListN.{length}
 use borrow.Author.Tests.{not-true, not-false}
+use Rattle.bits.specs.Bits.{bitAt}
+use Rattle.bits.proofs.Words.{word-yes}
 use Rattle.serial.specs.Psn.{psns}
 use Rattle.ledger.specs.Bounds.{inBounds}
-use Rattle.ledger.specs.Ring.{Ring, ring}
-use Rattle.ledger.specs.Sound.{isRing, Even}
-use Rattle.ledger.proofs.Facts.{ring-cap, ring-even, not-ring, too-long, all-tests}
+use Rattle.ledger.specs.Memory.{Memory, memory, slotsOf, Words}
+use Rattle.ledger.specs.Sound.{allTo, isCapacity, isEven, Lengths}
+use Rattle.ledger.specs.Stretch.{markOk, slotAt}
+use Rattle.ledger.proofs.Geometry.{cap-facts}
+use Rattle.ledger.proofs.Shows.{slots-even, even-lengths}
+use Rattle.ledger.proofs.Tally.{not-even, too-long, all-tests}
+use borrow.Author.Needs.{needs}
 use Rattle.ledger.proofs.sound.is_sound.Statement.{statement}
 use Rattle.ledger.proofs.sound.is_sound.Tie as tie
 
@@ -22,8 +29,8 @@ is-ring-requires c κs = search needs
 returns : tie.Need-returns
 returns c =
     let a = c .before .before .before .before .before .before .before .before .args in
-    not-ring (a .mtu) (a .maxwnd) (a .clock) (a .books .flow) (a .books .totals)
-    (ring (a .status .now) (a .size .now) (a .sent .now) (a .resent .now)) _ refl
+    not-even (a .mtu) (a .maxwnd) (a .clock) (a .books .flow) (a .books .totals)
+    (memory (a .outstanding .now) (a .marked .now) (a .sizes .now) (a .sent .now))
     (sym (c .before .is-ring .ensures) ∙ not-true _ (c .if1 .taken))
 
 long-requires : tie.Need-long-requires
@@ -32,17 +39,33 @@ long-requires c κs = search needs
 cast-if2 : tie.Need-cast-if2
 cast-if2 c = search needs
 
--- past the first test the four slices are a ring
-abbrev ringAt : tie.Else1 → Ring
-ringAt c =
+-- past the first test the lengths are even
+abbrev memoryAt : tie.Else1 → Memory
+memoryAt c =
     let a = c .before .before .before .before .before .before .before .before .args in
-    ring (a .status .now) (a .size .now) (a .sent .now) (a .resent .now)
+    memory (a .outstanding .now) (a .marked .now) (a .sizes .now) (a .sent .now)
 
-ringed : (c : tie.Else1) → isRing (ringAt c) ≡ true
-ringed c = sym (c .before .is-ring .ensures) ∙ not-false _ (c .if1 .left)
+evenly : (c : tie.Else1) → isEven (memoryAt c) ≡ true
+evenly c = sym (c .before .is-ring .ensures) ∙ not-false _ (c .if1 .left)
 
-even : (c : tie.Else1) → Even (ringAt c)
-even c = ring-even (ringAt c) (ringed c)
+lengths : (c : tie.Else1) → Lengths (memoryAt c)
+lengths c = even-lengths (memoryAt c) (evenly c)
+
+slots : (c : tie.Else1) → slotsOf (memoryAt c) ≡ length (memoryAt c .sizes)
+slots c = slots-even (memoryAt c) (lengths c) ∙ sym (lengths c .sizes)
+
+capacity : (c : tie.Else1) → isCapacity (length (memoryAt c .sizes)) ≡ true
+capacity c = ap isCapacity (lengths c .sizes) ∙ lengths c .cap
+
+words-few : (c : tie.Else1) → length (memoryAt c .outstanding) ≤ 64
+words-few c = omega (arith, lengths c .sizes, cap-facts (length (memoryAt c .sizes)) (capacity c))
+
+-- the bits stand in machine words
+words : (c : tie.Else1) → Words (memoryAt c)
+words c = record {
+  outstanding = λ q h. word-yes _ (c .before .before .before .before .before .before .before .shared-slice-known .given q .fits);
+  marked = λ q h. word-yes _ (c .before .before .before .before .before .before .shared-slice-known2 .given q .fits);
+}
 
 -- low and next are words of 32 bits
 low-fits : (c : tie.Else1) → c .before .before .before .before .before .before .before .before .args .books .flow .low < psns
@@ -55,36 +78,46 @@ returns-2 : tie.Need-returns-2
 returns-2 c =
     let d = c .before .before in
     let a = d .before .before .before .before .before .before .before .before .args in
-    too-long (a .mtu) (a .maxwnd) (a .clock) (a .books .flow) (a .books .totals) (ringAt d) _ (c .before .long .ensures) (ringed d)
-    (c .if2 .taken)
+    too-long (a .mtu) (a .maxwnd) (a .clock) (a .books .flow) (a .books .totals) (memoryAt d) (evenly d)
+    (omega (arith, c .if2 .taken, c .before .long .ensures, slots d))
 
-tally-requires : tie.Need-tally-requires
-tally-requires c κs = (even (c .before .before), (c .if2 .left, ring-cap _ (ringed (c .before .before))))
+marks-within-requires : tie.Need-marks-within-requires
+marks-within-requires c κs = omega (arith, lengths (c .before .before))
 
-rest-requires : tie.Need-rest-requires
-rest-requires c κs = (
-  even (c .before .before .before),
-  (c .before .if2 .left, (ring-cap _ (ringed (c .before .before .before)), c .tally .ensures .sound-is)),
-)
+slots-ok-requires : tie.Need-slots-ok-requires
+slots-ok-requires c κs =
+    let d = c .before .before .before in
+    ((capacity d, c .before .if2 .left), (sym (lengths d .sizes), lengths d .sent ∙ sym (lengths d .sizes)))
 
 head-ok-requires : tie.Need-head-ok-requires
-head-ok-requires c κs = let d = c .before .before .before .before in (even d, ring-cap _ (ringed d))
+head-ok-requires c κs = let d = c .before .before .before .before in (capacity d, sym (lengths d .sizes), omega (arith, lengths d))
+
+tallies-requires : tie.Need-tallies-requires
+tallies-requires c κs =
+    let d = c .before .before .before .before .before .before .before in
+    ((words-few d, omega (arith, lengths d, words-few d)), omega (arith, lengths d))
 
 in-bounds-requires : tie.Need-in-bounds-requires
 in-bounds-requires c κs = search needs
 
 returns-3 : tie.Need-returns-3
 returns-3 c =
-    let t = c .before .before .before .before .before .before .before .before .before .before .before .before in
-    let d = t .before .before .before in
+    let d = c .before .before .before .before .before .before .before .before .before .before in
     let a = d .before .before .before .before .before .before .before .before .args in
+    let f = a .books .flow in
+    let m = memoryAt d in
     let z = a .books .totals .«in_flight» in
+    let n = c .before .before .before .before .before .before .before .before .before .long .ensures in
     let word : toZ w64 (ofZ w64 z) ≡ z = search needs in
-    all-tests (a .mtu) (a .maxwnd) (a .clock) (a .books .flow) (a .books .totals) (ringAt d) _ (t .before .before .long .ensures) (ringed d)
-    (t .before .if2 .left) _ _ _ _ _ _ _ (t .tally .ensures)
-    (c .before .before .before .before .before .before .before .before .before .before .before .rest .ensures)
-    (c .before .before .before .before .before .before .before .before .before .before .head-ok .ensures)
-    (c .in-bounds .ensures ∙ ap (inBounds (a .maxwnd)) word) (low-fits d) (next-fits d)
+    all-tests (a .mtu) (a .maxwnd) (a .clock) f (a .books .totals) m (lengths d) (words d) (evenly d)
+    (omega (arith, c .before .before .before .before .before .before .before .before .if2 .left, n, slots d)) _ _ _ _ _
+    (c .before .before .before .before .before .before .before .marks-within .ensures
+    ∙ ap (allTo (markOk (m .outstanding) (m .marked))) (sym (slots-even m (lengths d))))
+    (c .before .before .before .before .before .before .slots-ok .ensures
+    ∙ ap₂ (λ (cap n : ℕ). allTo (slotAt (a .mtu) (a .clock) (m .outstanding) (m .sizes) (m .sent) cap (f .low) n) cap) (sym (slots d)) n)
+    (c .before .before .before .before .before .head-ok .ensures
+    ∙ ap₂ (λ (cap n : ℕ). eqb n 0 || bitAt (m .outstanding) (f .low % cap) || bitAt (m .marked) (f .low % cap)) (sym (slots d)) n)
+    (c .before .before .tallies .ensures) (c .in-bounds .ensures ∙ ap (inBounds (a .maxwnd)) word) (low-fits d) (next-fits d)
 
 pub is-sound-spec : {M : Type 1} → statement M
 is-sound-spec =
@@ -95,8 +128,9 @@ is-sound-spec =
     long-requires
     cast-if2
     returns-2
-    tally-requires
-    rest-requires
+    marks-within-requires
+    slots-ok-requires
     head-ok-requires
+    tallies-requires
     in-bounds-requires
     returns-3)

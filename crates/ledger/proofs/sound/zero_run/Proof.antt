@@ -1,14 +1,14 @@
--- `zero_run` looks at each of the four slices; what they say together is `zero-all`.
-use Prim.Native.Nat.{_-_}
-use native.Mathlib.Omega.{arith}
+-- `zero_run` looks at the bits, the numbers and the times; `in-and` puts them together.
+use mathlib.Core.Path.{refl, ap₂, _∙_}
+use mathlib.Core.Bool.{Bool, _&&_}
+use Rattle.ledger.specs.Stretch.{sizedAt, timedAt, clearAt, zeroAt}
+use Rattle.ledger.proofs.Stretches.{in-and}
 use borrow.Author.Needs.{needs}
-use Rattle.ledger.specs.Ring.{ring}
-use Rattle.ledger.proofs.Stretches.{zero-all}
 use Rattle.ledger.proofs.sound.zero_run.Statement.{statement}
 use Rattle.ledger.proofs.sound.zero_run.Tie as tie
 
-bytes-within-requires : tie.Need-bytes-within-requires
-bytes-within-requires c κs = search needs
+none-set-requires : tie.Need-none-set-requires
+none-set-requires c κs = search needs
 
 sizes-within-requires : tie.Need-sizes-within-requires
 sizes-within-requires c κs = search needs
@@ -16,24 +16,19 @@ sizes-within-requires c κs = search needs
 times-until-requires : tie.Need-times-until-requires
 times-until-requires c κs = search needs
 
-bytes-within-requires-2 : tie.Need-bytes-within-requires-2
-bytes-within-requires-2 c κs = search needs
-
 returns : tie.Need-returns
+unfolding zeroAt
 returns c =
-    let s = c .before .before .before .before .before .before .before .before in
-    let a = s .args in
-    let r = ring (a .status .now) (a .size .now) (a .sent .now) (a .resent .now) in
-    zero-all r (s .pre .0) (a .from) (a .to - a .from) (omega arith) _ _ _ _
-    (c .before .before .before .bytes-within .ensures) (c .before .before .sizes-within .ensures) (c .before .times-until .ensures)
-    (c .bytes-within2 .ensures)
+    let a = c .before .before .before .before .before .before .args in
+    let f = clearAt (a .outstanding .now) in
+    let g = sizedAt 0 0 0 (a .sizes .now) in
+    let h = timedAt 0 (a .sent .now) in
+    ap₂ (λ (x y : Bool). x && y)
+    (ap₂ (λ (x y : Bool). x && y) (c .before .before .none-set .ensures) (c .before .sizes-within .ensures)
+    ∙ in-and f g (λ i. f i && g i) (a .from) (a .to) (λ i. refl))
+    (c .times-until .ensures)
+    ∙ in-and (λ i. f i && g i) h (zeroAt (a .outstanding .now) (a .sizes .now) (a .sent .now)) (a .from) (a .to) (λ i. refl)
 
 pub zero-run-spec : {M : Type 1} → statement M
 zero-run-spec =
-    tie.close
-    (tie.spec
-    bytes-within-requires
-    sizes-within-requires
-    times-until-requires
-    bytes-within-requires-2
-    returns)
+    tie.close (tie.spec none-set-requires sizes-within-requires times-until-requires returns)

@@ -1,12 +1,14 @@
--- `is_within` is the two sides of `inside`.
+-- `is_within` makes the tests of `sizedIn`.
 use mathlib.Core.Path.{refl}
 use native.Mathlib.Omega.{arith}
 use Rattle.rules.specs.Test.{inside}
+use Rattle.ledger.specs.Memory.{sizeIn, resentIn}
+use Rattle.ledger.specs.Stretch.{sizedIn}
 use Rattle.ledger.proofs.stretch.is_within.Statement.{statement}
 use Rattle.ledger.proofs.stretch.is_within.Tie as tie
 
 returns : tie.Need-returns
-unfolding inside
+unfolding sizedIn inside sizeIn resentIn
 returns c = (refl, omega arith)
 
 pub is-within-spec : {M : Type 1} → statement M

@@ -1,57 +1,54 @@
--- `marked_sum` adds slot by slot: by its invariant those before i are added up, and a turn is `sum-next`.
+-- `marked_sum` adds word by word: by its invariant those before q are added up, and a turn is `bytes-word`.
 use mathlib.Core.Path.{_≡_, ap, _∙_}
-use Prim.Native.Nat.{_-_, _*_, _^_, _≤_}
+use Prim.Native.Nat.{ℕ, _+_, _-_, _*_, _^_, _≤_}
 use native.Mathlib.Omega.{arith}
+use lib.ListN.{length}
+use Rattle.bits.specs.Bits.{sumTo}
+use Rattle.ledger.specs.Stretch.{sizeAt, bytesOf}
+use Rattle.ledger.proofs.Stretches.{sum-none, bytes-word}
 use borrow.Author.Needs.{needs}
-use Rattle.ledger.specs.Stretch.{sumTo, sizeAt}
-use Rattle.ledger.proofs.Stretches.{size-at, sum-none, sum-next}
 use Rattle.ledger.proofs.stretch.marked_sum.Statement.{statement}
 use Rattle.ledger.proofs.stretch.marked_sum.Tie as tie
 
 abbrev Inv-loop : tie.InvT-loop
-Inv-loop status size from to bytes₀ i₀ bytes i = (from ≤ i) × (i ≤ to) × (bytes ≡ sumTo (sizeAt status size from) (i - from))
-    × (bytes ≤ (i - from) * 2 ^ 32)
+Inv-loop marked sizes bytes₀ q₀ bytes q = (q ≤ length marked) × (bytes ≡ sumTo (sizeAt marked sizes) (q * 64)) × (bytes ≤ q * 2 ^ 22)
 
 abbrev μ-loop : tie.MeasureT-loop
-μ-loop status size from to bytes₀ i₀ bytes i = to - i
+μ-loop marked sizes bytes₀ q₀ bytes q = length marked - q
 
 loop-holds : tie.Need-loop-holds Inv-loop μ-loop
-loop-holds c = (omega arith, omega arith, sum-none _ _ (omega arith), omega arith)
+loop-holds c = (omega arith, sum-none _, omega arith)
 
-shared-slice-read-size-of : tie.Need-shared-slice-read-size-of Inv-loop μ-loop
-shared-slice-read-size-of c = search needs
+mul-bytes-in : tie.Need-mul-bytes-in Inv-loop μ-loop
+mul-bytes-in c = search needs
 
-mul-size-of : tie.Need-mul-size-of Inv-loop μ-loop
-mul-size-of c = search needs
+shared-slice-read-bytes-in : tie.Need-shared-slice-read-bytes-in Inv-loop μ-loop
+shared-slice-read-bytes-in c = search needs
 
-shared-slice-read-size-of-2 : tie.Need-shared-slice-read-size-of-2 Inv-loop μ-loop
-shared-slice-read-size-of-2 c = search needs
-
-size-of-requires : tie.Need-size-of-requires Inv-loop μ-loop
-size-of-requires c κs = search needs
+bytes-in-requires : tie.Need-bytes-in-requires Inv-loop μ-loop
+bytes-in-requires c κs = search needs
 
 add-bytes : tie.Need-add-bytes Inv-loop μ-loop
 add-bytes c = omega arith
 
-add-i : tie.Need-add-i Inv-loop μ-loop
-add-i c = search needs
+add-q : tie.Need-add-q Inv-loop μ-loop
+add-q c = search needs
 
 loop-less : tie.Need-loop-less Inv-loop μ-loop
 loop-less c = search needs
 
 loop-again : tie.Need-loop-again Inv-loop μ-loop
 loop-again c =
-    let b = c .before .before .before .before in
-    let a = c .before .before .before .before .before .before .before .args in (
+    let l = c .before .before .before .loop in
+    let a = c .before .before .before .before .before .before .args in (
       omega arith,
-      omega arith,
-      sum-next (sizeAt (a .status .now) (a .size .now) (a .from)) (a .from) (b .loop .i) (omega arith) _ _ (b .loop .inv .2)
-          (c .size-of .ensures .0 ∙ size-at (a .from) (b .loop .i) (a .status .now) (a .size .now) (omega arith)),
-      omega arith,
+      ap (λ (x : ℕ). l .bytes + x) (c .bytes-in .ensures .0) ∙ bytes-word (a .marked .now) (a .sizes .now) (l .q) (l .bytes) (l .inv .1),
+      omega (arith, c .bytes-in .ensures .1),
     )
 
 returns : tie.Need-returns Inv-loop μ-loop
-returns c = (c .before .loop .inv .2 ∙ ap (sumTo _) (omega arith), omega arith)
+unfolding bytesOf
+returns c = (c .before .loop .inv .1 ∙ ap (sumTo _) (omega arith), omega arith)
 
 pub marked-sum-spec : {M : Type 1} → statement M
 marked-sum-spec =
@@ -60,12 +57,11 @@ marked-sum-spec =
     Inv-loop
     μ-loop
     loop-holds
-    shared-slice-read-size-of
-    mul-size-of
-    shared-slice-read-size-of-2
-    size-of-requires
+    mul-bytes-in
+    shared-slice-read-bytes-in
+    bytes-in-requires
     add-bytes
-    add-i
+    add-q
     loop-less
     loop-again
     returns)
