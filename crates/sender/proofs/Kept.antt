@@ -1,4 +1,4 @@
--- Each event keeps state and buffers together: a sound world, stepped by an event that no row refuses, is sound (..-kept), and so what an
+-- Each event keeps state and buffers together: a sound view, stepped by an event that no row refuses, is sound (..-kept), and so what an
 -- event leaves of a sound world is sound whatever it answers (..-lasts). From what the ledger's step and the window's rules keep (Stepping)
 -- and what makes a world sound (Sounds).
 -- Assumes nothing.
@@ -17,8 +17,8 @@ use Rattle.window.proofs.Keeps.{sound-ack, sound-nack, sound-loss}
 use Rattle.ledger.specs.Packets.{isOut}
 use Rattle.ledger.specs.Ring.{Ledger, packetOf}
 use Rattle.ledger.specs.Steps.{supplyOf, newlyOf}
-use Rattle.sender.specs.World.{World, Answered, Routing}
-use Rattle.sender.specs.Sound.{sound}
+use Rattle.sender.specs.World.{World, View, Answered, Routing, viewOf, worldOf}
+use Rattle.sender.specs.Sound.{soundView, sound}
 use Rattle.sender.specs.Rows.{withSound, newDataRows, sendAllRows, ackAllRows, nackAllRows, lossAllRows, pathRows}
 use Rattle.sender.specs.Steps.{settled, avoidedIn, newDataState, newDataStep, sendStep, ackSample, ackStep, nackSample, nackStep}
 use Rattle.sender.specs.Steps.{lossStep, routeOf, pathState, pathStep}
@@ -28,85 +28,86 @@ use Rattle.sender.specs.declared.Ack.{Ack}
 use Rattle.sender.specs.declared.Nack.{Nack}
 use Rattle.sender.specs.declared.Loss.{Loss}
 use Rattle.sender.proofs.Sounds.{SoundFacts, sound-facts, stated-sound, settled-sound, avoided-long, avoided-ok}
+use Rattle.sender.proofs.Views.{world-sound}
 use Rattle.sender.proofs.Stepping.{Ready, time-facts, new-data-facts, send-facts, ack-facts, nack-facts, loss-facts, supply-ready}
 use Rattle.sender.proofs.Stepping.{send-ready, ack-ready, marked-ready, path-ready, taken-inside}
 
 -- after a ledger's step and the window's rules, with one EV's time changed or none
-kept-of : {w : World} (S : SoundFacts w) {time : ℕ} {l : Ledger} (R : Ready (w .state .settings) time (w .state .window) l) {v : Window}
-    → SoundWindow (w .state .settings) time v → (on : Bool) (ev : ℕ)
-    → sound (settled time (w .state) l v (avoidedIn on ev time (w .state .window .base) (w .times))) ≡ true
-kept-of {w} S {time} {l} R {v} H on ev =
-    settled-sound time (w .state) l v (avoidedIn on ev time (w .state .window .base) (w .times)) (R .range) H (R .sound-ledger) (R .early)
-    (omega (arith, avoided-long on ev time (w .state .window .base) (w .times), S .times-long))
-    (avoided-ok on ev time (w .state .window .base) (w .times) (R .early)
+kept-of : {v : View} (S : SoundFacts v) {time : ℕ} {l : Ledger} (R : Ready (v .state .settings) time (v .state .window) l) {u : Window}
+    → SoundWindow (v .state .settings) time u → (on : Bool) (ev : ℕ)
+    → soundView (settled time (v .state) l u (avoidedIn on ev time (v .state .window .base) (v .times))) ≡ true
+kept-of {v} S {time} {l} R {u} H on ev =
+    settled-sound time (v .state) l u (avoidedIn on ev time (v .state .window .base) (v .times)) (R .range) H (R .sound-ledger) (R .early)
+    (omega (arith, avoided-long on ev time (v .state .window .base) (v .times), S .times-long))
+    (avoided-ok on ev time (v .state .window .base) (v .times) (R .early)
     (omega (arith, S .sound-window .base-high, S .range .rtt-high)) (S .times-ok))
     (S .cursor-ok)
 
-pub new-data-kept : (time bytes : ℕ) (w : World) → sound w ≡ true → firstOf (newDataRows time bytes (w .state)) ≡ 0
-    → sound (newDataStep time bytes w) ≡ true
+pub new-data-kept : (time bytes : ℕ) (v : View) → soundView v ≡ true → firstOf (newDataRows time bytes (v .state)) ≡ 0
+    → soundView (newDataStep time bytes v) ≡ true
 unfolding newDataStep newDataState
-new-data-kept time bytes w e rows =
-    let c = w .state in
-    let S = sound-facts w e in
+new-data-kept time bytes v e rows =
+    let c = v .state in
+    let S = sound-facts v e in
     let N = new-data-facts time bytes c rows in
     let R = supply-ready S bytes (N .0) (N .1) in
-    stated-sound (c .settings) (supplyOf bytes (c .flow)) (c .totals) (c .window) time (c .cursor) (w .slots) (w .times)
+    stated-sound (c .settings) (supplyOf bytes (c .flow)) (c .totals) (c .window) time (c .cursor) (v .slots) (v .times)
     (R .range) (R .sound-window) (R .sound-ledger) (R .early) (S .times-long) (S .times-ok) (S .cursor-ok)
 
-pub send-kept : (time : ℕ) (a : Send) (w : World) → sound w ≡ true → firstOf (sendAllRows time a (w .state) (w .slots)) ≡ 0
-    → sound (sendStep time a w) ≡ true
+pub send-kept : (time : ℕ) (a : Send) (v : View) → soundView v ≡ true → firstOf (sendAllRows time a (v .state) (v .slots)) ≡ 0
+    → soundView (sendStep time a v) ≡ true
 unfolding sendStep
-send-kept time a w e rows =
-    let S = sound-facts w e in
-    let R = send-ready S (send-facts time a (w .state) (w .slots) rows) in
-    settled-sound time (w .state) _ (w .state .window) (w .times) (R .range) (R .sound-window) (R .sound-ledger) (R .early)
+send-kept time a v e rows =
+    let S = sound-facts v e in
+    let R = send-ready S (send-facts time a (v .state) (v .slots) rows) in
+    settled-sound time (v .state) _ (v .state .window) (v .times) (R .range) (R .sound-window) (R .sound-ledger) (R .early)
     (S .times-long) (S .times-ok) (S .cursor-ok)
 
-pub ack-kept : (time : ℕ) (a : Ack) (w : World) → sound w ≡ true → firstOf (ackAllRows time a (w .state)) ≡ 0
-    → sound (ackStep time a w) ≡ true
+pub ack-kept : (time : ℕ) (a : Ack) (v : View) → soundView v ≡ true → firstOf (ackAllRows time a (v .state)) ≡ 0
+    → soundView (ackStep time a v) ≡ true
 unfolding ackStep ackSample
-ack-kept time a w e rows =
-    let c = w .state in
-    let S = sound-facts w e in
+ack-kept time a v e rows =
+    let c = v .state in
+    let S = sound-facts v e in
     let R = ack-ready S (ack-facts time a c rows) in
-    let x = packetOf (c .flow) (w .slots) (a .trigger) in
+    let x = packetOf (c .flow) (v .slots) (a .trigger) in
     kept-of S R
     (sound-ack (R .range) _ (R .early) (R .flown .high) (newlyOf (a .count) (c .flow .held)) (a .marked)
     (sample-bounds (isOut x) (x .resent) (a .retx) time (x .sent) (a .service)) (R .sound-window))
     (a .marked) (a .ev)
 
-pub nack-kept : (time : ℕ) (a : Nack) (w : World) → sound w ≡ true → firstOf (nackAllRows time a (w .state) (w .slots)) ≡ 0
-    → sound (nackStep time a w) ≡ true
+pub nack-kept : (time : ℕ) (a : Nack) (v : View) → soundView v ≡ true → firstOf (nackAllRows time a (v .state) (v .slots)) ≡ 0
+    → soundView (nackStep time a v) ≡ true
 unfolding nackStep nackSample
-nack-kept time a w e rows =
-    let c = w .state in
-    let S = sound-facts w e in
-    let R = marked-ready S (nack-facts time a c (w .slots) rows) in
-    let x = packetOf (c .flow) (w .slots) (a .psn) in
+nack-kept time a v e rows =
+    let c = v .state in
+    let S = sound-facts v e in
+    let R = marked-ready S (nack-facts time a c (v .slots) rows) in
+    let x = packetOf (c .flow) (v .slots) (a .psn) in
     kept-of S R
     (sound-nack (R .range) _ (R .early) (R .flown .high) (x .size) (a .reason)
     (sample-bounds (isOut x) (x .resent) (a .retx) time (x .sent) 0) (R .sound-window))
     (a .marked || eqb (a .reason) 0) (a .ev)
 
-pub loss-kept : (time : ℕ) (a : Loss) (w : World) → sound w ≡ true → firstOf (lossAllRows time a (w .state) (w .slots)) ≡ 0
-    → sound (lossStep time a w) ≡ true
+pub loss-kept : (time : ℕ) (a : Loss) (v : View) → soundView v ≡ true → firstOf (lossAllRows time a (v .state) (v .slots)) ≡ 0
+    → soundView (lossStep time a v) ≡ true
 unfolding lossStep
-loss-kept time a w e rows =
-    let c = w .state in
-    let S = sound-facts w e in
-    let R = marked-ready S (loss-facts time a c (w .slots) rows) in
-    kept-of S R (sound-loss (R .range) _ (R .early) (R .flown .high) (packetOf (c .flow) (w .slots) (a .psn) .size) (R .sound-window))
+loss-kept time a v e rows =
+    let c = v .state in
+    let S = sound-facts v e in
+    let R = marked-ready S (loss-facts time a c (v .slots) rows) in
+    kept-of S R (sound-loss (R .range) _ (R .early) (R .flown .high) (packetOf (c .flow) (v .slots) (a .psn) .size) (R .sound-window))
     true (a .ev)
 
-pub path-kept : (time : ℕ) (w : World) → sound w ≡ true → firstOf (pathRows time (w .state)) ≡ 0 → sound (pathStep time w) ≡ true
+pub path-kept : (time : ℕ) (v : View) → soundView v ≡ true → firstOf (pathRows time (v .state)) ≡ 0 → soundView (pathStep time v) ≡ true
 unfolding pathStep pathState
-path-kept time w e rows =
-    let c = w .state in
-    let S = sound-facts w e in
+path-kept time v e rows =
+    let c = v .state in
+    let S = sound-facts v e in
     let R = path-ready S (time-facts time c _ rows .0) in
-    stated-sound (c .settings) (c .flow) (c .totals) (c .window) time (routeOf time w .cursor) (w .slots) (w .times)
+    stated-sound (c .settings) (c .flow) (c .totals) (c .window) time (routeOf time v .cursor) (v .slots) (v .times)
     (R .range) (R .sound-window) (R .sound-ledger) (R .early) (S .times-long) (S .times-ok)
-    (taken-inside time (c .cursor) (w .times) {x = routeOf time w} refl (S .times-long) (S .cursor-ok) .1)
+    (taken-inside time (c .cursor) (v .times) {x = routeOf time v} refl (S .times-long) (S .cursor-ok) .1)
 
 -- ---- whatever is answered
 
@@ -119,31 +120,32 @@ lasts {A} leaves w xs done refused e kept same =
     (λ z. kept (first-later (firstOf xs) 2 (not (sound w)) xs (ap not e) refl ∙ z))
     (λ z. ap sound same ∙ e)
 
-decided-lasts : (w after : World) (xs : List Row) → sound w ≡ true → (firstOf xs ≡ 0 → sound after ≡ true)
-    → sound (decided (firstOf (withSound w xs)) w after .after) ≡ true
+decided-lasts : (w : World) (after : View) (xs : List Row) → sound w ≡ true → (firstOf xs ≡ 0 → soundView after ≡ true)
+    → sound (decided (firstOf (withSound w xs)) w (worldOf after) .after) ≡ true
 unfolding decided
-decided-lasts w after xs e kept = lasts (λ (a : Answered). a .after) w xs _ _ e kept refl
+decided-lasts w after xs e kept = lasts (λ (a : Answered). a .after) w xs _ _ e (λ z. world-sound after (kept z)) refl
 
 pub new-data-lasts : (time bytes : ℕ) (w : World) → sound w ≡ true → sound (onNewData time bytes w .after) ≡ true
 unfolding onNewData
-new-data-lasts time bytes w e = decided-lasts w _ _ e (new-data-kept time bytes w e)
+new-data-lasts time bytes w e = decided-lasts w _ _ e (new-data-kept time bytes (viewOf w) e)
 
 pub send-lasts : (time : ℕ) (a : Send) (w : World) → sound w ≡ true → sound (onSend time a w .after) ≡ true
 unfolding onSend
-send-lasts time a w e = decided-lasts w _ _ e (send-kept time a w e)
+send-lasts time a w e = decided-lasts w _ _ e (send-kept time a (viewOf w) e)
 
 pub ack-lasts : (time : ℕ) (a : Ack) (w : World) → sound w ≡ true → sound (onAck time a w .after) ≡ true
 unfolding onAck
-ack-lasts time a w e = decided-lasts w _ _ e (ack-kept time a w e)
+ack-lasts time a w e = decided-lasts w _ _ e (ack-kept time a (viewOf w) e)
 
 pub nack-lasts : (time : ℕ) (a : Nack) (w : World) → sound w ≡ true → sound (onNack time a w .after) ≡ true
 unfolding onNack
-nack-lasts time a w e = decided-lasts w _ _ e (nack-kept time a w e)
+nack-lasts time a w e = decided-lasts w _ _ e (nack-kept time a (viewOf w) e)
 
 pub loss-lasts : (time : ℕ) (a : Loss) (w : World) → sound w ≡ true → sound (onLoss time a w .after) ≡ true
 unfolding onLoss
-loss-lasts time a w e = decided-lasts w _ _ e (loss-kept time a w e)
+loss-lasts time a w e = decided-lasts w _ _ e (loss-kept time a (viewOf w) e)
 
 pub path-lasts : (time : ℕ) (w : World) → sound w ≡ true → sound (onPath time w .after) ≡ true
 unfolding onPath
-path-lasts time w e = lasts (λ (a : Routing). a .after) w (pathRows time (w .state)) _ _ e (path-kept time w e) refl
+path-lasts time w e =
+    lasts (λ (a : Routing). a .after) w (pathRows time (w .state)) _ _ e (λ z. world-sound _ (path-kept time (viewOf w) e z)) refl

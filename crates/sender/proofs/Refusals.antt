@@ -20,24 +20,26 @@ use Rattle.window.specs.declared.Settings.{Settings}
 use Rattle.ledger.specs.Packets.{isMarked}
 use Rattle.ledger.specs.Bounds.{sizeLeast}
 use Rattle.ledger.specs.Ring.{Ring, capOf, packetOf}
+use Rattle.ledger.specs.Memory.{Memory}
 use Rattle.ledger.specs.Rows.{sendRows}
 use Rattle.ledger.specs.declared.Flow.{Flow}
 use Rattle.ledger.proofs.Judging.{new-0, resend-0}
 use Rattle.sender.specs.Statements.{silent, First, Exact, Apart, plainNewData, plainAck, plainNack, plainLoss, Permitted}
 use Rattle.sender.specs.Statements.{PermittedNew, PermittedResend}
 use Rattle.window.specs.Limits.{timeEnd}
-use Rattle.sender.specs.World.{World, world, Answered, answered, Routing, routed}
+use Rattle.sender.specs.World.{World, world, Answered, answered, Routing, routed, ringOf, viewOf, worldOf}
 use Rattle.sender.specs.Bounds.{roomAfter}
 use Rattle.sender.specs.Rows.{withSound, timeRow, newDataRows, sendAllRows, ackAllRows, nackAllRows, lossAllRows, pathRows, setUpRows}
 use Rattle.sender.specs.Rows.{newDataFields, sendFields, ackFields, nackFields, lossFields}
 use Rattle.sender.specs.Steps.{sendStep}
-use Rattle.sender.specs.Start.{noSettings, freshState, zeros, clearRing, onSetUp}
+use Rattle.sender.specs.Start.{noSettings, freshState, zeros, clearMemory, onSetUp}
 use Rattle.sender.specs.Events.{decided, onNewData, onSend, onAck, onNack, onLoss, onPath}
 use Rattle.sender.specs.declared.Controller.{Controller}
 use Rattle.sender.specs.declared.Send.{Send}
 use Rattle.sender.specs.declared.Ack.{Ack}
 use Rattle.sender.specs.declared.Nack.{Nack}
 use Rattle.sender.specs.declared.Loss.{Loss}
+use Rattle.ledger.proofs.Shows.{shown-cap}
 use Rattle.sender.proofs.Rowing.{numbered, none-silent, first-past, send-numbered, send-all-numbered, rows-new, rows-resend}
 use Rattle.sender.proofs.Rowing.{room-row, answer, taken, untaken, answer-number, answer-other, decided-yes}
 
@@ -79,18 +81,18 @@ module _ (time : ℕ) (w : World) where
       (ap (λ (x : Routing). x .after) o, ap (λ (x : Routing). x .ev) o)
 
 -- "a refused setting up: a state of zeros"
-abbrev cleared : Settings → Ring → List ℕ → Answered
-cleared g r times = answered 0 (freshState g) (clearRing r) (zeros times)
+abbrev cleared : Settings → Memory → List ℕ → Answered
+cleared g m times = answered 0 (freshState g) (clearMemory m) (zeros times)
 
-abbrev blank : ℕ → Ring → List ℕ → Answered
-blank n r times = answered n (freshState noSettings) r times
+abbrev blank : ℕ → Memory → List ℕ → Answered
+blank n m times = answered n (freshState noSettings) m times
 
-pub set-up-same : (g : Settings) (r : Ring) (times : List ℕ) → (onSetUp g r times .number ≡ 0 → ⊥)
-    → onSetUp g r times .after ≡ world (freshState noSettings) r times
+pub set-up-same : (g : Settings) (m : Memory) (times : List ℕ) → (onSetUp g m times .number ≡ 0 → ⊥)
+    → onSetUp g m times .after ≡ world (freshState noSettings) m times
 unfolding onSetUp
-set-up-same g r times h =
-    let n = firstOf (setUpRows g r times) in
-    ap (λ (x : Answered). x .after) (answer-other (λ (x : Answered). x .number) n (cleared g r times) (blank n r times) refl h)
+set-up-same g m times h =
+    let n = firstOf (setUpRows g m times) in
+    ap (λ (x : Answered). x .after) (answer-other (λ (x : Answered). x .number) n (cleared g m times) (blank n m times) refl h)
 
 -- ---- "Of several that apply, the first in the order below is given."
 
@@ -149,19 +151,19 @@ module _ (time : ℕ) (w : World) where
   unfolding onNewData numbered inside
   new-data-exact bytes = decided-exact _ w _ refl
 
-  pub send-exact : (a : Send) → Exact (withSound w (sendAllRows time a (w .state) (w .slots))) (onSend time a w .number)
+  pub send-exact : (a : Send) → Exact (withSound w (sendAllRows time a (w .state) (ringOf w))) (onSend time a w .number)
   unfolding onSend numbered inside
-  send-exact a = decided-exact _ w _ (send-all-numbered time a (w .state) (w .slots))
+  send-exact a = decided-exact _ w _ (send-all-numbered time a (w .state) (ringOf w))
 
   pub ack-exact : (a : Ack) → Exact (withSound w (ackAllRows time a (w .state))) (onAck time a w .number)
   unfolding onAck numbered inside
   ack-exact a = decided-exact _ w _ refl
 
-  pub nack-exact : (a : Nack) → Exact (withSound w (nackAllRows time a (w .state) (w .slots))) (onNack time a w .number)
+  pub nack-exact : (a : Nack) → Exact (withSound w (nackAllRows time a (w .state) (ringOf w))) (onNack time a w .number)
   unfolding onNack numbered inside
   nack-exact a = decided-exact _ w _ refl
 
-  pub loss-exact : (a : Loss) → Exact (withSound w (lossAllRows time a (w .state) (w .slots))) (onLoss time a w .number)
+  pub loss-exact : (a : Loss) → Exact (withSound w (lossAllRows time a (w .state) (ringOf w))) (onLoss time a w .number)
   unfolding onLoss numbered inside
   loss-exact a = decided-exact _ w _ refl
 
@@ -173,12 +175,12 @@ module _ (time : ℕ) (w : World) where
       (rows-exact (withSound w (pathRows time (w .state))) refl)
 
 -- and of setting up
-pub set-up-exact : (g : Settings) (r : Ring) (times : List ℕ) → Exact (setUpRows g r times) (onSetUp g r times .number)
+pub set-up-exact : (g : Settings) (m : Memory) (times : List ℕ) → Exact (setUpRows g m times) (onSetUp g m times .number)
 unfolding onSetUp numbered inside
-set-up-exact g r times =
-    let n = firstOf (setUpRows g r times) in
-    rw (← answer-number (λ (x : Answered). x .number) n (cleared g r times) (blank n r times) refl refl)
-    (rows-exact (setUpRows g r times) refl)
+set-up-exact g m times =
+    let n = firstOf (setUpRows g m times) in
+    rw (← answer-number (λ (x : Answered). x .number) n (cleared g m times) (blank n m times) refl refl)
+    (rows-exact (setUpRows g m times) refl)
 
 -- ---- request M-100: what is refused at all stays, and the fields tell what was 4
 
@@ -296,24 +298,24 @@ module _ (time : ℕ) (w : World) where
   new-data-apart bytes = decided-apart ahead (newDataFields bytes (w .state)) [] _ (any-one _ 20) refl refl w _ refl refl
 
   pub send-apart : (a : Send)
-      → Apart (withSound w (sendAllRows time a (w .state) (w .slots))) (sendFields a (w .state)) (onSend time a w .number)
+      → Apart (withSound w (sendAllRows time a (w .state) (ringOf w))) (sendFields a (w .state)) (onSend time a w .number)
   unfolding onSend fourless numbered inside
   send-apart a =
       decided-apart ahead (sendFields a (w .state)) _ _ (any-one _ 4) refl
-      (send-fourless (w .state .flow) (w .slots) (a .psn) (a .size) (a .resend) _ refl) w _
-      (send-all-numbered time a (w .state) (w .slots)) refl
+      (send-fourless (w .state .flow) (ringOf w) (a .psn) (a .size) (a .resend) _ refl) w _
+      (send-all-numbered time a (w .state) (ringOf w)) refl
 
   pub ack-apart : (a : Ack) → Apart (withSound w (plainAck time a (w .state))) (ackFields a (w .state)) (onAck time a w .number)
   unfolding onAck fourless numbered inside
   ack-apart a = decided-apart ahead (ackFields a (w .state)) _ _ (any-three _ _ _ 21 23 24) refl refl w _ refl refl
 
   pub nack-apart : (a : Nack)
-      → Apart (withSound w (plainNack time a (w .state) (w .slots))) (nackFields a (w .state)) (onNack time a w .number)
+      → Apart (withSound w (plainNack time a (w .state) (ringOf w))) (nackFields a (w .state)) (onNack time a w .number)
   unfolding onNack fourless numbered inside
   nack-apart a = decided-apart ahead (nackFields a (w .state)) _ _ (any-two _ _ 22 23) refl refl w _ refl refl
 
   pub loss-apart : (a : Loss)
-      → Apart (withSound w (plainLoss time a (w .state) (w .slots))) (lossFields a (w .state)) (onLoss time a w .number)
+      → Apart (withSound w (plainLoss time a (w .state) (ringOf w))) (lossFields a (w .state)) (onLoss time a w .number)
   unfolding onLoss fourless numbered inside
   loss-apart a = decided-apart ahead (lossFields a (w .state)) _ _ (any-one _ 23) refl refl w _ refl refl
 
@@ -321,54 +323,58 @@ module _ (time : ℕ) (w : World) where
 
 -- no row applies to a permitted send
 permitted-none : (time : ℕ) (a : Send) (w : World) → Permitted time a w
-    → firstOf (sendRows (w .state .flow) (w .slots) (a .psn) (a .size) (a .resend)) ≡ 0
-    → 0 ≡ firstOf (withSound w (sendAllRows time a (w .state) (w .slots)))
+    → firstOf (sendRows (w .state .flow) (ringOf w) (a .psn) (a .size) (a .resend)) ≡ 0
+    → 0 ≡ firstOf (withSound w (sendAllRows time a (w .state) (ringOf w)))
 unfolding roomAfter
 permitted-none time a w p e =
     first-later 0 2 _ _ (ap not (p .holds-together))
     (first-later 0 3 _ _ (ap₂ _||_ (le-ltb time (w .state .clock) (p .not-before)) (lt-leb timeEnd time (p .in-time)))
     (first-later 0 4 _ _ (ap not (inside-yes sizeLeast (a .size) (w .state .settings .mtu) (p .size-least) (p .size-most)))
     (eq-yes _ 0 0 _ _ e (so-yes _ 0 0 6 (p .room) refl)
-    ∙ room-row (w .state) (sendRows (w .state .flow) (w .slots) (a .psn) (a .size) (a .resend))
-    (send-numbered (w .state .flow) (w .slots) (a .psn) (a .size) (a .resend)))))
+    ∙ room-row (w .state) (sendRows (w .state .flow) (ringOf w) (a .psn) (a .size) (a .resend))
+    (send-numbered (w .state .flow) (ringOf w) (a .psn) (a .size) (a .resend)))))
 
 permitted-send : (time : ℕ) (a : Send) (w : World) → Permitted time a w
-    → firstOf (sendRows (w .state .flow) (w .slots) (a .psn) (a .size) (a .resend)) ≡ 0
-    → onSend time a w ≡ answer 0 (sendStep time a w)
+    → firstOf (sendRows (w .state .flow) (ringOf w) (a .psn) (a .size) (a .resend)) ≡ 0
+    → onSend time a w ≡ answer 0 (worldOf (sendStep time a (viewOf w)))
 unfolding onSend
 permitted-send time a w p e =
-    sym (decided-yes (firstOf (withSound w (sendAllRows time a (w .state) (w .slots)))) w (sendStep time a w)
+    sym (decided-yes (firstOf (withSound w (sendAllRows time a (w .state) (ringOf w)))) w
+    (worldOf (sendStep time a (viewOf w)))
     (sym (permitted-none time a w p e)))
 
-pub permitted-new : (time : ℕ) (a : Send) (w : World) → PermittedNew time a w → onSend time a w ≡ answer 0 (sendStep time a w)
+pub permitted-new : (time : ℕ) (a : Send) (w : World) → PermittedNew time a w
+    → onSend time a w ≡ answer 0 (worldOf (sendStep time a (viewOf w)))
 permitted-new time a w p =
     let f = w .state .flow in
     permitted-send time a w (p .permitted)
-    (sym (new-0 f (capOf (w .slots)) (a .psn) (a .size) (p .psn-next) (p .in-backlog) (p .slot-free)
-    ∙ rows-new f (w .slots) (a .psn) (a .size) (a .resend) (p .is-new)))
+    (sym (new-0 f (capOf (ringOf w)) (a .psn) (a .size) (p .psn-next) (p .in-backlog)
+    (λ z. p .slot-free (z ∙ shown-cap (f .low) (f .next) (w .slots)))
+    ∙ rows-new f (ringOf w) (a .psn) (a .size) (a .resend) (p .is-new)))
 
-pub permitted-resend : (time : ℕ) (a : Send) (w : World) → PermittedResend time a w → onSend time a w ≡ answer 0 (sendStep time a w)
+pub permitted-resend : (time : ℕ) (a : Send) (w : World) → PermittedResend time a w
+    → onSend time a w ≡ answer 0 (worldOf (sendStep time a (viewOf w)))
 unfolding isMarked
 permitted-resend time a w p =
     let f = w .state .flow in
-    let x = packetOf f (w .slots) (a .psn) in
+    let x = packetOf f (ringOf w) (a .psn) in
     permitted-send time a w (p .permitted)
-    (sym (resend-0 f (w .slots) (a .psn) (a .size) x refl
+    (sym (resend-0 f (ringOf w) (a .psn) (a .size) x refl
     (ap₂ (λ m s. not m || not s) (p .psn-marked) (eq-eqb (a .size) (x .size) (p .same-size)))
-    ∙ rows-resend f (w .slots) (a .psn) (a .size) (a .resend) (p .is-resend)))
+    ∙ rows-resend f (ringOf w) (a .psn) (a .size) (a .resend) (p .is-resend)))
 
 -- ---- a number is one outcome's
 
--- no two outcomes satisfy one contract: whatever the right side, it fixes verdict, state, ring and times
-pub one-outcome : (x : Answered) (v u : Verdict) (c d : Controller) (r s : Ring) (t k : List ℕ)
-    → answered (numberOf v) c r t ≡ x → answered (numberOf u) d s k ≡ x → (v ≡ u) × (world c r t ≡ world d s k)
-one-outcome x v u c d r s t k e f =
+-- no two outcomes satisfy one contract: whatever the right side, it fixes verdict, state, memory and times
+pub one-outcome : (x : Answered) (v u : Verdict) (c d : Controller) (l m : Memory) (t k : List ℕ)
+    → answered (numberOf v) c l t ≡ x → answered (numberOf u) d m k ≡ x → (v ≡ u) × (world c l t ≡ world d m k)
+one-outcome x v u c d l m t k e f =
     let g = e ∙ sym f in
     (number-tells v u (ap (λ (y : Answered). y .number) g), ap (λ (y : Answered). y .after) g)
 
 -- .. and of a path choice the EV too
-pub one-route : (x : Routing) (v u : Verdict) (i j : ℕ) (c d : Controller) (r s : Ring) (t k : List ℕ)
-    → routed (numberOf v) i c r t ≡ x → routed (numberOf u) j d s k ≡ x → (v ≡ u) × (i ≡ j) × (world c r t ≡ world d s k)
-one-route x v u i j c d r s t k e f =
+pub one-route : (x : Routing) (v u : Verdict) (i j : ℕ) (c d : Controller) (l m : Memory) (t k : List ℕ)
+    → routed (numberOf v) i c l t ≡ x → routed (numberOf u) j d m k ≡ x → (v ≡ u) × (i ≡ j) × (world c l t ≡ world d m k)
+one-route x v u i j c d l m t k e f =
     let g = e ∙ sym f in
     (number-tells v u (ap (λ (y : Routing). y .number) g), ap (λ (y : Routing). y .ev) g, ap (λ (y : Routing). y .after) g)

@@ -16,10 +16,11 @@ use Rattle.rules.specs.Test.{inside, both, whole, inside-tells}
 use Rattle.rules.specs.Rows.{Row, row, firstOf, first-here, first-later}
 use Rattle.window.specs.declared.Sampling.{Sampling}
 use Rattle.ledger.specs.Ring.{Ring, capOf}
+use Rattle.ledger.specs.Memory.{Memory}
 use Rattle.ledger.specs.Rows.{sendRows, newRows, resendRows}
 use Rattle.ledger.specs.declared.Flow.{Flow}
 use Rattle.sender.specs.Statements.{silent}
-use Rattle.sender.specs.World.{World, world, Answered, answered, Routing}
+use Rattle.sender.specs.World.{World, world, Answered, answered, Routing, viewOf, worldOf}
 use Rattle.sender.specs.Named.{hasRoom}
 use Rattle.sender.specs.Bounds.{roomAfter}
 use Rattle.sender.specs.Sound.{sound}
@@ -206,7 +207,7 @@ abbrev pub answer : ℕ → World → Answered
 answer n w = record { number = n; after = w }
 
 abbrev pub taken : ℕ → World → Routing
-taken time w = record { number = 0; ev = routeOf time w .ev; after = pathStep time w }
+taken time w = record { number = 0; ev = routeOf time (viewOf w) .ev; after = worldOf (pathStep time (viewOf w)) }
 
 abbrev pub untaken : ℕ → World → Routing
 untaken n w = record { number = n; ev = 0; after = w }
@@ -237,8 +238,8 @@ module _ (w : World) (xs : List Row) (after : World) (m : ℕ) (s : Controller) 
         entry-refused w xs (answer 0 after) (λ n. answer n w) e n en (answered m s (w .slots) (w .times)) ne
         (ap₂ (λ k c. answered k c (w .slots) (w .times)) em es)
 
-    -- where the step came to this state, this ring and these times
-    pub answer-accepted : n ≡ 0 → (c : Controller) (r : Ring) (t : List ℕ) → world c r t ≡ after → s ≡ c → m ≡ 0
+    -- where the step came to this state, this memory and these times
+    pub answer-accepted : n ≡ 0 → (c : Controller) (r : Memory) (t : List ℕ) → world c r t ≡ after → s ≡ c → m ≡ 0
         → answered m s r t ≡ decided (firstOf (withSound w xs)) w after
     unfolding decided
     answer-accepted ez c r t ea es em =
@@ -247,7 +248,7 @@ module _ (w : World) (xs : List Row) (after : World) (m : ℕ) (s : Controller) 
 
 -- ---- what an ACK or a NACK says of its sample: nothing where its number is not 0
 
-module _ {number : ℕ} {c : Controller} {r : Ring} {times : List ℕ} {a : Answered} (e : answered number c r times ≡ a) where
+module _ {number : ℕ} {c : Controller} {r : Memory} {times : List ℕ} {a : Answered} (e : answered number c r times ≡ a) where
   told : number ≡ a .number
   told = ap (λ (x : Answered). x .number) e
 

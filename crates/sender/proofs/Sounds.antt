@@ -23,14 +23,14 @@ use Rattle.window.proofs.Tests.{ev-count-bounds, range-facts, range-test, windo
 use Rattle.window.proofs.MaxWnd.{max-wnd-high}
 use Rattle.paths.specs.Path.{Early}
 use Rattle.ledger.specs.Ring.{Ring, Ledger, ledger}
-use Rattle.ledger.specs.Sound.{soundLedger, Even, SoundLedger}
+use Rattle.ledger.specs.Sound.{soundLedger, SoundLedger}
 use Rattle.ledger.specs.declared.Flow.{Flow}
 use Rattle.ledger.specs.declared.Totals.{Totals}
 use Rattle.ledger.proofs.Signs.{sound-ledger-flown}
 use Rattle.ledger.proofs.Facts.{sound-ledger-is, sound-ledger-facts}
-use Rattle.sender.specs.World.{World, world, ledgerOf}
+use Rattle.sender.specs.World.{World, View, view, viewOf, ledgerIn, ledgerOf}
 use Rattle.sender.specs.Named.{phaseOf, phaseNumber}
-use Rattle.sender.specs.Sound.{timesOk, namedOk, sound}
+use Rattle.sender.specs.Sound.{timesOk, namedOk, soundView, sound}
 use Rattle.sender.specs.Bounds.{Bounded}
 use Rattle.sender.specs.Steps.{stateOf, settled, avoidedIn}
 use Rattle.sender.specs.declared.Controller.{Controller}
@@ -120,16 +120,16 @@ module _ (on : Bool) (ev time base : ℕ) (times : List ℕ) where
 
 -- ---- number 2
 
--- what a sound world has
-pub record SoundFacts (w : World) : Type 0 where
-  pub range : InRange (w .state .settings)
-  pub sound-window : SoundWindow (w .state .settings) (w .state .clock) (w .state .window)
-  pub sound-ledger : soundLedger (w .state .settings .mtu) (w .state .settings .maxwnd) (w .state .clock) (ledgerOf w) ≡ true
-  pub clock-ok : w .state .clock < timeEnd
-  pub times-long : length (w .times) ≡ w .state .settings .«ev_count»
-  pub times-ok : timesOk (w .times) ≡ true
-  pub cursor-ok : w .state .cursor < w .state .settings .«ev_count»
-  pub named : w .state .phase ≡ phaseOf (w .state .settings .mtu) (w .state .window .cwnd) (w .state .flow) (w .state .totals)
+-- what a sound view has
+pub record SoundFacts (v : View) : Type 0 where
+  pub range : InRange (v .state .settings)
+  pub sound-window : SoundWindow (v .state .settings) (v .state .clock) (v .state .window)
+  pub sound-ledger : soundLedger (v .state .settings .mtu) (v .state .settings .maxwnd) (v .state .clock) (ledgerIn v) ≡ true
+  pub clock-ok : v .state .clock < timeEnd
+  pub times-long : length (v .times) ≡ v .state .settings .«ev_count»
+  pub times-ok : timesOk (v .times) ≡ true
+  pub cursor-ok : v .state .cursor < v .state .settings .«ev_count»
+  pub named : v .state .phase ≡ phaseOf (v .state .settings .mtu) (v .state .window .cwnd) (v .state .flow) (v .state .totals)
 
 pub name-facts : (c : Controller) → namedOk c ≡ true → c .phase ≡ phaseOf (c .settings .mtu) (c .window .cwnd) (c .flow) (c .totals)
 unfolding namedOk
@@ -139,32 +139,32 @@ pub name-test : (c : Controller) → c .phase ≡ phaseOf (c .settings .mtu) (c 
 unfolding namedOk
 name-test c e = eq-eqb _ _ (ap phaseNumber e)
 
-pub sound-facts : (w : World) → sound w ≡ true → SoundFacts w
-unfolding sound
-sound-facts w e =
-    let c = w .state in
+pub sound-facts : (v : View) → soundView v ≡ true → SoundFacts v
+unfolding soundView
+sound-facts v e =
+    let c = v .state in
     let name = both _ (namedOk c) e in
     let cursor = both _ (ltb (c .cursor) (c .settings .«ev_count»)) (name .0) in
-    let times = both _ (timesOk (w .times)) (cursor .0) in
-    let long = both _ (eqb (length (w .times)) (c .settings .«ev_count»)) (times .0) in
+    let times = both _ (timesOk (v .times)) (cursor .0) in
+    let long = both _ (eqb (length (v .times)) (c .settings .«ev_count»)) (times .0) in
     let clock = both _ (ltb (c .clock) timeEnd) (long .0) in
-    let ledger = both _ (soundLedger (c .settings .mtu) (c .settings .maxwnd) (c .clock) (ledgerOf w)) (clock .0) in
+    let ledger = both _ (soundLedger (c .settings .mtu) (c .settings .maxwnd) (c .clock) (ledgerIn v)) (clock .0) in
     let first = both (inRange (c .settings)) (soundWindow (c .settings) (c .clock) (c .window)) (ledger .0) in
     record {
       range = range-facts (c .settings) (first .0);
       sound-window = window-facts (c .settings) (c .clock) (c .window) (first .1);
       sound-ledger = ledger .1;
       clock-ok = ltb-true (c .clock) timeEnd (clock .1);
-      times-long = eqb-true (length (w .times)) (c .settings .«ev_count») (long .1);
+      times-long = eqb-true (length (v .times)) (c .settings .«ev_count») (long .1);
       times-ok = times .1;
       cursor-ok = ltb-true (c .cursor) (c .settings .«ev_count») (cursor .1);
       named = name-facts c (name .1);
     }
 
-pub facts-sound : (w : World) → SoundFacts w → sound w ≡ true
-unfolding sound
-facts-sound w S =
-    let c = w .state in
+pub facts-sound : (v : View) → SoundFacts v → soundView v ≡ true
+unfolding soundView
+facts-sound v S =
+    let c = v .state in
     whole
     (whole
     (whole
@@ -174,7 +174,7 @@ facts-sound w S =
     (whole (range-test (c .settings) (S .range)) (window-test (c .settings) (c .clock) (c .window) (S .sound-window)))
     (S .sound-ledger))
     (lt-ltb (c .clock) timeEnd (S .clock-ok)))
-    (eq-eqb (length (w .times)) (c .settings .«ev_count») (S .times-long)))
+    (eq-eqb (length (v .times)) (c .settings .«ev_count») (S .times-long)))
     (S .times-ok))
     (lt-ltb (c .cursor) (c .settings .«ev_count») (S .cursor-ok)))
     (name-test c (S .named))
@@ -182,64 +182,61 @@ facts-sound w S =
 -- ---- what judging and stepping rely on
 
 -- of the first three tests alone: the last, the state's name, is taken only after them
-module _ (w : World) (R : InRange (w .state .settings))
-    (e : soundLedger (w .state .settings .mtu) (w .state .settings .maxwnd) (w .state .clock) (ledgerOf w) ≡ true) where
-  parts-ledger : SoundLedger (ledgerOf w)
+module _ (v : View) (R : InRange (v .state .settings))
+    (e : soundLedger (v .state .settings .mtu) (v .state .settings .maxwnd) (v .state .clock) (ledgerIn v) ≡ true) where
+  parts-ledger : SoundLedger (ledgerIn v)
   parts-ledger =
-      sound-ledger-is (w .state .settings .mtu) (w .state .settings .maxwnd) (w .state .clock) (ledgerOf w)
+      sound-ledger-is (v .state .settings .mtu) (v .state .settings .maxwnd) (v .state .clock) (ledgerIn v)
       (omega (arith, R .mtu-high)) (omega (arith, R .maxwnd-high)) e
 
-  parts-bounded : SoundWindow (w .state .settings) (w .state .clock) (w .state .window) → Bounded (w .state)
+  parts-bounded : SoundWindow (v .state .settings) (v .state .clock) (v .state .window) → Bounded (v .state)
   parts-bounded H =
       record {
         flown = sound-ledger-flown parts-ledger;
         backlog-high = sound-ledger-facts parts-ledger .backlog;
         mtu-high = omega (arith, R .mtu-high);
-        evs-high = ev-count-bounds (w .state .settings .«ev_count») (R .evs-allowed) .1;
-        cwnd-high = omega (arith, H .cwnd-high, max-wnd-high R (w .state .window .base) (H .base-high), R .maxwnd-high);
+        evs-high = ev-count-bounds (v .state .settings .«ev_count») (R .evs-allowed) .1;
+        cwnd-high = omega (arith, H .cwnd-high, max-wnd-high R (v .state .window .base) (H .base-high), R .maxwnd-high);
       }
 
 pub sound-to-ledger : (w : World) → sound w ≡ true → SoundLedger (ledgerOf w)
-sound-to-ledger w e = let S = sound-facts w e in parts-ledger w (S .range) (S .sound-ledger)
-
-pub sound-even : (w : World) → sound w ≡ true → Even (w .slots)
-sound-even w e = sound-ledger-facts (sound-to-ledger w e) .even
+sound-to-ledger w e = let S = sound-facts (viewOf w) e in parts-ledger (viewOf w) (S .range) (S .sound-ledger)
 
 pub sound-bounded : (w : World) → sound w ≡ true → Bounded (w .state)
-sound-bounded w e = let S = sound-facts w e in parts-bounded w (S .range) (S .sound-ledger) (S .sound-window)
+sound-bounded w e = let S = sound-facts (viewOf w) e in parts-bounded (viewOf w) (S .range) (S .sound-ledger) (S .sound-window)
 
 -- ---- the tests in their order, as the code makes them
 
-module _ (w : World) (range : Bool) (range-is : range ≡ inRange (w .state .settings)) where
-  pub not-range : not range ≡ true → false ≡ sound w
-  unfolding sound
+module _ (v : View) (range : Bool) (range-is : range ≡ inRange (v .state .settings)) where
+  pub not-range : not range ≡ true → false ≡ soundView v
+  unfolding soundView
   not-range e = rw (sym range-is ∙ not-true range e)
 
   module _ (r : not range ≡ false) (window-ok : Bool)
-      (window-is : window-ok ≡ soundWindow (w .state .settings) (w .state .clock) (w .state .window)) where
-    pub not-window : not window-ok ≡ true → false ≡ sound w
-    unfolding sound
+      (window-is : window-ok ≡ soundWindow (v .state .settings) (v .state .clock) (v .state .window)) where
+    pub not-window : not window-ok ≡ true → false ≡ soundView v
+    unfolding soundView
     not-window e = rw (sym range-is ∙ not-false range r, sym window-is ∙ not-true window-ok e)
 
     module _
         (h : not window-ok ≡ false) (books : Bool)
-        (books-is : books ≡ soundLedger (w .state .settings .mtu) (w .state .settings .maxwnd) (w .state .clock) (ledgerOf w)) where
-      pub not-ledger : not books ≡ true → false ≡ sound w
-      unfolding sound
+        (books-is : books ≡ soundLedger (v .state .settings .mtu) (v .state .settings .maxwnd) (v .state .clock) (ledgerIn v)) where
+      pub not-ledger : not books ≡ true → false ≡ soundView v
+      unfolding soundView
       not-ledger e = rw (sym range-is ∙ not-false range r, sym window-is ∙ not-false window-ok h, sym books-is ∙ not-true books e)
 
       module _ (l : not books ≡ false) where
-        pub tests-bounded : Bounded (w .state)
+        pub tests-bounded : Bounded (v .state)
         tests-bounded =
-            parts-bounded w (range-facts (w .state .settings) (sym range-is ∙ not-false range r)) (sym books-is ∙ not-false books l)
-            (window-facts (w .state .settings) (w .state .clock) (w .state .window) (sym window-is ∙ not-false window-ok h))
+            parts-bounded v (range-facts (v .state .settings) (sym range-is ∙ not-false range r)) (sym books-is ∙ not-false books l)
+            (window-facts (v .state .settings) (v .state .clock) (v .state .window) (sym window-is ∙ not-false window-ok h))
 
         pub tests-left :
-            (ok : Bool) (m n : ℕ) (name : Phase) → ok ≡ timesOk (w .times) → m ≡ phaseNumber (w .state .phase) → n ≡ phaseNumber name →
-            name ≡ phaseOf (w .state .settings .mtu) (w .state .window .cwnd) (w .state .flow) (w .state .totals) →
-            (ltb (w .state .clock) timeEnd && eqb (length (w .times)) (w .state .settings .«ev_count») && ok
-            && ltb (w .state .cursor) (w .state .settings .«ev_count») && eqb m n) ≡ sound w
-        unfolding sound namedOk
+            (ok : Bool) (m n : ℕ) (name : Phase) → ok ≡ timesOk (v .times) → m ≡ phaseNumber (v .state .phase) → n ≡ phaseNumber name →
+            name ≡ phaseOf (v .state .settings .mtu) (v .state .window .cwnd) (v .state .flow) (v .state .totals) →
+            (ltb (v .state .clock) timeEnd && eqb (length (v .times)) (v .state .settings .«ev_count») && ok
+            && ltb (v .state .cursor) (v .state .settings .«ev_count») && eqb m n) ≡ soundView v
+        unfolding soundView namedOk
         tests-left ok m n name t p q is =
             rw (sym range-is ∙ not-false range r, sym window-is ∙ not-false window-ok h, sym books-is ∙ not-false books l, t, p, q, is)
 
@@ -250,10 +247,10 @@ pub stated-sound :
     (s : Settings) (f : Flow) (t : Totals) (v : Window) (time cursor : ℕ) (r : Ring) (times : List ℕ) →
     InRange s → SoundWindow s time v → soundLedger (s .mtu) (s .maxwnd) time (ledger f t r) ≡ true → time < timeEnd →
     length times ≡ s .«ev_count» → timesOk times ≡ true → cursor < s .«ev_count»
-    → sound (world (stateOf s f t v time cursor) r times) ≡ true
+    → soundView (view (stateOf s f t v time cursor) r times) ≡ true
 unfolding stateOf
 stated-sound s f t v time cursor r times range window-ok sound-ledger clock long ok at =
-    facts-sound (world (stateOf s f t v time cursor) r times)
+    facts-sound (view (stateOf s f t v time cursor) r times)
     (record {
       range = range;
       sound-window = window-ok;
@@ -270,6 +267,6 @@ pub settled-sound :
     InRange (c .settings) → SoundWindow (c .settings) time v → soundLedger (c .settings .mtu) (c .settings .maxwnd) time l ≡ true
     → time < timeEnd →
     length times ≡ c .settings .«ev_count» → timesOk times ≡ true → c .cursor < c .settings .«ev_count»
-    → sound (settled time c l v times) ≡ true
+    → soundView (settled time c l v times) ≡ true
 unfolding settled
 settled-sound time c l v times = stated-sound (c .settings) (l .flow) (l .totals) v time (c .cursor) (l .slots) times

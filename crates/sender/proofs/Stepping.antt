@@ -36,6 +36,7 @@ use Rattle.paths.proofs.Chosen.{choice-inside}
 use Rattle.ledger.specs.Packets.{isFlying, isMarked, isOut}
 use Rattle.ledger.specs.Bounds.{sizeLeast, backlogMost, Flown}
 use Rattle.ledger.specs.Ring.{Ring, Ledger, ledger, capOf, longOf, packets, packetOf}
+use Rattle.ledger.specs.Memory.{Memory, sizeEnd, stored, Kept, kept, keptOf}
 use Rattle.ledger.specs.Sound.{soundLedger}
 use Rattle.ledger.specs.Rows.{sendRows, ackRows, markRows}
 use Rattle.ledger.specs.Steps.{supplyOf, pushOf, resendOf, markOf, acknowledgeOf, newlyOf}
@@ -50,7 +51,7 @@ use Rattle.ledger.proofs.Marks.{mark-keeps}
 use Rattle.ledger.proofs.Acked.{ack-keeps}
 use Rattle.window.specs.Limits.{timeEnd}
 use Rattle.sender.specs.Limits.{reasonMost}
-use Rattle.sender.specs.World.{World, world, ledgerOf}
+use Rattle.sender.specs.World.{world, View, worldOf, ledgerIn}
 use Rattle.sender.specs.Named.{hasRoom}
 use Rattle.sender.specs.Rows.{timeRow, newDataRows, sendAllRows, ackAllRows, nackAllRows, lossAllRows}
 use Rattle.sender.specs.Steps.{stateOf, settled, avoidedIn, ackSample, ackSampling, ackStep, nackSample, nackSampling, nackStep}
@@ -159,18 +160,35 @@ pub record Ready (s : Settings) (time : ℕ) (v : Window) (l : Ledger) : Type 0 
   pub sound-ledger : soundLedger (s .mtu) (s .maxwnd) time l ≡ true
   pub flown : Flown (s .maxwnd) (l .totals .«in_flight»)
 
-module _ {s : Settings} {time : ℕ} {v : Window} {l : Ledger} (R : Ready s time v l) where
+-- what is kept of a ledger, part by part
+module _ {f : Flow} {t : Totals} {m : Memory} (l : Ledger) (e : kept f t m ≡ keptOf l) where
+  pub kept-flow : f ≡ l .flow
+  unfolding keptOf
+  kept-flow = ap (λ (k : Kept). k .flow) e
+
+  pub kept-totals : t ≡ l .totals
+  unfolding keptOf
+  kept-totals = ap (λ (k : Kept). k .totals) e
+
+  pub kept-slots : m ≡ stored (l .slots)
+  unfolding keptOf
+  kept-slots = ap (λ (k : Kept). k .slots) e
+
+-- of what the code keeps of that ledger
+module _ {s : Settings} {time : ℕ} {v : Window} {l : Ledger} (R : Ready s time v l) {f : Flow} {t : Totals} {m : Memory}
+    (e : kept f t m ≡ keptOf l) where
   -- in-flight fits the machine's signed word
-  pub ready-flown : Flown (2 ^ 26) (l .totals .«in_flight»)
-  ready-flown = flown-wide (l .totals .«in_flight») (omega (arith, R .range)) (R .flown)
+  pub ready-flown : Flown (2 ^ 26) (t .«in_flight»)
+  ready-flown =
+      rw (kept-totals l e) (flown-wide (l .totals .«in_flight») (omega (arith, R .range)) (R .flown))
 
-  pub ready-word : toZ w64 (ofZ w64 (l .totals .«in_flight»)) ≡ l .totals .«in_flight»
-  ready-word = word (l .totals .«in_flight») ready-flown
+  pub ready-word : toZ w64 (ofZ w64 (t .«in_flight»)) ≡ t .«in_flight»
+  ready-word = word (t .«in_flight») ready-flown
 
-  pub ready-above : aboveZero (toZ w64 (ofZ w64 (l .totals .«in_flight»))) ≤ s .maxwnd
-  ready-above = rw ready-word (R .flown .high)
+  pub ready-above : aboveZero (toZ w64 (ofZ w64 (t .«in_flight»))) ≤ s .maxwnd
+  ready-above = rw (ready-word, kept-totals l e) (R .flown .high)
 
-  pub state-asks : {u : Window} → SoundWindow s time u → Flown (2 ^ 26) (l .totals .«in_flight») × ((s .mtu ≤ 2 ^ 14) × (u .cwnd ≤ 2 ^ 26))
+  pub state-asks : {u : Window} → SoundWindow s time u → Flown (2 ^ 26) (t .«in_flight») × ((s .mtu ≤ 2 ^ 14) × (u .cwnd ≤ 2 ^ 26))
   state-asks H = (ready-flown, (omega (arith, R .range), cwnd-most (R .range) H))
 
 -- what is at most m is at most n
@@ -178,12 +196,12 @@ under : (z : ℤ) (m n : ℕ) → leZ z (pos m) ≡ true → m ≤ n → leZ z (
 under (pos a) m n e l = le-leb a n (omega (arith, leb-true a m e))
 under (negsuc a) m n e l = refl
 
-module _ {w : World} (S : SoundFacts w) where
-  ready-of : {time : ℕ} (l : Ledger) → Timely time (w .state)
-      → soundLedger (w .state .settings .mtu) (w .state .settings .maxwnd) time l ≡ true
-      → Ready (w .state .settings) time (w .state .window) l
+module _ {v : View} (S : SoundFacts v) where
+  ready-of : {time : ℕ} (l : Ledger) → Timely time (v .state)
+      → soundLedger (v .state .settings .mtu) (v .state .settings .maxwnd) time l ≡ true
+      → Ready (v .state .settings) time (v .state .window) l
   ready-of {time} l t co =
-      let s = w .state .settings in
+      let s = v .state .settings in
       let p = sound-ledger-parts (s .mtu) (s .maxwnd) time l co in
       record {
         range = S .range;
@@ -194,156 +212,160 @@ module _ {w : World} (S : SoundFacts w) where
       }
 
   -- "in-flight + MTU is at most cwnd", which is at most MaxWnd
-  room-under : hasRoom (w .state .settings .mtu) (w .state .window .cwnd) (w .state .totals .«in_flight») ≡ true
-      → leZ (w .state .totals .«in_flight» +ℤ pos (w .state .settings .mtu)) (pos (w .state .settings .maxwnd)) ≡ true
+  room-under : hasRoom (v .state .settings .mtu) (v .state .window .cwnd) (v .state .totals .«in_flight») ≡ true
+      → leZ (v .state .totals .«in_flight» +ℤ pos (v .state .settings .mtu)) (pos (v .state .settings .maxwnd)) ≡ true
   unfolding hasRoom
   room-under e =
-      under (w .state .totals .«in_flight» +ℤ pos (w .state .settings .mtu)) (w .state .window .cwnd) (w .state .settings .maxwnd) e
-      (omega (arith, S .sound-window .cwnd-high, max-wnd-high (S .range) (w .state .window .base) (S .sound-window .base-high)))
+      under (v .state .totals .«in_flight» +ℤ pos (v .state .settings .mtu)) (v .state .window .cwnd) (v .state .settings .maxwnd) e
+      (omega (arith, S .sound-window .cwnd-high, max-wnd-high (S .range) (v .state .window .base) (S .sound-window .base-high)))
 
   -- the EV and the base of an event that changes an EV's time
-  pub avoid-asks : {time ev : ℕ} → Timely time (w .state) → ev < w .state .settings .«ev_count»
-      → (ev < length (w .times)) × (time < 2 ^ 48) × (w .state .window .base ≤ 2 ^ 14)
+  pub avoid-asks : {time ev : ℕ} → Timely time (v .state) → ev < v .state .settings .«ev_count»
+      → (ev < length (v .times)) × (time < 2 ^ 48) × (v .state .window .base ≤ 2 ^ 14)
   avoid-asks t h = (omega (arith, S .times-long), t .early, omega (arith, S .sound-window .base-high, S .range .rtt-high))
 
   -- new data
-  pub supply-ready : {time : ℕ} (bytes : ℕ) → Timely time (w .state) → w .state .flow .backlog + bytes ≤ backlogMost
-      → Ready (w .state .settings) time (w .state .window) (ledger (supplyOf bytes (w .state .flow)) (w .state .totals) (w .slots))
-  supply-ready {time} bytes t h = ready-of _ t (supply-keeps _ _ _ time bytes (ledgerOf w) (S .sound-ledger) (t .later) h)
+  pub supply-ready : {time : ℕ} (bytes : ℕ) → Timely time (v .state) → v .state .flow .backlog + bytes ≤ backlogMost
+      → Ready (v .state .settings) time (v .state .window) (ledger (supplyOf bytes (v .state .flow)) (v .state .totals) (v .slots))
+  supply-ready {time} bytes t h = ready-of _ t (supply-keeps _ _ _ time bytes (ledgerIn v) (S .sound-ledger) (t .later) h)
 
   -- a path choice
-  pub path-ready : {time : ℕ} → Timely time (w .state) → Ready (w .state .settings) time (w .state .window) (ledgerOf w)
+  pub path-ready : {time : ℕ} → Timely time (v .state) → Ready (v .state .settings) time (v .state .window) (ledgerIn v)
   path-ready {time} t =
-      let s = w .state .settings in
-      let p = sound-ledger-parts (s .mtu) (s .maxwnd) (w .state .clock) (ledgerOf w) (S .sound-ledger) in
-      ready-of (ledgerOf w) t
-      (sound-ledger-whole (s .mtu) (s .maxwnd) time (ledgerOf w) (stands-later (s .mtu) (w .state .clock) time _ _ (p .0) (t .later))
+      let s = v .state .settings in
+      let p = sound-ledger-parts (s .mtu) (s .maxwnd) (v .state .clock) (ledgerIn v) (S .sound-ledger) in
+      ready-of (ledgerIn v) t
+      (sound-ledger-whole (s .mtu) (s .maxwnd) time (ledgerIn v) (stands-later (s .mtu) (v .state .clock) time _ _ (p .0) (t .later))
       (p .1))
 
   -- a send
-  module _ {time : ℕ} {a : Send} (A : Sendable time a (w .state) (w .slots)) where
-    pub push-asks : a .resend ≡ false → (a .size ≤ w .state .flow .backlog) × (longOf (w .state .flow) < capOf (w .slots))
+  module _ {time : ℕ} {a : Send} (A : Sendable time a (v .state) (v .slots)) where
+    pub push-asks : a .resend ≡ false
+        → ((a .size ≤ v .state .flow .backlog) × (a .size < sizeEnd)) × (longOf (v .state .flow) < capOf (v .slots))
     push-asks e =
-        let c = w .state in
-        new-room (c .settings .mtu) (c .clock) (c .flow) (w .slots)
-        (stands-facts _ _ _ _ (sound-ledger-parts _ _ _ (ledgerOf w) (S .sound-ledger) .0)) (a .psn) (a .size) (rw e at (A .rows))
+        let c = v .state in
+        let p =
+        new-room (c .settings .mtu) (c .clock) (c .flow) (v .slots)
+        (stands-facts _ _ _ _ (sound-ledger-parts _ _ _ (ledgerIn v) (S .sound-ledger) .0)) (a .psn) (a .size) (rw e at (A .rows)) in
+        ((p .0, omega (arith, A .most, S .range .mtu-high)), p .1)
 
-    pub resend-asks : a .resend ≡ true → isMarked (packetOf (w .state .flow) (w .slots) (a .psn)) ≡ true
-    resend-asks e = resend-facts (w .state .flow) (w .slots) (a .psn) (a .size) (rw e at (A .rows)) .0
+    pub resend-asks : a .resend ≡ true → isMarked (packetOf (v .state .flow) (v .slots) (a .psn)) ≡ true
+    resend-asks e = resend-facts (v .state .flow) (v .slots) (a .psn) (a .size) (rw e at (A .rows)) .0
 
-    pub send-ready : Ready (w .state .settings) time (w .state .window)
-        (ifSo (a .resend) (resendOf time (a .psn) (ledgerOf w)) (pushOf time (a .size) (ledgerOf w)))
+    pub send-ready : Ready (v .state .settings) time (v .state .window)
+        (ifSo (a .resend) (resendOf time (a .psn) (ledgerIn v)) (pushOf time (a .size) (ledgerIn v)))
     send-ready =
-        let s = w .state .settings in
+        let s = v .state .settings in
         let under = room-under (A .room) in
         ready-of _ (A .timely)
         (so-both (λ (l : Ledger). soundLedger (s .mtu) (s .maxwnd) time l ≡ true) (a .resend) _ _
-        (λ e. resend-keeps (s .mtu) (s .maxwnd) (w .state .clock) time (a .psn) (a .size) (ledgerOf w) (S .sound-ledger)
+        (λ e. resend-keeps (s .mtu) (s .maxwnd) (v .state .clock) time (a .psn) (a .size) (ledgerIn v) (S .sound-ledger)
         (rw e at (A .rows)) (A .timely .later) under)
         (λ e.
-        push-keeps (s .mtu) (s .maxwnd) (w .state .clock) time (a .psn) (a .size) (ledgerOf w) (S .sound-ledger) (rw e at (A .rows))
+        push-keeps (s .mtu) (s .maxwnd) (v .state .clock) time (a .psn) (a .size) (ledgerIn v) (S .sound-ledger) (rw e at (A .rows))
         (A .timely .later)
         (A .least) (A .most) under))
 
   -- an ACK
-  pub ack-ready : {time : ℕ} {a : Ack} → Ackable time a (w .state)
-      → Ready (w .state .settings) time (w .state .window) (acknowledgeOf (a .cum) (a .map) (a .count) (ledgerOf w))
+  pub ack-ready : {time : ℕ} {a : Ack} → Ackable time a (v .state)
+      → Ready (v .state .settings) time (v .state .window) (acknowledgeOf (a .cum) (a .map) (a .count) (ledgerIn v))
   ack-ready {time} {a} A =
-      let s = w .state .settings in
+      let s = v .state .settings in
       ready-of _ (A .timely)
-      (ack-keeps (a .cum) (a .map) (a .count) (s .mtu) (s .maxwnd) (w .state .clock) time (ledgerOf w) (S .sound-ledger) (A .count-ok)
+      (ack-keeps (a .cum) (a .map) (a .count) (s .mtu) (s .maxwnd) (v .state .clock) time (ledgerIn v) (S .sound-ledger) (A .count-ok)
       (A .rows)
       (A .timely .later))
 
   -- a NACK or a loss
-  module _ {time psn ev : ℕ} (A : Markable time psn ev (w .state) (w .slots)) where
-    pub mark-flies : isFlying (packetOf (w .state .flow) (w .slots) psn) ≡ true
-    mark-flies = mark-facts (w .state .flow) (w .state .totals .«in_flight») (w .slots) psn (A .rows) .0
+  module _ {time psn ev : ℕ} (A : Markable time psn ev (v .state) (v .slots)) where
+    pub mark-flies : isFlying (packetOf (v .state .flow) (v .slots) psn) ≡ true
+    mark-flies = mark-facts (v .state .flow) (v .state .totals .«in_flight») (v .slots) psn (A .rows) .0
 
-    pub mark-size : packetOf (w .state .flow) (w .slots) psn .size ≤ w .state .settings .mtu
+    pub mark-size : packetOf (v .state .flow) (v .slots) psn .size ≤ v .state .settings .mtu
     mark-size =
-        let c = w .state in
-        let F = stands-facts (c .settings .mtu) (c .clock) (c .flow) (w .slots)
-        (sound-ledger-parts _ _ _ (ledgerOf w) (S .sound-ledger) .0) in
-        let h = packet-some (c .flow) (w .slots) psn (omega (arith, flies (packetOf (c .flow) (w .slots) psn) mark-flies)) in
-        packet-live (c .settings .mtu) (c .clock) (c .flow) (w .slots) F psn h .size-most
+        let c = v .state in
+        let F = stands-facts (c .settings .mtu) (c .clock) (c .flow) (v .slots)
+        (sound-ledger-parts _ _ _ (ledgerIn v) (S .sound-ledger) .0) in
+        let h = packet-some (c .flow) (v .slots) psn (omega (arith, flies (packetOf (c .flow) (v .slots) psn) mark-flies)) in
+        packet-live (c .settings .mtu) (c .clock) (c .flow) (v .slots) F psn h .size-most
 
-    pub marked-ready : Ready (w .state .settings) time (w .state .window) (markOf psn (ledgerOf w))
+    pub marked-ready : Ready (v .state .settings) time (v .state .window) (markOf psn (ledgerIn v))
     marked-ready =
-        let s = w .state .settings in
+        let s = v .state .settings in
         ready-of _ (A .timely)
-        (mark-keeps (s .mtu) (s .maxwnd) (w .state .clock) time psn (ledgerOf w) (S .sound-ledger) (A .rows) (A .timely .later))
+        (mark-keeps (s .mtu) (s .maxwnd) (v .state .clock) time psn (ledgerIn v) (S .sound-ledger) (A .rows) (A .timely .later))
 
 -- ---- what the code leaves is the definition's world
 
-pub settles : (time : ℕ) (c : Controller) {l : Ledger} {v u : Window} {times evs : List ℕ} {d : Controller} {f : Flow} {t : Totals}
-    {r : Ring}
-    → ledger f t r ≡ l → u ≡ v → evs ≡ times → d ≡ stateOf (c .settings) f t u time (c .cursor) → world d r evs ≡ settled time c l v times
+pub settles : (time : ℕ) (c : Controller) (l : Ledger) {v u : Window} {times evs : List ℕ} {d : Controller} {f : Flow} {t : Totals}
+    {m : Memory}
+    → kept f t m ≡ keptOf l → u ≡ v → evs ≡ times → d ≡ stateOf (c .settings) f t u time (c .cursor)
+    → world d m evs ≡ worldOf (settled time c l v times)
 unfolding settled
-settles time c e ev et ed = rw (← e, ← ev, ← et, ed)
+settles time c l e ev et ed = rw (← kept-flow l e, ← kept-totals l e, ← kept-slots l e, ← ev, ← et, ed)
 
 -- the window and the EV times of each event are the definition's, from what the calls before them gave
-module _ (time : ℕ) (w : World) {x : Packet} {z : ℤ} {u : Window} {evs : List ℕ} {d : Controller} {f : Flow} {t : Totals} {r : Ring}
-    (ez : z ≡ t .«in_flight») (ed : d ≡ stateOf (w .state .settings) f t u time (w .state .cursor)) where
-  pub ack-is : (a : Ack) {newly : ℕ} {p : Sample} → newly ≡ newlyOf (a .count) (w .state .flow .held)
-      → x ≡ packetOf (w .state .flow) (w .slots) (a .trigger)
+module _ (time : ℕ) (v : View) {x : Packet} {z : ℤ} {u : Window} {evs : List ℕ} {d : Controller} {f : Flow} {t : Totals} {m : Memory}
+    (ez : z ≡ t .«in_flight») (ed : d ≡ stateOf (v .state .settings) f t u time (v .state .cursor)) where
+  pub ack-is : (a : Ack) {newly : ℕ} {p : Sample} → newly ≡ newlyOf (a .count) (v .state .flow .held)
+      → x ≡ packetOf (v .state .flow) (v .slots) (a .trigger)
       → p ≡ sampleOf (isOut x) (x .resent) (a .retx) time (x .sent) (a .service)
-      → ledger f t r ≡ acknowledgeOf (a .cum) (a .map) (a .count) (ledgerOf w)
-      → u ≡ ackOf (w .state .settings) time newly (a .marked) p z (w .state .window)
-      → evs ≡ avoidedIn (a .marked) (a .ev) time (w .state .window .base) (w .times)
-      → world d r evs ≡ ackStep time a w
+      → kept f t m ≡ keptOf (acknowledgeOf (a .cum) (a .map) (a .count) (ledgerIn v))
+      → u ≡ ackOf (v .state .settings) time newly (a .marked) p z (v .state .window)
+      → evs ≡ avoidedIn (a .marked) (a .ev) time (v .state .window .base) (v .times)
+      → world d m evs ≡ worldOf (ackStep time a v)
   unfolding ackStep ackSample
   ack-is a en ex ep el eu ee =
-      let c = w .state in
-      settles time c el
+      let c = v .state in
+      settles time c _ el
       (rw (eu, en, ep, ex, ez)
       (ap
-      (λ (l : Ledger). ackOf (c .settings) time (newlyOf (a .count) (c .flow .held)) (a .marked) (ackSample time a w)
-      (l .totals .«in_flight») (c .window))
-      el))
+      (λ (t : Totals). ackOf (c .settings) time (newlyOf (a .count) (c .flow .held)) (a .marked) (ackSample time a v)
+      (t .«in_flight») (c .window))
+      (kept-totals _ el)))
       ee ed
 
-  pub nack-is : (a : Nack) {p : Sample} → x ≡ packetOf (w .state .flow) (w .slots) (a .psn)
+  pub nack-is : (a : Nack) {p : Sample} → x ≡ packetOf (v .state .flow) (v .slots) (a .psn)
       → p ≡ sampleOf (isOut x) (x .resent) (a .retx) time (x .sent) 0
-      → ledger f t r ≡ markOf (a .psn) (ledgerOf w)
-      → u ≡ nackOf (w .state .settings) time (x .size) (a .reason) p z (w .state .window)
-      → evs ≡ avoidedIn (a .marked || eqb (a .reason) 0) (a .ev) time (w .state .window .base) (w .times)
-      → world d r evs ≡ nackStep time a w
+      → kept f t m ≡ keptOf (markOf (a .psn) (ledgerIn v))
+      → u ≡ nackOf (v .state .settings) time (x .size) (a .reason) p z (v .state .window)
+      → evs ≡ avoidedIn (a .marked || eqb (a .reason) 0) (a .ev) time (v .state .window .base) (v .times)
+      → world d m evs ≡ worldOf (nackStep time a v)
   unfolding nackStep nackSample
   nack-is a ex ep el eu ee =
-      let c = w .state in
-      settles time c el
+      let c = v .state in
+      settles time c _ el
       (rw (eu, ep, ex, ez)
       (ap
-      (λ (l : Ledger).
-      nackOf (c .settings) time (packetOf (c .flow) (w .slots) (a .psn) .size) (a .reason) (nackSample time a w)
-      (l .totals .«in_flight») (c .window))
-      el))
+      (λ (t : Totals).
+      nackOf (c .settings) time (packetOf (c .flow) (v .slots) (a .psn) .size) (a .reason) (nackSample time a v)
+      (t .«in_flight») (c .window))
+      (kept-totals _ el)))
       ee ed
 
-  pub loss-is : (a : Loss) → x ≡ packetOf (w .state .flow) (w .slots) (a .psn)
-      → ledger f t r ≡ markOf (a .psn) (ledgerOf w)
-      → u ≡ lossOf (w .state .settings) time (x .size) z (w .state .window)
-      → evs ≡ avoidedIn true (a .ev) time (w .state .window .base) (w .times)
-      → world d r evs ≡ lossStep time a w
+  pub loss-is : (a : Loss) → x ≡ packetOf (v .state .flow) (v .slots) (a .psn)
+      → kept f t m ≡ keptOf (markOf (a .psn) (ledgerIn v))
+      → u ≡ lossOf (v .state .settings) time (x .size) z (v .state .window)
+      → evs ≡ avoidedIn true (a .ev) time (v .state .window .base) (v .times)
+      → world d m evs ≡ worldOf (lossStep time a v)
   unfolding lossStep
   loss-is a ex el eu ee =
-      let c = w .state in
-      settles time c el
+      let c = v .state in
+      settles time c _ el
       (rw (eu, ex, ez)
-      (ap (λ (l : Ledger). lossOf (c .settings) time (packetOf (c .flow) (w .slots) (a .psn) .size) (l .totals .«in_flight»)
-      (c .window)) el))
+      (ap (λ (t : Totals). lossOf (c .settings) time (packetOf (c .flow) (v .slots) (a .psn) .size) (t .«in_flight»)
+      (c .window)) (kept-totals _ el)))
       ee ed
 
 -- what the step says is the definition's
-module _ (time : ℕ) (w : World) {x : Packet} {q : Sampling} where
-  pub ack-says : (a : Ack) → x ≡ packetOf (w .state .flow) (w .slots) (a .trigger)
-      → q ≡ samplingOf (isOut x) (x .resent) (a .retx) time (x .sent) (a .service) → q ≡ ackSampling time a w
+module _ (time : ℕ) (v : View) {x : Packet} {q : Sampling} where
+  pub ack-says : (a : Ack) → x ≡ packetOf (v .state .flow) (v .slots) (a .trigger)
+      → q ≡ samplingOf (isOut x) (x .resent) (a .retx) time (x .sent) (a .service) → q ≡ ackSampling time a v
   unfolding ackSampling
   ack-says a ex e = rw (e, ex)
 
-  pub nack-says : (a : Nack) → x ≡ packetOf (w .state .flow) (w .slots) (a .psn)
-      → q ≡ samplingOf (isOut x) (x .resent) (a .retx) time (x .sent) 0 → q ≡ nackSampling time a w
+  pub nack-says : (a : Nack) → x ≡ packetOf (v .state .flow) (v .slots) (a .psn)
+      → q ≡ samplingOf (isOut x) (x .resent) (a .retx) time (x .sent) 0 → q ≡ nackSampling time a v
   unfolding nackSampling
   nack-says a ex e = rw (e, ex)
 

@@ -5,7 +5,7 @@ use Prim.Native.Nat.{ℕ}
 use Rattle.rules.specs.Branch.{ifEq}
 use Rattle.rules.specs.Rows.{firstOf}
 use Rattle.window.specs.declared.Sampling.{Sampling}
-use Rattle.sender.specs.World.{World, Answered, Routing}
+use Rattle.sender.specs.World.{World, Answered, Routing, ringOf, viewOf, worldOf}
 use Rattle.sender.specs.Rows.{withSound, newDataRows, sendAllRows, ackAllRows, nackAllRows, lossAllRows, pathRows}
 use Rattle.sender.specs.Steps.{newDataStep, sendStep, ackSampling, ackStep, nackSampling, nackStep, lossStep, pathStep, routeOf}
 use Rattle.sender.specs.declared.Feedback.{Feedback}
@@ -20,13 +20,13 @@ unfoldable pub decided : ℕ → World → World → Answered
 decided n w after = ifEq n 0 (record { number = 0; after = after }) (record { number = n; after = w })
 
 unfoldable pub onNewData : ℕ → ℕ → World → Answered
-onNewData time bytes w = decided (firstOf (withSound w (newDataRows time bytes (w .state)))) w (newDataStep time bytes w)
+onNewData time bytes w = decided (firstOf (withSound w (newDataRows time bytes (w .state)))) w (worldOf (newDataStep time bytes (viewOf w)))
 
 unfoldable pub onSend : ℕ → Send → World → Answered
-onSend time a w = decided (firstOf (withSound w (sendAllRows time a (w .state) (w .slots)))) w (sendStep time a w)
+onSend time a w = decided (firstOf (withSound w (sendAllRows time a (w .state) (ringOf w)))) w (worldOf (sendStep time a (viewOf w)))
 
 unfoldable pub onAck : ℕ → Ack → World → Answered
-onAck time a w = decided (firstOf (withSound w (ackAllRows time a (w .state)))) w (ackStep time a w)
+onAck time a w = decided (firstOf (withSound w (ackAllRows time a (w .state)))) w (worldOf (ackStep time a (viewOf w)))
 
 -- request M-103: what an answer of this number says of the sample. "Refused records .. get no letter."
 unfoldable pub says : ℕ → Sampling → Option Sampling
@@ -38,19 +38,20 @@ saysOf (Sampled s) = some s
 saysOf Nothing = none
 
 abbrev pub ackSays : ℕ → Ack → World → Option Sampling
-ackSays time a w = says (onAck time a w .number) (ackSampling time a w)
+ackSays time a w = says (onAck time a w .number) (ackSampling time a (viewOf w))
 
 unfoldable pub onNack : ℕ → Nack → World → Answered
-onNack time a w = decided (firstOf (withSound w (nackAllRows time a (w .state) (w .slots)))) w (nackStep time a w)
+onNack time a w = decided (firstOf (withSound w (nackAllRows time a (w .state) (ringOf w)))) w (worldOf (nackStep time a (viewOf w)))
 
 abbrev pub nackSays : ℕ → Nack → World → Option Sampling
-nackSays time a w = says (onNack time a w .number) (nackSampling time a w)
+nackSays time a w = says (onNack time a w .number) (nackSampling time a (viewOf w))
 
 unfoldable pub onLoss : ℕ → Loss → World → Answered
-onLoss time a w = decided (firstOf (withSound w (lossAllRows time a (w .state) (w .slots)))) w (lossStep time a w)
+onLoss time a w = decided (firstOf (withSound w (lossAllRows time a (w .state) (ringOf w)))) w (worldOf (lossStep time a (viewOf w)))
 
 -- a path choice answers the EV too, 0 where it is refused
 unfoldable pub onPath : ℕ → World → Routing
 onPath time w =
     let n = firstOf (withSound w (pathRows time (w .state))) in
-    ifEq n 0 (record { number = 0; ev = routeOf time w .ev; after = pathStep time w }) (record { number = n; ev = 0; after = w })
+    ifEq n 0 (record { number = 0; ev = routeOf time (viewOf w) .ev; after = worldOf (pathStep time (viewOf w)) })
+    (record { number = n; ev = 0; after = w })

@@ -9,4 +9,5 @@ pub mod Rows
 pub mod Steps
 pub mod Start
 pub mod Events
+pub mod Look
 pub mod Statements

@@ -14,7 +14,8 @@ use Rattle.window.specs.Range.{inRange}
 use Rattle.window.specs.declared.Settings.{Settings}
 use Rattle.ledger.specs.Bounds.{sizeLeast, backlogMost}
 use Rattle.ledger.specs.Ring.{Ring}
-use Rattle.ledger.specs.Sound.{isRing}
+use Rattle.ledger.specs.Memory.{Memory}
+use Rattle.ledger.specs.Sound.{isEven}
 use Rattle.ledger.specs.Rows.{sendRows, ackRows, markRows}
 use Rattle.window.specs.Limits.{timeEnd}
 use Rattle.sender.specs.Limits.{reasonMost}
@@ -88,5 +89,5 @@ abbrev pub withSound : World → List Row → List Row
 withSound w rows = row (not (sound w)) 2 ∷ rows
 
 -- "setting up tests 1, then 2 on lengths only": those of the ring, and as many EV times as the settings say
-abbrev pub setUpRows : Settings → Ring → List ℕ → List Row
-setUpRows s r times = row (not (inRange s)) 1 ∷ row (not (isRing r && eqb (length times) (s .«ev_count»))) 2 ∷ []
+abbrev pub setUpRows : Settings → Memory → List ℕ → List Row
+setUpRows s m times = row (not (inRange s)) 1 ∷ row (not (isEven m && eqb (length times) (s .«ev_count»))) 2 ∷ []

@@ -9,7 +9,7 @@ use Rattle.window.specs.Limits.{timeEnd, laterEnd}
 use Rattle.window.specs.Range.{inRange}
 use Rattle.window.specs.Sound.{soundWindow}
 use Rattle.ledger.specs.Sound.{soundLedger}
-use Rattle.sender.specs.World.{World, ledgerOf}
+use Rattle.sender.specs.World.{World, View, viewOf, ledgerIn}
 use Rattle.sender.specs.Named.{phaseOf, phaseNumber}
 use Rattle.sender.specs.declared.Controller.{Controller}
 
@@ -22,14 +22,18 @@ timesOk (t ∷ ts) = ltb t laterEnd && timesOk ts
 unfoldable pub namedOk : Controller → Bool
 namedOk c = eqb (phaseNumber (c .phase)) (phaseNumber (phaseOf (c .settings .mtu) (c .window .cwnd) (c .flow) (c .totals)))
 
-unfoldable pub sound : World → Bool
-sound w =
-    let c = w .state in
+unfoldable pub soundView : View → Bool
+soundView v =
+    let c = v .state in
     inRange (c .settings)
     && soundWindow (c .settings) (c .clock) (c .window)
-    && soundLedger (c .settings .mtu) (c .settings .maxwnd) (c .clock) (ledgerOf w)
+    && soundLedger (c .settings .mtu) (c .settings .maxwnd) (c .clock) (ledgerIn v)
     && ltb (c .clock) timeEnd
-    && eqb (length (w .times)) (c .settings .«ev_count»)
-    && timesOk (w .times)
+    && eqb (length (v .times)) (c .settings .«ev_count»)
+    && timesOk (v .times)
     && ltb (c .cursor) (c .settings .«ev_count»)
     && namedOk c
+
+-- of a world: of what it shows
+abbrev pub sound : World → Bool
+sound w = soundView (viewOf w)

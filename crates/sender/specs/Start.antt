@@ -10,7 +10,7 @@ use Rattle.rules.specs.Branch.{ifEq}
 use Rattle.rules.specs.Rows.{firstOf}
 use Rattle.window.specs.Sound.{freshOf}
 use Rattle.window.specs.declared.Settings.{Settings}
-use Rattle.ledger.specs.Ring.{Ring, ring}
+use Rattle.ledger.specs.Memory.{Memory, memory}
 use Rattle.ledger.specs.declared.Flow.{Flow}
 use Rattle.ledger.specs.declared.Totals.{Totals}
 use Rattle.sender.specs.Rows.{setUpRows}
@@ -61,10 +61,10 @@ freshState s =
 abbrev pub zeros : List ℕ → List ℕ
 zeros xs = replicate (length xs) 0
 
-abbrev pub clearRing : Ring → Ring
-clearRing r = ring (zeros (r .status)) (zeros (r .size)) (zeros (r .sent)) (zeros (r .resent))
+abbrev pub clearMemory : Memory → Memory
+clearMemory m = memory (zeros (m .outstanding)) (zeros (m .marked)) (zeros (m .sizes)) (zeros (m .sent))
 
-unfoldable pub onSetUp : Settings → Ring → List ℕ → Answered
-onSetUp s r times =
-    let n = firstOf (setUpRows s r times) in
-    ifEq n 0 (answered 0 (freshState s) (clearRing r) (zeros times)) (answered n (freshState noSettings) r times)
+unfoldable pub onSetUp : Settings → Memory → List ℕ → Answered
+onSetUp s m times =
+    let n = firstOf (setUpRows s m times) in
+    ifEq n 0 (answered 0 (freshState s) (clearMemory m) (zeros times)) (answered n (freshState noSettings) m times)

@@ -11,11 +11,12 @@ use Rattle.serial.specs.Psn.{covered}
 use Rattle.serial.specs.Count.{counts}
 use Rattle.ledger.specs.Bounds.{backlogMost}
 use Rattle.ledger.specs.Packets.{isMarked}
-use Rattle.ledger.specs.Ring.{Ring, capOf, longOf, packetOf}
+use Rattle.ledger.specs.Ring.{Ring, longOf, packetOf}
+use Rattle.ledger.specs.Memory.{slotsOf}
 use Rattle.ledger.specs.Rows.{ackRows, markRows}
 use Rattle.window.specs.Limits.{timeEnd}
 use Rattle.sender.specs.Limits.{reasonMost}
-use Rattle.sender.specs.World.{World}
+use Rattle.sender.specs.World.{World, ringOf}
 use Rattle.sender.specs.Named.{hasRoom}
 use Rattle.sender.specs.Sound.{sound}
 use Rattle.sender.specs.Rows.{timeRow}
@@ -104,12 +105,12 @@ pub record PermittedNew (time : ℕ) (a : Send) (w : World) : Type 0 where
   -- not 5: "new packet larger than backlog"
   pub in-backlog : a .size ≤ w .state .flow .backlog
   -- not 7: "next - low = capacity on a new packet"
-  pub slot-free : longOf (w .state .flow) ≡ capOf (w .slots) → ⊥
+  pub slot-free : longOf (w .state .flow) ≡ slotsOf (w .slots) → ⊥
 
 -- a resend
 pub record PermittedResend (time : ℕ) (a : Send) (w : World) : Type 0 where
   pub is-resend : a .resend ≡ true
   pub permitted : Permitted time a w
   -- not 8: "a resend's PSN is not marked, or its size differs from the record"
-  pub psn-marked : isMarked (packetOf (w .state .flow) (w .slots) (a .psn)) ≡ true
-  pub same-size : a .size ≡ packetOf (w .state .flow) (w .slots) (a .psn) .size
+  pub psn-marked : isMarked (packetOf (w .state .flow) (ringOf w) (a .psn)) ≡ true
+  pub same-size : a .size ≡ packetOf (w .state .flow) (ringOf w) (a .psn) .size

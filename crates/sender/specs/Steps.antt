@@ -19,7 +19,7 @@ use Rattle.ledger.specs.Ring.{Ledger, packetOf}
 use Rattle.ledger.specs.Steps.{supplyOf, pushOf, resendOf, markOf, acknowledgeOf, newlyOf}
 use Rattle.ledger.specs.declared.Flow.{Flow}
 use Rattle.ledger.specs.declared.Totals.{Totals}
-use Rattle.sender.specs.World.{World, world, ledgerOf}
+use Rattle.sender.specs.World.{View, view, ledgerIn}
 use Rattle.sender.specs.Named.{phaseOf}
 use Rattle.sender.specs.declared.Controller.{Controller}
 use Rattle.sender.specs.declared.Send.{Send}
@@ -40,9 +40,9 @@ stateOf s f t v time cursor =
       phase = phaseOf (s .mtu) (v .cwnd) f t;
     }
 
--- the world once a ledger, a window and EV times came out
-unfoldable pub settled : ℕ → Controller → Ledger → Window → List ℕ → World
-settled time c l v times = world (stateOf (c .settings) (l .flow) (l .totals) v time (c .cursor)) (l .slots) times
+-- the view once a ledger, a window and EV times came out
+unfoldable pub settled : ℕ → Controller → Ledger → Window → List ℕ → View
+settled time c l u times = view (stateOf (c .settings) (l .flow) (l .totals) u time (c .cursor)) (l .slots) times
 
 -- "that EV's time becomes now + the base held before the event", where feedback says so
 unfoldable pub avoidedIn : Bool → ℕ → ℕ → ℕ → List ℕ → List ℕ
@@ -51,72 +51,72 @@ avoidedIn on ev time base times = ifSo on (withTime times ev (time + base)) time
 unfoldable pub newDataState : ℕ → ℕ → Controller → Controller
 newDataState time bytes c = stateOf (c .settings) (supplyOf bytes (c .flow)) (c .totals) (c .window) time (c .cursor)
 
-unfoldable pub newDataStep : ℕ → ℕ → World → World
-newDataStep time bytes w = world (newDataState time bytes (w .state)) (w .slots) (w .times)
+unfoldable pub newDataStep : ℕ → ℕ → View → View
+newDataStep time bytes v = view (newDataState time bytes (v .state)) (v .slots) (v .times)
 
-unfoldable pub sendStep : ℕ → Send → World → World
-sendStep time a w =
-    settled time (w .state)
-    (ifSo (a .resend) (resendOf time (a .psn) (ledgerOf w)) (pushOf time (a .size) (ledgerOf w)))
-    (w .state .window) (w .times)
+unfoldable pub sendStep : ℕ → Send → View → View
+sendStep time a v =
+    settled time (v .state)
+    (ifSo (a .resend) (resendOf time (a .psn) (ledgerIn v)) (pushOf time (a .size) (ledgerIn v)))
+    (v .state .window) (v .times)
 
 -- the sample of an ACK: the trigger packet as it stood before
-unfoldable pub ackSample : ℕ → Ack → World → Sample
-ackSample time a w =
-    let x = packetOf (w .state .flow) (w .slots) (a .trigger) in
+unfoldable pub ackSample : ℕ → Ack → View → Sample
+ackSample time a v =
+    let x = packetOf (v .state .flow) (v .slots) (a .trigger) in
     sampleOf (isOut x) (x .resent) (a .retx) time (x .sent) (a .service)
 
 -- request M-103: what it says of that sample
-unfoldable pub ackSampling : ℕ → Ack → World → Sampling
-ackSampling time a w =
-    let x = packetOf (w .state .flow) (w .slots) (a .trigger) in
+unfoldable pub ackSampling : ℕ → Ack → View → Sampling
+ackSampling time a v =
+    let x = packetOf (v .state .flow) (v .slots) (a .trigger) in
     samplingOf (isOut x) (x .resent) (a .retx) time (x .sent) (a .service)
 
 -- "Marked ACK": that EV is avoided
-unfoldable pub ackStep : ℕ → Ack → World → World
-ackStep time a w =
-    let c = w .state in
-    let l = acknowledgeOf (a .cum) (a .map) (a .count) (ledgerOf w) in
+unfoldable pub ackStep : ℕ → Ack → View → View
+ackStep time a v =
+    let c = v .state in
+    let l = acknowledgeOf (a .cum) (a .map) (a .count) (ledgerIn v) in
     settled time c l
-    (ackOf (c .settings) time (newlyOf (a .count) (c .flow .held)) (a .marked) (ackSample time a w) (l .totals .«in_flight») (c .window))
-    (avoidedIn (a .marked) (a .ev) time (c .window .base) (w .times))
+    (ackOf (c .settings) time (newlyOf (a .count) (c .flow .held)) (a .marked) (ackSample time a v) (l .totals .«in_flight») (c .window))
+    (avoidedIn (a .marked) (a .ev) time (c .window .base) (v .times))
 
 -- "NACKs use their own PSN and service 0."
-unfoldable pub nackSample : ℕ → Nack → World → Sample
-nackSample time a w =
-    let x = packetOf (w .state .flow) (w .slots) (a .psn) in
+unfoldable pub nackSample : ℕ → Nack → View → Sample
+nackSample time a v =
+    let x = packetOf (v .state .flow) (v .slots) (a .psn) in
     sampleOf (isOut x) (x .resent) (a .retx) time (x .sent) 0
 
-unfoldable pub nackSampling : ℕ → Nack → World → Sampling
-nackSampling time a w =
-    let x = packetOf (w .state .flow) (w .slots) (a .psn) in
+unfoldable pub nackSampling : ℕ → Nack → View → Sampling
+nackSampling time a v =
+    let x = packetOf (v .state .flow) (v .slots) (a .psn) in
     samplingOf (isOut x) (x .resent) (a .retx) time (x .sent) 0
 
 -- "marked NACK, NACK reason 0": that EV is avoided
-unfoldable pub nackStep : ℕ → Nack → World → World
-nackStep time a w =
-    let c = w .state in
-    let x = packetOf (c .flow) (w .slots) (a .psn) in
-    let l = markOf (a .psn) (ledgerOf w) in
+unfoldable pub nackStep : ℕ → Nack → View → View
+nackStep time a v =
+    let c = v .state in
+    let x = packetOf (c .flow) (v .slots) (a .psn) in
+    let l = markOf (a .psn) (ledgerIn v) in
     settled time c l
-    (nackOf (c .settings) time (x .size) (a .reason) (nackSample time a w) (l .totals .«in_flight») (c .window))
-    (avoidedIn (a .marked || eqb (a .reason) 0) (a .ev) time (c .window .base) (w .times))
+    (nackOf (c .settings) time (x .size) (a .reason) (nackSample time a v) (l .totals .«in_flight») (c .window))
+    (avoidedIn (a .marked || eqb (a .reason) 0) (a .ev) time (c .window .base) (v .times))
 
 -- "and loss": that EV is avoided
-unfoldable pub lossStep : ℕ → Loss → World → World
-lossStep time a w =
-    let c = w .state in
-    let x = packetOf (c .flow) (w .slots) (a .psn) in
-    let l = markOf (a .psn) (ledgerOf w) in
+unfoldable pub lossStep : ℕ → Loss → View → View
+lossStep time a v =
+    let c = v .state in
+    let x = packetOf (c .flow) (v .slots) (a .psn) in
+    let l = markOf (a .psn) (ledgerIn v) in
     settled time c l (lossOf (c .settings) time (x .size) (l .totals .«in_flight») (c .window))
-    (avoidedIn true (a .ev) time (c .window .base) (w .times))
+    (avoidedIn true (a .ev) time (c .window .base) (v .times))
 
 -- the next path
 unfoldable pub pathState : ℕ → ℕ → Controller → Controller
 pathState time cursor c = stateOf (c .settings) (c .flow) (c .totals) (c .window) time cursor
 
-abbrev pub routeOf : ℕ → World → Choice
-routeOf time w = choice time (w .state .cursor) (w .times)
+abbrev pub routeOf : ℕ → View → Choice
+routeOf time v = choice time (v .state .cursor) (v .times)
 
-unfoldable pub pathStep : ℕ → World → World
-pathStep time w = world (pathState time (routeOf time w .cursor) (w .state)) (w .slots) (w .times)
+unfoldable pub pathStep : ℕ → View → View
+pathStep time v = view (pathState time (routeOf time v .cursor) (v .state)) (v .slots) (v .times)

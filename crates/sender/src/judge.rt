@@ -14,8 +14,9 @@ ghost use mathlib.Core.Bool.{_||_};
 ghost use lib.Dec.{ltb, leb};
 ghost use Rattle.rules.specs.Rows.{firstOf};
 ghost use Rattle.rules.specs.Verdict.{numberOf};
-ghost use Rattle.ledger.specs.Lent.{ringGiven, ringBefore};
-ghost use Rattle.ledger.specs.Sound.{Even};
+ghost use Rattle.ledger.specs.Lent.{memoryGiven, memoryBefore};
+ghost use Rattle.ledger.specs.Memory.{shown};
+ghost use Rattle.ledger.specs.Sound.{Lengths};
 ghost use Rattle.window.specs.Limits.{timeEnd};
 ghost use Rattle.sender.specs.Bounds.{Bounded, roomAfter};
 ghost use Rattle.sender.specs.Rows.{newDataRows, sendAllRows, ackAllRows, nackAllRows, lossAllRows, pathRows};
@@ -63,16 +64,17 @@ fn judge_room(c: Controller, verdict: Verdict) -> Verdict
 // A send: 3, 4, 8, 5, 7, 6.
 pub(crate) fn judge_send<'a>(
     c: Controller,
-    status: &'a [u8],
-    size: &'a [u32],
+    outstanding: &'a [u64],
+    marked: &'a [u64],
+    sizes: &'a [u32],
     sent: &'a [u64],
-    resent: &'a [u8],
     time: u64,
     a: Send,
 ) -> Verdict
     requires { ⌜ Bounded c ⌝ }
-    requires { ⌜ Even (ringGiven status size sent resent) ⌝ }
-    ensures { λ r. ⌜ numberOf r ≡ firstOf (sendAllRows time a c (ringBefore status size sent resent)) ⌝ }
+    requires { ⌜ Lengths (memoryGiven outstanding marked sizes sent) ⌝ }
+    ensures { λ r. ⌜ numberOf r ≡ firstOf (sendAllRows time a c
+        (shown (c .flow .low) (c .flow .next) (memoryBefore outstanding marked sizes sent))) ⌝ }
 {
     let settings = c.settings;
     let flow = c.flow;
@@ -85,13 +87,10 @@ pub(crate) fn judge_send<'a>(
     if a.resend {
         return judge_room(
             c,
-            ledger::judge::judge_resend(flow, status, size, sent, resent, a.psn, a.size),
+            ledger::judge::judge_resend(flow, outstanding, marked, sizes, sent, a.psn, a.size),
         );
     }
-    judge_room(
-        c,
-        ledger::judge::judge_new(flow, status.len(), a.psn, a.size),
-    )
+    judge_room(c, ledger::judge::judge_new(flow, sent.len(), a.psn, a.size))
 }
 
 // An ACK: 3, 21, 23, 24, 9, 11.
@@ -120,16 +119,17 @@ pub(crate) fn judge_ack(c: Controller, time: u64, a: Ack) -> Verdict
 // A NACK: 3, 22, 23, 10, 11.
 pub(crate) fn judge_nack<'a>(
     c: Controller,
-    status: &'a [u8],
-    size: &'a [u32],
+    outstanding: &'a [u64],
+    marked: &'a [u64],
+    sizes: &'a [u32],
     sent: &'a [u64],
-    resent: &'a [u8],
     time: u64,
     a: Nack,
 ) -> Verdict
     requires { ⌜ Bounded c ⌝ }
-    requires { ⌜ Even (ringGiven status size sent resent) ⌝ }
-    ensures { λ r. ⌜ numberOf r ≡ firstOf (nackAllRows time a c (ringBefore status size sent resent)) ⌝ }
+    requires { ⌜ Lengths (memoryGiven outstanding marked sizes sent) ⌝ }
+    ensures { λ r. ⌜ numberOf r ≡ firstOf (nackAllRows time a c
+        (shown (c .flow .low) (c .flow .next) (memoryBefore outstanding marked sizes sent))) ⌝ }
 {
     let settings = c.settings;
     let flow = c.flow;
@@ -143,22 +143,30 @@ pub(crate) fn judge_nack<'a>(
     if settings.ev_count <= a.ev as u64 {
         return Verdict::Ev;
     }
-    ledger::judge::judge_mark(Books { flow, totals }, status, size, sent, resent, a.psn)
+    ledger::judge::judge_mark(
+        Books { flow, totals },
+        outstanding,
+        marked,
+        sizes,
+        sent,
+        a.psn,
+    )
 }
 
 // A loss: 3, 23, 10, 11.
 pub(crate) fn judge_loss<'a>(
     c: Controller,
-    status: &'a [u8],
-    size: &'a [u32],
+    outstanding: &'a [u64],
+    marked: &'a [u64],
+    sizes: &'a [u32],
     sent: &'a [u64],
-    resent: &'a [u8],
     time: u64,
     a: Loss,
 ) -> Verdict
     requires { ⌜ Bounded c ⌝ }
-    requires { ⌜ Even (ringGiven status size sent resent) ⌝ }
-    ensures { λ r. ⌜ numberOf r ≡ firstOf (lossAllRows time a c (ringBefore status size sent resent)) ⌝ }
+    requires { ⌜ Lengths (memoryGiven outstanding marked sizes sent) ⌝ }
+    ensures { λ r. ⌜ numberOf r ≡ firstOf (lossAllRows time a c
+        (shown (c .flow .low) (c .flow .next) (memoryBefore outstanding marked sizes sent))) ⌝ }
 {
     let settings = c.settings;
     let flow = c.flow;
@@ -169,7 +177,14 @@ pub(crate) fn judge_loss<'a>(
     if settings.ev_count <= a.ev as u64 {
         return Verdict::Ev;
     }
-    ledger::judge::judge_mark(Books { flow, totals }, status, size, sent, resent, a.psn)
+    ledger::judge::judge_mark(
+        Books { flow, totals },
+        outstanding,
+        marked,
+        sizes,
+        sent,
+        a.psn,
+    )
 }
 
 // A path choice: 3.

@@ -18,7 +18,6 @@ use rules::verdict::is_accepted;
 ghost use mathlib.Core.Path.{_≡_};
 ghost use mathlib.Core.Bool.{true};
 ghost use Rattle.rules.specs.Verdict.{numberOf};
-ghost use Rattle.ledger.specs.Ring.{ring};
 ghost use Rattle.sender.specs.Lent.{worldGiven, worldBefore, answeredAfter, routedAfter};
 ghost use Rattle.sender.specs.Sound.{sound};
 ghost use Rattle.sender.specs.Events.{saysOf, onNewData, onSend, onAck, ackSays, onNack, nackSays, onLoss, onPath};
@@ -26,17 +25,17 @@ ghost use Rattle.sender.specs.Events.{saysOf, onNewData, onSend, onAck, 
 // New data in the backlog. The ring and the EV times are lent for what is required of them.
 pub fn new_data<'a>(
     c: Controller,
-    status: &'a [u8],
-    size: &'a [u32],
+    outstanding: &'a [u64],
+    marked: &'a [u64],
+    sizes: &'a [u32],
     sent: &'a [u64],
-    resent: &'a [u8],
     evs: &'a [u64],
     time: u64,
     bytes: u64,
 ) -> Answer
-    requires { ⌜ sound (worldGiven c status size sent resent evs) ≡ true ⌝ }
-    ensures { λ r. ⌜ answeredAfter (numberOf (r .verdict)) (r .state) status size sent resent evs
-        ≡ onNewData time bytes (worldBefore c status size sent resent evs) ⌝ }
+    requires { ⌜ sound (worldGiven c outstanding marked sizes sent evs) ≡ true ⌝ }
+    ensures { λ r. ⌜ answeredAfter (numberOf (r .verdict)) (r .state) outstanding marked sizes sent evs
+        ≡ onNewData time bytes (worldBefore c outstanding marked sizes sent evs) ⌝ }
 {
     let verdict = judge::judge_new_data(c, time, bytes);
     if !is_accepted(verdict) {
@@ -52,23 +51,23 @@ pub fn new_data<'a>(
 // A new packet or a resend.
 pub fn send<'a, 'b, 'c, 'd, 'e>(
     c: Controller,
-    status: &'a mut [u8],
-    size: &'b mut [u32],
-    sent: &'c mut [u64],
-    resent: &'d mut [u8],
+    outstanding: &'a mut [u64],
+    marked: &'b mut [u64],
+    sizes: &'c mut [u32],
+    sent: &'d mut [u64],
     evs: &'e [u64],
     time: u64,
     a: Send,
 ) -> Answer
-    requires { ⌜ sound (worldGiven c status size sent resent evs) ≡ true ⌝ }
-    ensures { λ r. ⌜ answeredAfter (numberOf (r .verdict)) (r .state) status size sent resent evs
-        ≡ onSend time a (worldBefore c status size sent resent evs) ⌝ }
+    requires { ⌜ sound (worldGiven c outstanding marked sizes sent evs) ≡ true ⌝ }
+    ensures { λ r. ⌜ answeredAfter (numberOf (r .verdict)) (r .state) outstanding marked sizes sent evs
+        ≡ onSend time a (worldBefore c outstanding marked sizes sent evs) ⌝ }
 {
-    let verdict = judge::judge_send(c, status, size, sent, resent, time, a);
+    let verdict = judge::judge_send(c, outstanding, marked, sizes, sent, time, a);
     if !is_accepted(verdict) {
         return Answer { state: c, verdict };
     }
-    let state = steps::send(c, status, size, sent, resent, evs, time, a);
+    let state = steps::send(c, outstanding, marked, sizes, sent, evs, time, a);
     Answer {
         state,
         verdict: Verdict::Accepted,
@@ -78,24 +77,24 @@ pub fn send<'a, 'b, 'c, 'd, 'e>(
 // An ACK.
 pub fn ack<'a, 'b, 'c, 'd, 'e>(
     c: Controller,
-    status: &'a mut [u8],
-    size: &'b mut [u32],
-    sent: &'c mut [u64],
-    resent: &'d mut [u8],
+    outstanding: &'a mut [u64],
+    marked: &'b mut [u64],
+    sizes: &'c mut [u32],
+    sent: &'d mut [u64],
     evs: &'e mut [u64],
     time: u64,
     a: Ack,
 ) -> Heard
-    requires { ⌜ sound (worldGiven c status size sent resent evs) ≡ true ⌝ }
-    ensures { λ r. ⌜ answeredAfter (numberOf (r .verdict)) (r .state) status size sent resent evs
-        ≡ onAck time a (worldBefore c status size sent resent evs) ⌝ }
-    ensures { λ r. ⌜ saysOf (r .feedback) ≡ ackSays time a (worldBefore c status size sent resent evs) ⌝ }
+    requires { ⌜ sound (worldGiven c outstanding marked sizes sent evs) ≡ true ⌝ }
+    ensures { λ r. ⌜ answeredAfter (numberOf (r .verdict)) (r .state) outstanding marked sizes sent evs
+        ≡ onAck time a (worldBefore c outstanding marked sizes sent evs) ⌝ }
+    ensures { λ r. ⌜ saysOf (r .feedback) ≡ ackSays time a (worldBefore c outstanding marked sizes sent evs) ⌝ }
 {
     let verdict = judge::judge_ack(c, time, a);
     if !is_accepted(verdict) {
         return unheard(c, verdict);
     }
-    let sensed = steps::ack(c, status, size, sent, resent, evs, time, a);
+    let sensed = steps::ack(c, outstanding, marked, sizes, sent, evs, time, a);
     let state = sensed.state;
     let sampling = sensed.sampling;
     Heard {
@@ -108,24 +107,24 @@ pub fn ack<'a, 'b, 'c, 'd, 'e>(
 // A NACK.
 pub fn nack<'a, 'b, 'c>(
     c: Controller,
-    status: &'a mut [u8],
-    size: &'b [u32],
+    outstanding: &'b [u64],
+    marked: &'a mut [u64],
+    sizes: &'b [u32],
     sent: &'b [u64],
-    resent: &'b [u8],
     evs: &'c mut [u64],
     time: u64,
     a: Nack,
 ) -> Heard
-    requires { ⌜ sound (worldGiven c status size sent resent evs) ≡ true ⌝ }
-    ensures { λ r. ⌜ answeredAfter (numberOf (r .verdict)) (r .state) status size sent resent evs
-        ≡ onNack time a (worldBefore c status size sent resent evs) ⌝ }
-    ensures { λ r. ⌜ saysOf (r .feedback) ≡ nackSays time a (worldBefore c status size sent resent evs) ⌝ }
+    requires { ⌜ sound (worldGiven c outstanding marked sizes sent evs) ≡ true ⌝ }
+    ensures { λ r. ⌜ answeredAfter (numberOf (r .verdict)) (r .state) outstanding marked sizes sent evs
+        ≡ onNack time a (worldBefore c outstanding marked sizes sent evs) ⌝ }
+    ensures { λ r. ⌜ saysOf (r .feedback) ≡ nackSays time a (worldBefore c outstanding marked sizes sent evs) ⌝ }
 {
-    let verdict = judge::judge_nack(c, status, size, sent, resent, time, a);
+    let verdict = judge::judge_nack(c, outstanding, marked, sizes, sent, time, a);
     if !is_accepted(verdict) {
         return unheard(c, verdict);
     }
-    let sensed = steps::nack(c, status, size, sent, resent, evs, time, a);
+    let sensed = steps::nack(c, outstanding, marked, sizes, sent, evs, time, a);
     let state = sensed.state;
     let sampling = sensed.sampling;
     Heard {
@@ -138,23 +137,23 @@ pub fn nack<'a, 'b, 'c>(
 // A loss.
 pub fn loss<'a, 'b, 'c>(
     c: Controller,
-    status: &'a mut [u8],
-    size: &'b [u32],
+    outstanding: &'b [u64],
+    marked: &'a mut [u64],
+    sizes: &'b [u32],
     sent: &'b [u64],
-    resent: &'b [u8],
     evs: &'c mut [u64],
     time: u64,
     a: Loss,
 ) -> Answer
-    requires { ⌜ sound (worldGiven c status size sent resent evs) ≡ true ⌝ }
-    ensures { λ r. ⌜ answeredAfter (numberOf (r .verdict)) (r .state) status size sent resent evs
-        ≡ onLoss time a (worldBefore c status size sent resent evs) ⌝ }
+    requires { ⌜ sound (worldGiven c outstanding marked sizes sent evs) ≡ true ⌝ }
+    ensures { λ r. ⌜ answeredAfter (numberOf (r .verdict)) (r .state) outstanding marked sizes sent evs
+        ≡ onLoss time a (worldBefore c outstanding marked sizes sent evs) ⌝ }
 {
-    let verdict = judge::judge_loss(c, status, size, sent, resent, time, a);
+    let verdict = judge::judge_loss(c, outstanding, marked, sizes, sent, time, a);
     if !is_accepted(verdict) {
         return Answer { state: c, verdict };
     }
-    let state = steps::loss(c, status, size, sent, resent, evs, time, a);
+    let state = steps::loss(c, outstanding, marked, sizes, sent, evs, time, a);
     Answer {
         state,
         verdict: Verdict::Accepted,
@@ -164,16 +163,16 @@ pub fn loss<'a, 'b, 'c>(
 // The next path. The EV times are only read, the ring is lent for what is required of it.
 pub fn path<'a>(
     c: Controller,
-    status: &'a [u8],
-    size: &'a [u32],
+    outstanding: &'a [u64],
+    marked: &'a [u64],
+    sizes: &'a [u32],
     sent: &'a [u64],
-    resent: &'a [u8],
     evs: &'a [u64],
     time: u64,
 ) -> Routed
-    requires { ⌜ sound (worldGiven c status size sent resent evs) ≡ true ⌝ }
-    ensures { λ r. ⌜ routedAfter (numberOf (r .verdict)) (r .ev) (r .state) status size sent resent evs
-        ≡ onPath time (worldBefore c status size sent resent evs) ⌝ }
+    requires { ⌜ sound (worldGiven c outstanding marked sizes sent evs) ≡ true ⌝ }
+    ensures { λ r. ⌜ routedAfter (numberOf (r .verdict)) (r .ev) (r .state) outstanding marked sizes sent evs
+        ≡ onPath time (worldBefore c outstanding marked sizes sent evs) ⌝ }
 {
     let verdict = judge::judge_path(c, time);
     if !is_accepted(verdict) {

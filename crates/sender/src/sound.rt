@@ -23,13 +23,13 @@ fn times_ok(evs: &[u64]) -> bool
 // Whether state and buffers hold together.
 pub fn is_sound<'a>(
     c: Controller,
-    status: &'a [u8],
-    size: &'a [u32],
+    outstanding: &'a [u64],
+    marked: &'a [u64],
+    sizes: &'a [u32],
     sent: &'a [u64],
-    resent: &'a [u8],
     evs: &'a [u64],
 ) -> bool
-    ensures { λ r. ⌜ r ≡ sound (worldBefore c status size sent resent evs) ⌝ }
+    ensures { λ r. ⌜ r ≡ sound (worldBefore c outstanding marked sizes sent evs) ⌝ }
 {
     let settings = c.settings;
     let window = c.window;
@@ -44,10 +44,10 @@ pub fn is_sound<'a>(
     }
     if !ledger::sound::is_sound(
         Books { flow, totals },
-        status,
-        size,
+        outstanding,
+        marked,
+        sizes,
         sent,
-        resent,
         settings.mtu,
         settings.maxwnd,
         c.clock,

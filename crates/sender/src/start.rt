@@ -8,22 +8,11 @@ use rules::verdict::Verdict;
 use window::Settings;
 ghost use mathlib.Core.Path.{_≡_};
 ghost use Rattle.rules.specs.Verdict.{numberOf};
-ghost use Rattle.ledger.specs.Lent.{ringBefore, ringAfter};
-ghost use Rattle.ledger.specs.Ring.{ring};
+ghost use Rattle.ledger.specs.Lent.{memoryBefore, memoryAfter};
 ghost use Rattle.sender.specs.Lent.{answeredAfter};
-ghost use Rattle.sender.specs.Start.{noSettings, freshState, zeros, clearRing, onSetUp};
+ghost use Rattle.sender.specs.Start.{noSettings, freshState, zeros, clearMemory, onSetUp};
 
 // Zeros over a lent slice, at each width.
-fn clear_8(xs: &mut [u8])
-    ensures { λ _. ⌜ now (xs .exit) ≡ zeros (now (xs .entry)) ⌝ }
-{
-    let mut k = 0;
-    while k < xs.len() {
-        xs[k] = 0;
-        k += 1;
-    }
-}
-
 fn clear_32(xs: &mut [u32])
     ensures { λ _. ⌜ now (xs .exit) ≡ zeros (now (xs .entry)) ⌝ }
 {
@@ -93,23 +82,23 @@ pub fn fresh(settings: Settings) -> Controller
     }
 }
 
-// An empty ring and EV times, all zeros.
+// An empty ring's memory and EV times, all zeros.
 fn clear<'a, 'b, 'c, 'd, 'e>(
-    status: &'a mut [u8],
-    size: &'b mut [u32],
-    sent: &'c mut [u64],
-    resent: &'d mut [u8],
+    outstanding: &'a mut [u64],
+    marked: &'b mut [u64],
+    sizes: &'c mut [u32],
+    sent: &'d mut [u64],
     evs: &'e mut [u64],
 )
     ensures { λ _. ⌜
-        (ringAfter status size sent resent ≡ clearRing (ringBefore status size sent resent))
+        (memoryAfter outstanding marked sizes sent ≡ clearMemory (memoryBefore outstanding marked sizes sent))
         × (now (evs .exit) ≡ zeros (now (evs .entry)))
         ⌝ }
 {
-    clear_8(status);
-    clear_32(size);
+    clear_64(outstanding);
+    clear_64(marked);
+    clear_32(sizes);
     clear_64(sent);
-    clear_8(resent);
     clear_64(evs);
 }
 
@@ -126,23 +115,23 @@ fn not_set_up(verdict: Verdict) -> Answer
 // Setting up: 1, then 2 on lengths only; else the fresh state, with the ring and the EV times cleared.
 pub fn set_up<'a, 'b, 'c, 'd, 'e>(
     settings: Settings,
-    status: &'a mut [u8],
-    size: &'b mut [u32],
-    sent: &'c mut [u64],
-    resent: &'d mut [u8],
+    outstanding: &'a mut [u64],
+    marked: &'b mut [u64],
+    sizes: &'c mut [u32],
+    sent: &'d mut [u64],
     evs: &'e mut [u64],
 ) -> Answer
-    ensures { λ r. ⌜ answeredAfter (numberOf (r .verdict)) (r .state) status size sent resent evs
-        ≡ onSetUp settings (ringBefore status size sent resent) (now (evs .entry)) ⌝ }
+    ensures { λ r. ⌜ answeredAfter (numberOf (r .verdict)) (r .state) outstanding marked sizes sent evs
+        ≡ onSetUp settings (memoryBefore outstanding marked sizes sent) (now (evs .entry)) ⌝ }
 {
     if !window::bounds::in_range(settings) {
         return not_set_up(Verdict::Setting);
     }
-    if !(ledger::sound::is_ring(status, size, sent, resent)
+    if !(ledger::sound::is_ring(outstanding, marked, sizes, sent)
         & (evs.len() as u64 == settings.ev_count)) {
         return not_set_up(Verdict::Unsound);
     }
-    clear(status, size, sent, resent, evs);
+    clear(outstanding, marked, sizes, sent, evs);
     Answer {
         state: fresh(settings),
         verdict: Verdict::Accepted,

@@ -16,8 +16,8 @@ ghost use Prim.Native.Nat.{_<_, _≤_, _^_};
 ghost use lib.ListN.{length};
 ghost use Rattle.rules.specs.Rows.{firstOf};
 ghost use Rattle.window.specs.Delays.{samplingOf};
-ghost use Rattle.ledger.specs.Lent.{ringGiven};
 ghost use Rattle.ledger.specs.Packets.{isOut};
+ghost use Rattle.sender.specs.World.{ringOf, viewOf, worldOf};
 ghost use Rattle.sender.specs.Lent.{worldGiven, worldBefore, worldAfter};
 ghost use Rattle.sender.specs.Sound.{timesOk, sound};
 ghost use Rattle.sender.specs.Rows.{newDataRows, sendAllRows, ackAllRows, nackAllRows, lossAllRows};
@@ -73,17 +73,18 @@ pub(crate) fn new_data(c: Controller, time: u64, bytes: u64) -> Controller
 // A new packet or a resend.
 pub(crate) fn send<'a, 'b, 'c, 'd, 'e>(
     c: Controller,
-    status: &'a mut [u8],
-    size: &'b mut [u32],
-    sent: &'c mut [u64],
-    resent: &'d mut [u8],
+    outstanding: &'a mut [u64],
+    marked: &'b mut [u64],
+    sizes: &'c mut [u32],
+    sent: &'d mut [u64],
     evs: &'e [u64],
     time: u64,
     a: Send,
 ) -> Controller
-    requires { ⌜ sound (worldGiven c status size sent resent evs) ≡ true ⌝ }
-    requires { ⌜ firstOf (sendAllRows time a c (ringGiven status size sent resent)) ≡ 0 ⌝ }
-    ensures { λ r. ⌜ worldAfter r status size sent resent evs ≡ sendStep time a (worldBefore c status size sent resent evs) ⌝ }
+    requires { ⌜ sound (worldGiven c outstanding marked sizes sent evs) ≡ true ⌝ }
+    requires { ⌜ firstOf (sendAllRows time a c (ringOf (worldGiven c outstanding marked sizes sent evs))) ≡ 0 ⌝ }
+    ensures { λ r. ⌜ worldAfter r outstanding marked sizes sent evs
+        ≡ worldOf (sendStep time a (viewOf (worldBefore c outstanding marked sizes sent evs))) ⌝ }
 {
     let settings = c.settings;
     let window = c.window;
@@ -91,28 +92,29 @@ pub(crate) fn send<'a, 'b, 'c, 'd, 'e>(
     let totals = c.totals;
     let books = Books { flow, totals };
     if a.resend {
-        let after = ledger::send::resend(time, a.psn, books, status, size, sent, resent);
+        let after = ledger::send::resend(time, a.psn, books, outstanding, marked, sizes, sent);
         return state_of(settings, after.flow, after.totals, window, time, c.cursor);
     }
-    let after = ledger::send::push(time, a.size, books, status, size, sent, resent);
+    let after = ledger::send::push(time, a.size, books, outstanding, marked, sizes, sent);
     state_of(settings, after.flow, after.totals, window, time, c.cursor)
 }
 
 // An ACK: the sample is read before the ledger's step, and the window's rules come after it.
 pub(crate) fn ack<'a, 'b, 'c, 'd, 'e>(
     c: Controller,
-    status: &'a mut [u8],
-    size: &'b mut [u32],
-    sent: &'c mut [u64],
-    resent: &'d mut [u8],
+    outstanding: &'a mut [u64],
+    marked: &'b mut [u64],
+    sizes: &'c mut [u32],
+    sent: &'d mut [u64],
     evs: &'e mut [u64],
     time: u64,
     a: Ack,
 ) -> Sensed
-    requires { ⌜ sound (worldGiven c status size sent resent evs) ≡ true ⌝ }
+    requires { ⌜ sound (worldGiven c outstanding marked sizes sent evs) ≡ true ⌝ }
     requires { ⌜ firstOf (ackAllRows time a c) ≡ 0 ⌝ }
-    ensures { λ r. ⌜ worldAfter (r .state) status size sent resent evs ≡ ackStep time a (worldBefore c status size sent resent evs) ⌝ }
-    ensures { λ r. ⌜ r .sampling ≡ ackSampling time a (worldBefore c status size sent resent evs) ⌝ }
+    ensures { λ r. ⌜ worldAfter (r .state) outstanding marked sizes sent evs
+        ≡ worldOf (ackStep time a (viewOf (worldBefore c outstanding marked sizes sent evs))) ⌝ }
+    ensures { λ r. ⌜ r .sampling ≡ ackSampling time a (viewOf (worldBefore c outstanding marked sizes sent evs)) ⌝ }
 {
     let settings = c.settings;
     let flow = c.flow;
@@ -120,7 +122,7 @@ pub(crate) fn ack<'a, 'b, 'c, 'd, 'e>(
     let window = c.window;
     let base = window.base;
     let newly = ledger::judge::newly(a.count, flow.held);
-    let x = ledger::slots::find(flow, status, size, sent, resent, a.trigger);
+    let x = ledger::slots::find(flow, outstanding, marked, sizes, sent, a.trigger);
     let sampling = sampled(x, a.retx, time, a.service as u64);
     let sample = sample_in(sampling);
     let after = ledger::deliver::acknowledge(
@@ -128,10 +130,10 @@ pub(crate) fn ack<'a, 'b, 'c, 'd, 'e>(
         a.map,
         a.count,
         Books { flow, totals },
-        status,
-        size,
+        outstanding,
+        marked,
+        sizes,
         sent,
-        resent,
     );
     let f = after.flow;
     let t = after.totals;
@@ -144,28 +146,30 @@ pub(crate) fn ack<'a, 'b, 'c, 'd, 'e>(
 // A NACK.
 pub(crate) fn nack<'a, 'b, 'c>(
     c: Controller,
-    status: &'a mut [u8],
-    size: &'b [u32],
+    outstanding: &'b [u64],
+    marked: &'a mut [u64],
+    sizes: &'b [u32],
     sent: &'b [u64],
-    resent: &'b [u8],
     evs: &'c mut [u64],
     time: u64,
     a: Nack,
 ) -> Sensed
-    requires { ⌜ sound (worldGiven c status size sent resent evs) ≡ true ⌝ }
-    requires { ⌜ firstOf (nackAllRows time a c (ringGiven status size sent resent)) ≡ 0 ⌝ }
-    ensures { λ r. ⌜ worldAfter (r .state) status size sent resent evs ≡ nackStep time a (worldBefore c status size sent resent evs) ⌝ }
-    ensures { λ r. ⌜ r .sampling ≡ nackSampling time a (worldBefore c status size sent resent evs) ⌝ }
+    requires { ⌜ sound (worldGiven c outstanding marked sizes sent evs) ≡ true ⌝ }
+    requires { ⌜ firstOf (nackAllRows time a c (ringOf (worldGiven c outstanding marked sizes sent evs))) ≡ 0 ⌝ }
+    ensures { λ r. ⌜ worldAfter (r .state) outstanding marked sizes sent evs
+        ≡ worldOf (nackStep time a (viewOf (worldBefore c outstanding marked sizes sent evs))) ⌝ }
+    ensures { λ r. ⌜ r .sampling ≡ nackSampling time a (viewOf (worldBefore c outstanding marked sizes sent evs)) ⌝ }
 {
     let settings = c.settings;
     let flow = c.flow;
     let totals = c.totals;
     let window = c.window;
     let base = window.base;
-    let x = ledger::slots::find(flow, status, size, sent, resent, a.psn);
+    let x = ledger::slots::find(flow, outstanding, marked, sizes, sent, a.psn);
     let sampling = sampled(x, a.retx, time, 0);
     let sample = sample_in(sampling);
-    let after = ledger::mark::mark(a.psn, Books { flow, totals }, status, size, sent, resent);
+    let books = Books { flow, totals };
+    let after = ledger::mark::mark(a.psn, books, outstanding, marked, sizes, sent);
     let f = after.flow;
     let t = after.totals;
     let w = window::events::nack(
@@ -185,25 +189,27 @@ pub(crate) fn nack<'a, 'b, 'c>(
 // A loss.
 pub(crate) fn loss<'a, 'b, 'c>(
     c: Controller,
-    status: &'a mut [u8],
-    size: &'b [u32],
+    outstanding: &'b [u64],
+    marked: &'a mut [u64],
+    sizes: &'b [u32],
     sent: &'b [u64],
-    resent: &'b [u8],
     evs: &'c mut [u64],
     time: u64,
     a: Loss,
 ) -> Controller
-    requires { ⌜ sound (worldGiven c status size sent resent evs) ≡ true ⌝ }
-    requires { ⌜ firstOf (lossAllRows time a c (ringGiven status size sent resent)) ≡ 0 ⌝ }
-    ensures { λ r. ⌜ worldAfter r status size sent resent evs ≡ lossStep time a (worldBefore c status size sent resent evs) ⌝ }
+    requires { ⌜ sound (worldGiven c outstanding marked sizes sent evs) ≡ true ⌝ }
+    requires { ⌜ firstOf (lossAllRows time a c (ringOf (worldGiven c outstanding marked sizes sent evs))) ≡ 0 ⌝ }
+    ensures { λ r. ⌜ worldAfter r outstanding marked sizes sent evs
+        ≡ worldOf (lossStep time a (viewOf (worldBefore c outstanding marked sizes sent evs))) ⌝ }
 {
     let settings = c.settings;
     let flow = c.flow;
     let totals = c.totals;
     let window = c.window;
     let base = window.base;
-    let x = ledger::slots::find(flow, status, size, sent, resent, a.psn);
-    let after = ledger::mark::mark(a.psn, Books { flow, totals }, status, size, sent, resent);
+    let x = ledger::slots::find(flow, outstanding, marked, sizes, sent, a.psn);
+    let books = Books { flow, totals };
+    let after = ledger::mark::mark(a.psn, books, outstanding, marked, sizes, sent);
     let f = after.flow;
     let t = after.totals;
     let w = window::events::loss(settings, time, x.size as u64, t.in_flight, window);

@@ -3,8 +3,8 @@ use mathlib.Core.Path.{refl, sym, _∙_}
 use borrow.Author.Needs.{needs}
 use borrow.Author.Tests.{not-true, not-false}
 use Rattle.rules.specs.Verdict.{numberOf}
-use Rattle.ledger.specs.Ring.{ring}
-use Rattle.sender.specs.World.{World, world}
+use Rattle.ledger.specs.Memory.{memory}
+use Rattle.sender.specs.World.{World, world, ringOf, viewOf, worldOf}
 use Rattle.sender.specs.Rows.{lossAllRows}
 use Rattle.sender.specs.Steps.{lossStep}
 use Rattle.sender.specs.Events.{onLoss}
@@ -14,7 +14,7 @@ use Rattle.sender.proofs.Controller.loss.Tie as tie
 
 -- what was handed in
 abbrev handed : tie.Start → World
-handed s = world (s .args .self) (ring (s .args .status .now) (s .args .size .now) (s .args .sent .now) (s .args .resent .now))
+handed s = world (s .args .self) (memory (s .args .outstanding .now) (s .args .marked .now) (s .args .sizes .now) (s .args .sent .now))
     (s .args .evs .now)
 
 -- from the test back to the entry
@@ -35,8 +35,8 @@ unfolding numberOf onLoss
 returns c =
     let i = c .before in
     let s = start i in
-    answer-unsound (handed s) (lossAllRows (s .args .time) (s .args .a) (s .args .self) (handed s .slots))
-    (lossStep (s .args .time) (s .args .a) (handed s)) _ _
+    answer-unsound (handed s) (lossAllRows (s .args .time) (s .args .a) (s .args .self) (ringOf (handed s)))
+    (worldOf (lossStep (s .args .time) (s .args .a) (viewOf (handed s)))) _ _
     (sym (i .is-sound .ensures) ∙ not-true _ (c .if1 .taken)) refl refl
 
 loss-requires : tie.Need-loss-requires

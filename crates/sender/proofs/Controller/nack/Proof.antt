@@ -4,8 +4,8 @@ use native.Mathlib.Omega.{arith}
 use borrow.Author.Needs.{needs}
 use borrow.Author.Tests.{not-true, not-false}
 use Rattle.rules.specs.Verdict.{numberOf}
-use Rattle.ledger.specs.Ring.{ring}
-use Rattle.sender.specs.World.{World, world}
+use Rattle.ledger.specs.Memory.{memory}
+use Rattle.sender.specs.World.{World, world, ringOf, viewOf, worldOf}
 use Rattle.sender.specs.Rows.{nackAllRows}
 use Rattle.sender.specs.Steps.{nackSampling, nackStep}
 use Rattle.sender.specs.Events.{onNack}
@@ -15,7 +15,7 @@ use Rattle.sender.proofs.Controller.nack.Tie as tie
 
 -- what was handed in
 abbrev handed : tie.Start → World
-handed s = world (s .args .self) (ring (s .args .status .now) (s .args .size .now) (s .args .sent .now) (s .args .resent .now))
+handed s = world (s .args .self) (memory (s .args .outstanding .now) (s .args .marked .now) (s .args .sizes .now) (s .args .sent .now))
     (s .args .evs .now)
 
 -- from the test back to the entry
@@ -40,11 +40,11 @@ returns c =
     let i = c .before .before in
     let s = start i in
     let two = ap numberOf (c .unheard .ensures .1) in
-    let answer = answer-unsound (handed s) (nackAllRows (s .args .time) (s .args .a) (s .args .self) (handed s .slots))
-    (nackStep (s .args .time) (s .args .a) (handed s)) _ _
+    let answer = answer-unsound (handed s) (nackAllRows (s .args .time) (s .args .a) (s .args .self) (ringOf (handed s)))
+    (worldOf (nackStep (s .args .time) (s .args .a) (viewOf (handed s)))) _ _
     (sym (i .is-sound .ensures) ∙ not-true _ (c .before .if1 .taken)) (c .unheard .ensures .0) two in (
       answer,
-      says-nothing answer (nackSampling (s .args .time) (s .args .a) (handed s)) (λ z. omega (arith, two, z))
+      says-nothing answer (nackSampling (s .args .time) (s .args .a) (viewOf (handed s))) (λ z. omega (arith, two, z))
           (c .unheard .ensures .2),
     )
 

@@ -3,8 +3,8 @@ use mathlib.Core.Path.{refl, sym, _∙_}
 use borrow.Author.Needs.{needs}
 use borrow.Author.Tests.{not-true, not-false}
 use Rattle.rules.specs.Verdict.{numberOf}
-use Rattle.ledger.specs.Ring.{ring}
-use Rattle.sender.specs.World.{World, world}
+use Rattle.ledger.specs.Memory.{memory}
+use Rattle.sender.specs.World.{World, world, viewOf, worldOf}
 use Rattle.sender.specs.Rows.{newDataRows}
 use Rattle.sender.specs.Steps.{newDataStep}
 use Rattle.sender.specs.Events.{onNewData}
@@ -14,7 +14,7 @@ use Rattle.sender.proofs.Controller.new_data.Tie as tie
 
 -- what was handed in
 abbrev handed : tie.Start → World
-handed s = world (s .args .self) (ring (s .args .status .now) (s .args .size .now) (s .args .sent .now) (s .args .resent .now))
+handed s = world (s .args .self) (memory (s .args .outstanding .now) (s .args .marked .now) (s .args .sizes .now) (s .args .sent .now))
     (s .args .evs .now)
 
 -- from the test back to the entry
@@ -30,7 +30,7 @@ returns c =
     let i = c .before in
     let s = start i in
     answer-unsound (handed s) (newDataRows (s .args .time) (s .args .bytes) (s .args .self))
-    (newDataStep (s .args .time) (s .args .bytes) (handed s)) _ _
+    (worldOf (newDataStep (s .args .time) (s .args .bytes) (viewOf (handed s)))) _ _
     (sym (i .is-sound .ensures) ∙ not-true _ (c .if1 .taken)) refl refl
 
 new-data-requires : tie.Need-new-data-requires

@@ -2,7 +2,7 @@
 use mathlib.Core.Path.{refl, sym, _∙_}
 use borrow.Author.Needs.{needs}
 use borrow.Author.Tests.{not-true, not-false}
-use Rattle.ledger.specs.Ring.{ring}
+use Rattle.ledger.specs.Memory.{memory}
 use Rattle.rules.specs.Verdict.{numberOf}
 use Rattle.sender.specs.World.{World, world}
 use Rattle.sender.specs.Rows.{pathRows}
@@ -13,7 +13,7 @@ use Rattle.sender.proofs.Controller.path.Tie as tie
 
 -- what was handed in
 abbrev handed : tie.Start → World
-handed s = world (s .args .self) (ring (s .args .status .now) (s .args .size .now) (s .args .sent .now) (s .args .resent .now))
+handed s = world (s .args .self) (memory (s .args .outstanding .now) (s .args .marked .now) (s .args .sizes .now) (s .args .sent .now))
     (s .args .evs .now)
 
 -- from the test back to the entry

@@ -3,14 +3,17 @@ use mathlib.Core.Path.{sym, _∙_}
 use borrow.Author.Needs.{needs}
 use Rattle.rules.specs.Verdict.{numberOf}
 use borrow.Author.Tests.{le-leb, lt-leb}
-use Rattle.ledger.specs.Ring.{Ring, ring}
+use Rattle.ledger.specs.Ring.{Ring}
+use Rattle.ledger.specs.Memory.{memory, shown}
 use Rattle.ledger.specs.Rows.{markRows}
 use Rattle.sender.proofs.Rowing.{judged-3, judged-field, judged-on}
 use Rattle.sender.proofs.judge.judge_loss.Statement.{statement}
 use Rattle.sender.proofs.judge.judge_loss.Tie as tie
 
 abbrev slots : tie.Start → Ring
-slots s = ring (s .args .status .now) (s .args .size .now) (s .args .sent .now) (s .args .resent .now)
+slots s =
+    shown (s .args .c .flow .low) (s .args .c .flow .next)
+    (memory (s .args .outstanding .now) (s .args .marked .now) (s .args .sizes .now) (s .args .sent .now))
 
 bad-time-requires : tie.Need-bad-time-requires
 bad-time-requires c κs = search needs

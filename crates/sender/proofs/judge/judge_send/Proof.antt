@@ -2,16 +2,22 @@
 use mathlib.Core.Path.{sym, ap, _∙_}
 use mathlib.Core.Bool.{not}
 use mathlib.Core.List.{_++_}
+use Prim.Native.Nat.{ℕ}
 use borrow.Author.Needs.{needs}
+use Rattle.rules.specs.Rows.{firstOf}
 use Rattle.rules.specs.Verdict.{numberOf}
-use Rattle.ledger.specs.Ring.{Ring, ring}
-use Rattle.ledger.specs.Rows.{sendRows}
+use Rattle.ledger.specs.Ring.{Ring}
+use Rattle.ledger.specs.Memory.{memory, shown}
+use Rattle.ledger.specs.Rows.{newRows, sendRows}
+use Rattle.sender.proofs.Views.{sent-cap}
 use Rattle.sender.proofs.Rowing.{judged-3, judged-field, judged-on, roomRows, judged-resend, judged-new}
 use Rattle.sender.proofs.judge.judge_send.Statement.{statement}
 use Rattle.sender.proofs.judge.judge_send.Tie as tie
 
 abbrev slots : tie.Start → Ring
-slots s = ring (s .args .status .now) (s .args .size .now) (s .args .sent .now) (s .args .resent .now)
+slots s =
+    shown (s .args .c .flow .low) (s .args .c .flow .next)
+    (memory (s .args .outstanding .now) (s .args .marked .now) (s .args .sizes .now) (s .args .sent .now))
 
 bad-time-requires : tie.Need-bad-time-requires
 bad-time-requires c κs = search needs
@@ -73,7 +79,9 @@ returns-4 c =
     (sym (i .before .bad-time .ensures) ∙ i .if1 .left) (ap not (sym (k .before .within .ensures)) ∙ k .if2 .left)
     (numberOf (c .judge-room2 .result))
     (judged-new (a .c) (slots s) (a .a) (numberOf (n .judge-new .result)) (numberOf (c .judge-room2 .result)) (c .judge-room2 .ensures)
-    (n .before .if3 .left) (n .judge-new .ensures))
+    (n .before .if3 .left)
+    (n .judge-new .ensures
+    ∙ ap (λ (k : ℕ). firstOf (newRows (a .c .flow) k (a .a .psn) (a .a .size))) (sent-cap (a .c .flow) _ (s .pre .1))))
 
 pub judge-send-spec : {M : Type 1} → statement M
 judge-send-spec =

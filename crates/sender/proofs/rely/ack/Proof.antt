@@ -6,8 +6,8 @@ use borrow.Author.Needs.{needs}
 use borrow.Author.Tests.{not-true, not-false}
 use Rattle.rules.specs.Rows.{Row}
 use Rattle.rules.specs.Verdict.{numberOf, accepted-zero, refused-not}
-use Rattle.ledger.specs.Ring.{ring}
-use Rattle.sender.specs.World.{World, world}
+use Rattle.ledger.specs.Memory.{memory}
+use Rattle.sender.specs.World.{World, world, viewOf, worldOf}
 use Rattle.sender.specs.Rows.{ackAllRows}
 use Rattle.sender.specs.Steps.{ackSampling, ackStep}
 use Rattle.sender.specs.Events.{saysOf, onAck}
@@ -18,14 +18,14 @@ use Rattle.sender.proofs.rely.ack.Tie as tie
 
 -- what was handed in, the rows past 2, and the world after the step
 abbrev handed : tie.Start → World
-handed s = world (s .args .c) (ring (s .args .status .now) (s .args .size .now) (s .args .sent .now) (s .args .resent .now))
+handed s = world (s .args .c) (memory (s .args .outstanding .now) (s .args .marked .now) (s .args .sizes .now) (s .args .sent .now))
     (s .args .evs .now)
 
 abbrev rows : tie.Start → List Row
 rows s = ackAllRows (s .args .time) (s .args .a) (s .args .c)
 
 abbrev stepped : tie.Start → World
-stepped s = ackStep (s .args .time) (s .args .a) (handed s)
+stepped s = worldOf (ackStep (s .args .time) (s .args .a) (viewOf (handed s)))
 
 -- from the judging back to the entry
 abbrev start : tie.After-judge-ack → tie.Start
@@ -54,7 +54,7 @@ returns c =
     (j .judge-ack .ensures) refused
     (c .unheard .ensures .0) same in (
       answer,
-      says-nothing answer (ackSampling (s .args .time) (s .args .a) (handed s)) (λ z. refused (sym same ∙ z))
+      says-nothing answer (ackSampling (s .args .time) (s .args .a) (viewOf (handed s))) (λ z. refused (sym same ∙ z))
           (c .unheard .ensures .2),
     )
 
@@ -89,9 +89,12 @@ returns-2 c =
     let s = start j in
     let zero = accepted-zero _ _ (e .before .is-accepted .ensures) (not-false _ (e .if1 .left)) in
     let answer = answer-accepted (handed s) (rows s) (stepped s) _ _ (s .pre) (numberOf (j .judge-ack .result)) (j .judge-ack .ensures) zero
-    (k .ack .result .state) (ring (l .1 .0) (l .1 .1 .0) (l .1 .1 .1 .0) (l .1 .1 .1 .1 .0)) (l .1 .1 .1 .1 .1 .0)
-    (k .ack .ensures .0) refl accepted-number in
-    (answer, says-sample answer (ackSampling (s .args .time) (s .args .a) (handed s)) accepted-number (ap some (k .ack .ensures .1)))
+    (k .ack .result .state) (memory (l .1 .0) (l .1 .1 .0) (l .1 .1 .1 .0) (l .1 .1 .1 .1 .0)) (l .1 .1 .1 .1 .1 .0)
+    (k .ack .ensures .0) refl accepted-number in (
+      answer,
+      says-sample answer (ackSampling (s .args .time) (s .args .a) (viewOf (handed s))) accepted-number
+          (ap some (k .ack .ensures .1)),
+    )
 
 pub ack-spec : {M : Type 1} → statement M
 ack-spec =

@@ -6,26 +6,27 @@ use borrow.Author.Needs.{needs}
 use borrow.Author.Tests.{not-true, not-false}
 use Rattle.rules.specs.Rows.{Row}
 use Rattle.rules.specs.Verdict.{numberOf, accepted-zero, refused-not}
-use Rattle.ledger.specs.Ring.{ring}
-use Rattle.sender.specs.World.{World, world}
+use Rattle.ledger.specs.Memory.{memory}
+use Rattle.sender.specs.World.{World, world, ringOf, viewOf, worldOf}
 use Rattle.sender.specs.Rows.{nackAllRows}
 use Rattle.sender.specs.Steps.{nackSampling, nackStep}
 use Rattle.sender.specs.Events.{saysOf, onNack}
-use Rattle.sender.proofs.Sounds.{sound-bounded, sound-even}
+use Rattle.sender.proofs.Sounds.{sound-bounded}
+use Rattle.sender.proofs.Views.{sound-lengths}
 use Rattle.sender.proofs.Rowing.{accepted-number, answer-refused, answer-accepted, says-nothing, says-sample}
 use Rattle.sender.proofs.rely.nack.Statement.{statement}
 use Rattle.sender.proofs.rely.nack.Tie as tie
 
 -- what was handed in, the rows past 2, and the world after the step
 abbrev handed : tie.Start → World
-handed s = world (s .args .c) (ring (s .args .status .now) (s .args .size .now) (s .args .sent .now) (s .args .resent .now))
+handed s = world (s .args .c) (memory (s .args .outstanding .now) (s .args .marked .now) (s .args .sizes .now) (s .args .sent .now))
     (s .args .evs .now)
 
 abbrev rows : tie.Start → List Row
-rows s = nackAllRows (s .args .time) (s .args .a) (s .args .c) (handed s .slots)
+rows s = nackAllRows (s .args .time) (s .args .a) (s .args .c) (ringOf (handed s))
 
 abbrev stepped : tie.Start → World
-stepped s = nackStep (s .args .time) (s .args .a) (handed s)
+stepped s = worldOf (nackStep (s .args .time) (s .args .a) (viewOf (handed s)))
 
 -- from the judging back to the entry
 abbrev start : tie.After-judge-nack → tie.Start
@@ -34,7 +35,7 @@ start j = j .before .before .before .before .before .before .before
 judge-nack-requires : tie.Need-judge-nack-requires
 judge-nack-requires c κs =
     let s = c .before .before .before .before .before .before in
-    (sound-bounded (handed s) (s .pre), sound-even (handed s) (s .pre))
+    (sound-bounded (handed s) (s .pre), sound-lengths (handed s) (s .pre))
 
 same-length : tie.Need-same-length
 same-length c = search needs
@@ -57,7 +58,7 @@ returns c =
     (j .judge-nack .ensures) refused
     (c .unheard .ensures .0) same in (
       answer,
-      says-nothing answer (nackSampling (s .args .time) (s .args .a) (handed s)) (λ z. refused (sym same ∙ z))
+      says-nothing answer (nackSampling (s .args .time) (s .args .a) (viewOf (handed s))) (λ z. refused (sym same ∙ z))
           (c .unheard .ensures .2),
     )
 
@@ -84,9 +85,13 @@ returns-2 c =
     let zero = accepted-zero _ _ (e .before .is-accepted .ensures) (not-false _ (e .if1 .left)) in
     let answer = answer-accepted (handed s) (rows s) (stepped s) _ _ (s .pre) (numberOf (j .judge-nack .result))
     (j .judge-nack .ensures) zero
-    (k .nack .result .state) (ring (l .1 .0) (s .args .size .now) (s .args .sent .now) (s .args .resent .now)) (l .1 .1 .1 .1 .1 .0)
-    (k .nack .ensures .0) refl accepted-number in
-    (answer, says-sample answer (nackSampling (s .args .time) (s .args .a) (handed s)) accepted-number (ap some (k .nack .ensures .1)))
+    (k .nack .result .state)
+    (memory (s .args .outstanding .now) (l .1 .1 .0) (s .args .sizes .now) (s .args .sent .now)) (l .1 .1 .1 .1 .1 .0)
+    (k .nack .ensures .0) refl accepted-number in (
+      answer,
+      says-sample answer (nackSampling (s .args .time) (s .args .a) (viewOf (handed s))) accepted-number
+          (ap some (k .nack .ensures .1)),
+    )
 
 pub nack-spec : {M : Type 1} → statement M
 nack-spec =

@@ -1,31 +1,32 @@
 -- `new_data` judges the rows past 2, then takes the step: each answer is a case of `onNewData` of a sound world, by the laws of `Rowing`.
-use mathlib.Core.Path.{refl, sym, ap, _∙_}
+use mathlib.Core.Path.{refl, sym, ap₂, _∙_}
 use mathlib.Core.List.{List}
 use borrow.Author.Needs.{needs}
 use borrow.Author.Tests.{not-true, not-false}
 use Rattle.rules.specs.Rows.{Row}
 use Rattle.rules.specs.Verdict.{numberOf, accepted-zero, refused-not}
-use Rattle.ledger.specs.Ring.{ring}
-use Rattle.sender.specs.World.{World, world}
+use Rattle.ledger.specs.Memory.{Memory, memory}
+use Rattle.sender.specs.World.{World, world, viewOf, worldOf}
 use Rattle.sender.specs.Rows.{newDataRows}
 use Rattle.sender.specs.Steps.{newDataStep}
 use Rattle.sender.specs.Events.{onNewData}
 use Rattle.sender.specs.declared.Controller.{Controller}
 use Rattle.sender.proofs.Sounds.{sound-bounded}
+use Rattle.sender.proofs.Views.{stored-ring}
 use Rattle.sender.proofs.Rowing.{accepted-number, answer-refused, answer-accepted}
 use Rattle.sender.proofs.rely.new_data.Statement.{statement}
 use Rattle.sender.proofs.rely.new_data.Tie as tie
 
 -- what was handed in, the rows past 2, and the world after the step
 abbrev handed : tie.Start → World
-handed s = world (s .args .c) (ring (s .args .status .now) (s .args .size .now) (s .args .sent .now) (s .args .resent .now))
+handed s = world (s .args .c) (memory (s .args .outstanding .now) (s .args .marked .now) (s .args .sizes .now) (s .args .sent .now))
     (s .args .evs .now)
 
 abbrev rows : tie.Start → List Row
 rows s = newDataRows (s .args .time) (s .args .bytes) (s .args .c)
 
 abbrev stepped : tie.Start → World
-stepped s = newDataStep (s .args .time) (s .args .bytes) (handed s)
+stepped s = worldOf (newDataStep (s .args .time) (s .args .bytes) (viewOf (handed s)))
 
 -- from the judging back to the entry
 abbrev start : tie.After-judge-new-data → tie.Start
@@ -65,7 +66,8 @@ returns-2 c =
     let zero = accepted-zero _ _ (e .before .is-accepted .ensures) (not-false _ (e .if1 .left)) in
     answer-accepted (handed s) (rows s) (stepped s) _ _ (s .pre) (numberOf (j .judge-new-data .result)) (j .judge-new-data .ensures) zero
     (c .new-data .result) (handed s .slots) (handed s .times)
-    (ap (λ (x : Controller). world x (handed s .slots) (handed s .times)) (c .new-data .ensures)) refl accepted-number
+    (ap₂ (λ (x : Controller) (m : Memory). world x m (handed s .times)) (c .new-data .ensures) (sym (stored-ring (handed s) (s .pre)))) refl
+    accepted-number
 
 pub new-data-spec : {M : Type 1} → statement M
 new-data-spec =

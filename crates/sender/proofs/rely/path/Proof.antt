@@ -6,13 +6,14 @@ use borrow.Author.Needs.{needs}
 use borrow.Author.Tests.{not-true, not-false}
 use Rattle.rules.specs.Verdict.{numberOf, accepted-zero, refused-not}
 use Rattle.rules.specs.declared.verdict.Verdict.the-variants.{Accepted}
-use Rattle.ledger.specs.Ring.{ring}
-use Rattle.sender.specs.World.{World, world, routed}
+use Rattle.ledger.specs.Memory.{Memory, memory}
+use Rattle.sender.specs.World.{World, world, viewOf, routed}
 use Rattle.sender.specs.Rows.{pathRows}
-use Rattle.sender.specs.Steps.{pathStep}
+use Rattle.sender.specs.Steps.{routeOf, pathState, pathStep}
 use Rattle.sender.specs.Events.{onPath}
 use Rattle.sender.specs.declared.Controller.{Controller}
 use Rattle.sender.proofs.Sounds.{sound-facts, sound-bounded}
+use Rattle.sender.proofs.Views.{stored-ring}
 use Rattle.sender.proofs.Stepping.{time-facts}
 use Rattle.sender.proofs.Rowing.{accepted-number, entry-refused, entry-accepted, taken, untaken}
 use Rattle.sender.proofs.rely.path.Statement.{statement}
@@ -20,7 +21,7 @@ use Rattle.sender.proofs.rely.path.Tie as tie
 
 -- what was handed in
 abbrev handed : tie.Start → World
-handed s = world (s .args .c) (ring (s .args .status .now) (s .args .size .now) (s .args .sent .now) (s .args .resent .now))
+handed s = world (s .args .c) (memory (s .args .outstanding .now) (s .args .marked .now) (s .args .sizes .now) (s .args .sent .now))
     (s .args .evs .now)
 
 -- from the judging back to the entry
@@ -46,7 +47,7 @@ returns c =
 path-requires : tie.Need-path-requires
 path-requires c κs =
     let s = start (c .before .before) in
-    let f = sound-facts (handed s) (s .pre) in
+    let f = sound-facts (viewOf (handed s)) (s .pre) in
     let j = c .before .before .judge-path in
     let zero = accepted-zero _ _ (c .before .is-accepted .ensures) (not-false _ (c .if1 .left)) in
     let t = time-facts (s .args .time) (s .args .c) [] (sym (j .ensures) ∙ zero) .0 in
@@ -65,7 +66,9 @@ returns-2 c =
     entry-accepted w (pathRows time (w .state)) (taken time w) (λ n. untaken n w) (s .pre) (numberOf (j .result)) (j .ensures)
     (routed (numberOf Accepted) (p .result .ev) (p .result .state) (w .slots) (w .times)) zero
     (ap (λ (n : ℕ). routed n (p .result .ev) (p .result .state) (w .slots) (w .times)) accepted-number
-    ∙ ap₂ (λ (e : ℕ) (x : Controller). routed 0 e x (w .slots) (w .times)) (p .ensures .1) (p .ensures .0))
+    ∙ ap₂ (λ (e : ℕ) (x : Controller). routed 0 e x (w .slots) (w .times)) (p .ensures .1) (p .ensures .0)
+    ∙ ap (λ (m : Memory). routed 0 (routeOf time (viewOf w) .ev) (pathState time (routeOf time (viewOf w) .cursor) (w .state)) m (w .times))
+    (sym (stored-ring w (s .pre))))
 
 pub path-spec : {M : Type 1} → statement M
 path-spec = tie.close (tie.spec judge-path-requires is-accepted-requires returns path-requires returns-2)

@@ -5,26 +5,27 @@ use borrow.Author.Needs.{needs}
 use borrow.Author.Tests.{not-true, not-false}
 use Rattle.rules.specs.Rows.{Row}
 use Rattle.rules.specs.Verdict.{numberOf, accepted-zero, refused-not}
-use Rattle.ledger.specs.Ring.{ring}
-use Rattle.sender.specs.World.{World, world}
+use Rattle.ledger.specs.Memory.{memory}
+use Rattle.sender.specs.World.{World, world, ringOf, viewOf, worldOf}
 use Rattle.sender.specs.Rows.{sendAllRows}
 use Rattle.sender.specs.Steps.{sendStep}
 use Rattle.sender.specs.Events.{onSend}
-use Rattle.sender.proofs.Sounds.{sound-bounded, sound-even}
+use Rattle.sender.proofs.Sounds.{sound-bounded}
+use Rattle.sender.proofs.Views.{sound-lengths}
 use Rattle.sender.proofs.Rowing.{accepted-number, answer-refused, answer-accepted}
 use Rattle.sender.proofs.rely.send.Statement.{statement}
 use Rattle.sender.proofs.rely.send.Tie as tie
 
 -- what was handed in, the rows past 2, and the world after the step
 abbrev handed : tie.Start → World
-handed s = world (s .args .c) (ring (s .args .status .now) (s .args .size .now) (s .args .sent .now) (s .args .resent .now))
+handed s = world (s .args .c) (memory (s .args .outstanding .now) (s .args .marked .now) (s .args .sizes .now) (s .args .sent .now))
     (s .args .evs .now)
 
 abbrev rows : tie.Start → List Row
-rows s = sendAllRows (s .args .time) (s .args .a) (s .args .c) (handed s .slots)
+rows s = sendAllRows (s .args .time) (s .args .a) (s .args .c) (ringOf (handed s))
 
 abbrev stepped : tie.Start → World
-stepped s = sendStep (s .args .time) (s .args .a) (handed s)
+stepped s = worldOf (sendStep (s .args .time) (s .args .a) (viewOf (handed s)))
 
 -- from the judging back to the entry
 abbrev start : tie.After-judge-send → tie.Start
@@ -33,7 +34,7 @@ start j = j .before .before .before .before .before .before .before .before .bef
 judge-send-requires : tie.Need-judge-send-requires
 judge-send-requires c κs =
     let s = c .before .before .before .before .before .before .before .before .before in
-    (sound-bounded (handed s) (s .pre), sound-even (handed s) (s .pre))
+    (sound-bounded (handed s) (s .pre), sound-lengths (handed s) (s .pre))
 
 same-length : tie.Need-same-length
 same-length c = search needs
@@ -86,7 +87,7 @@ returns-2 c =
     let s = start j in
     let zero = accepted-zero _ _ (e .before .is-accepted .ensures) (not-false _ (e .if1 .left)) in
     answer-accepted (handed s) (rows s) (stepped s) _ _ (s .pre) (numberOf (j .judge-send .result)) (j .judge-send .ensures) zero
-    (k .send .result) (ring (l .1 .0) (l .1 .1 .0) (l .1 .1 .1 .0) (l .1 .1 .1 .1 .0)) (handed s .times)
+    (k .send .result) (memory (l .1 .0) (l .1 .1 .0) (l .1 .1 .1 .0) (l .1 .1 .1 .1 .0)) (handed s .times)
     (k .send .ensures) refl accepted-number
 
 pub send-spec : {M : Type 1} → statement M

@@ -4,17 +4,17 @@ use mathlib.Core.Path.{sym, _∙_}
 use borrow.Author.Needs.{needs}
 use borrow.Author.Tests.{not-false}
 use Rattle.window.proofs.Tests.{range-facts}
-use Rattle.ledger.specs.Ring.{ring}
-use Rattle.sender.specs.World.{World, world}
+use Rattle.ledger.specs.Memory.{memory}
+use Rattle.sender.specs.World.{world, View, viewOf}
 use Rattle.sender.proofs.Sounds.{not-range, not-window, not-ledger, tests-bounded, tests-left}
 use Rattle.sender.proofs.sound.is_sound.Statement.{statement}
 use Rattle.sender.proofs.sound.is_sound.Tie as tie
 
--- the world that was handed in, seen from the first test
-abbrev given : tie.After-in-range → World
+-- what the world that was handed in shows, seen from the first test
+abbrev given : tie.After-in-range → View
 given c =
     let a = c .before .before .before .before .before .before .before .before .before .before .args in
-    world (a .c) (ring (a .status .now) (a .size .now) (a .sent .now) (a .resent .now)) (a .evs .now)
+    viewOf (world (a .c) (memory (a .outstanding .now) (a .marked .now) (a .sizes .now) (a .sent .now)) (a .evs .now))
 
 in-range-requires : tie.Need-in-range-requires
 in-range-requires c κs = search needs

@@ -3,7 +3,7 @@
 use mathlib.Core.Path.{ap}
 use borrow.Author.Needs.{needs}
 use Rattle.rules.specs.Verdict.{numberOf}
-use Rattle.ledger.specs.Ring.{ring}
+use Rattle.ledger.specs.Memory.{memory}
 use Rattle.sender.proofs.Starts.{refused-range, refused-lengths, accepted-so}
 use Rattle.sender.proofs.start.set_up.Statement.{statement}
 use Rattle.sender.proofs.start.set_up.Tie as tie
@@ -19,7 +19,7 @@ unfolding numberOf
 returns c =
     let i = c .before .before in
     let a = i .before .before .before .before .before .before .args in
-    refused-range (a .settings) (ring (a .status .now) (a .size .now) (a .sent .now) (a .resent .now)) (a .evs .now) _
+    refused-range (a .settings) (memory (a .outstanding .now) (a .marked .now) (a .sizes .now) (a .sent .now)) (a .evs .now) _
     (i .in-range .ensures)
     _ (c .not-set-up .ensures .0) _ (ap numberOf (c .not-set-up .ensures .1)) (c .before .if1 .taken)
 
@@ -47,7 +47,7 @@ returns-2 c =
     let l = c .before .before .before in
     let i = l .before .before .before .before .before .before in
     let a = i .before .before .before .before .before .before .args in
-    refused-lengths (a .settings) (ring (a .status .now) (a .size .now) (a .sent .now) (a .resent .now)) (a .evs .now) _
+    refused-lengths (a .settings) (memory (a .outstanding .now) (a .marked .now) (a .sizes .now) (a .sent .now)) (a .evs .now) _
     (i .in-range .ensures)
     _ (c .not-set-up2 .ensures .0) _ (ap numberOf (c .not-set-up2 .ensures .1)) (l .before .before .before .before .before .if1 .left) _
     (l .is-ring .ensures) (c .before .if2 .taken)
@@ -80,8 +80,8 @@ returns-3 c =
     let l = z .before .before .before .before .before .before .before .before in
     let i = l .before .before .before .before .before .before in
     let a = i .before .before .before .before .before .before .args in
-    accepted-so (a .settings) (ring (a .status .now) (a .size .now) (a .sent .now) (a .resent .now)) (a .evs .now) _ (i .in-range .ensures)
-    (l .before .before .before .before .before .if1 .left) _ (l .is-ring .ensures)
+    accepted-so (a .settings) (memory (a .outstanding .now) (a .marked .now) (a .sizes .now) (a .sent .now)) (a .evs .now) _
+    (i .in-range .ensures) (l .before .before .before .before .before .if1 .left) _ (l .is-ring .ensures)
     (z .before .before .before .before .before .before .if2 .left)
     _ _ _ (c .fresh .ensures) (z .clear .ensures .0) (z .clear .ensures .1)
 

@@ -2,9 +2,12 @@
 -- that no row refuses leave (`ack-ready`).
 use borrow.Author.Needs.{needs}
 use native.Mathlib.Omega.{arith}
-use Rattle.ledger.specs.Ring.{Ledger, ring, ledger}
-use Rattle.sender.specs.World.{World, world}
-use Rattle.sender.proofs.Sounds.{SoundFacts, sound-facts, sound-even, sound-to-ledger}
+use Rattle.ledger.specs.Ring.{Ledger}
+use Rattle.ledger.specs.Memory.{memory, Kept, kept}
+use Rattle.ledger.specs.Steps.{acknowledgeOf}
+use Rattle.sender.specs.World.{World, world, viewOf, ledgerOf}
+use Rattle.sender.proofs.Sounds.{SoundFacts, sound-facts, sound-to-ledger}
+use Rattle.sender.proofs.Views.{sound-lengths}
 use Rattle.sender.proofs.Stepping.{Ackable, ack-facts, avoid-asks, Ready, ready-above, ready-word, state-asks, ack-ready, sample-at}
 use Rattle.sender.proofs.Stepping.{sampled-at, ack-is, ack-says}
 use Rattle.sender.proofs.steps.ack.Statement.{statement}
@@ -13,10 +16,11 @@ use Rattle.sender.proofs.steps.ack.Tie as tie
 -- the world that came in
 abbrev world-in : tie.Start → World
 world-in s =
-    world (s .args .c) (ring (s .args .status .now) (s .args .size .now) (s .args .sent .now) (s .args .resent .now)) (s .args .evs .now)
+    world (s .args .c) (memory (s .args .outstanding .now) (s .args .marked .now) (s .args .sizes .now) (s .args .sent .now))
+    (s .args .evs .now)
 
-facts : (s : tie.Start) → SoundFacts (world-in s)
-facts s = sound-facts (world-in s) (s .pre .0)
+facts : (s : tie.Start) → SoundFacts (viewOf (world-in s))
+facts s = sound-facts (viewOf (world-in s)) (s .pre .0)
 
 accepted : (s : tie.Start) → Ackable (s .args .time) (s .args .a) (s .args .c)
 accepted s = ack-facts (s .args .time) (s .args .a) (s .args .c) (s .pre .1)
@@ -26,15 +30,18 @@ abbrev entry : tie.After-acknowledge → tie.Start
 entry p = p .before .before .before .before .before .before .before .before .before .before .before .before .before .before .before
     .before .before .before .before .before .before .before .before
 
--- the ledger that came out, and what it leaves to the window's rules
-abbrev ledger-out : tie.After-acknowledge → Ledger
-ledger-out p =
-    ledger (p .acknowledge .result .flow) (p .acknowledge .result .totals)
-    (ring (p .acknowledge .last .1 .1 .1 .1 .0) (p .acknowledge .last .1 .1 .1 .1 .1 .0) (p .acknowledge .last .1 .1 .1 .1 .1 .1 .0)
+-- what is kept of the ledger that came out, and what that ledger leaves to the window's rules
+abbrev kept-out : tie.After-acknowledge → Kept
+kept-out p =
+    kept (p .acknowledge .result .flow) (p .acknowledge .result .totals)
+    (memory (p .acknowledge .last .1 .1 .1 .1 .0) (p .acknowledge .last .1 .1 .1 .1 .1 .0) (p .acknowledge .last .1 .1 .1 .1 .1 .1 .0)
     (p .acknowledge .last .1 .1 .1 .1 .1 .1 .1 .0))
 
+abbrev ledger-out : tie.After-acknowledge → Ledger
+ledger-out p = acknowledgeOf (entry p .args .a .cum) (entry p .args .a .map) (entry p .args .a .count) (ledgerOf (world-in (entry p)))
+
 after : (p : tie.After-acknowledge) → Ready (entry p .args .c .settings) (entry p .args .time) (entry p .args .c .window) (ledger-out p)
-after p = let s = entry p in rw (p .acknowledge .ensures) (ack-ready (facts s) (accepted s))
+after p = ack-ready (facts (entry p)) (accepted (entry p))
 
 newly-requires : tie.Need-newly-requires
 newly-requires c κs = search needs
@@ -42,7 +49,7 @@ newly-requires c κs = search needs
 find-requires : tie.Need-find-requires
 find-requires c κs = let s =
     c .before .before .before .before .before .before .before .before .before .before .before .before .before .before in
-    sound-even (world-in s) (s .pre .0)
+    sound-lengths (world-in s) (s .pre .0)
 
 cast-sampled : tie.Need-cast-sampled
 cast-sampled c = search needs
@@ -69,7 +76,7 @@ ack-requires c κs =
         (
           sampled-at _ _ _ _ _ _ (p .before .before .before .before .before .sample-in .ensures)
               (m .sampled .ensures),
-          (m .before .before .before .before .before .before .before .newly .ensures .1, R .early, ready-above R),
+          (m .before .before .before .before .before .before .before .newly .ensures .1, R .early, ready-above R (p .acknowledge .ensures)),
         ),
       ),
     )
@@ -86,10 +93,11 @@ avoid-requires c κs =
 
 state-of-requires : tie.Need-state-of-requires
 state-of-requires c κs =
-    let R = after (c .before .before .before .before .before .before .before .before .before .before .before .before .before .before
-    .before .before) in
-    let old = state-asks R (R .sound-window) in
-    let new = state-asks R (c .before .before .before .before .ack .ensures .sound) in
+    let p = c .before .before .before .before .before .before .before .before .before .before .before .before .before .before
+    .before .before in
+    let R = after p in
+    let old = state-asks R (p .acknowledge .ensures) (R .sound-window) in
+    let new = state-asks R (p .acknowledge .ensures) (c .before .before .before .before .ack .ensures .sound) in
     (new .0, (new .1 .0, omega (arith, old .1 .1, new .1 .1)))
 
 same-length : tie.Need-same-length
@@ -118,12 +126,13 @@ returns c =
     let m = p .before .before .before .before .before .before in
     let x = m .before .before in
     let s = entry p in (
-      ack-is (s .args .time) (world-in s) {r = ledger-out p .slots} (ready-word (after p)) (c .state-of .ensures) (s .args .a)
+      ack-is (s .args .time) (viewOf (world-in s)) {m = kept-out p .slots} (ready-word (after p) (p .acknowledge .ensures))
+          (c .state-of .ensures) (s .args .a)
           (x .before .before .before .before .before .newly .ensures .0)
           (x .find .ensures) (sample-at _ _ _ _ _ _ (p .before .before .before .before .before .sample-in .ensures)
           (m .sampled .ensures)) (p .acknowledge .ensures) (c .before .before .before .before .before .ack .ensures .is)
           (c .before .before .before .avoid .ensures),
-      ack-says (s .args .time) (world-in s) (s .args .a) (x .find .ensures) (m .sampled .ensures),
+      ack-says (s .args .time) (viewOf (world-in s)) (s .args .a) (x .find .ensures) (m .sampled .ensures),
     )
 
 pub ack-spec : {M : Type 1} → statement M

@@ -1,9 +1,12 @@
 -- `loss` puts the ledger's step, the window's rules and the EV's time together (`loss-is`); each call's need is what a sound world and a
 -- loss that no row refuses leave (`marked-ready`).
 use borrow.Author.Needs.{needs}
-use Rattle.ledger.specs.Ring.{Ledger, ring, ledger}
-use Rattle.sender.specs.World.{World, world}
-use Rattle.sender.proofs.Sounds.{SoundFacts, sound-facts, sound-even, sound-to-ledger}
+use Rattle.ledger.specs.Ring.{Ledger}
+use Rattle.ledger.specs.Memory.{memory, Kept, kept}
+use Rattle.ledger.specs.Steps.{markOf}
+use Rattle.sender.specs.World.{World, world, ringOf, viewOf, ledgerOf}
+use Rattle.sender.proofs.Sounds.{SoundFacts, sound-facts, sound-to-ledger}
+use Rattle.sender.proofs.Views.{sound-lengths}
 use Rattle.sender.proofs.Stepping.{Markable, loss-facts, avoid-asks, Ready, ready-above, ready-word, state-asks, mark-flies}
 use Rattle.sender.proofs.Stepping.{mark-size, marked-ready, loss-is}
 use Rattle.sender.proofs.steps.loss.Statement.{statement}
@@ -12,13 +15,14 @@ use Rattle.sender.proofs.steps.loss.Tie as tie
 -- the world that came in
 abbrev world-in : tie.Start → World
 world-in s =
-    world (s .args .c) (ring (s .args .status .now) (s .args .size .now) (s .args .sent .now) (s .args .resent .now)) (s .args .evs .now)
+    world (s .args .c) (memory (s .args .outstanding .now) (s .args .marked .now) (s .args .sizes .now) (s .args .sent .now))
+    (s .args .evs .now)
 
-facts : (s : tie.Start) → SoundFacts (world-in s)
-facts s = sound-facts (world-in s) (s .pre .0)
+facts : (s : tie.Start) → SoundFacts (viewOf (world-in s))
+facts s = sound-facts (viewOf (world-in s)) (s .pre .0)
 
-accepted : (s : tie.Start) → Markable (s .args .time) (s .args .a .psn) (s .args .a .ev) (s .args .c) (world-in s .slots)
-accepted s = loss-facts (s .args .time) (s .args .a) (s .args .c) (world-in s .slots) (s .pre .1)
+accepted : (s : tie.Start) → Markable (s .args .time) (s .args .a .psn) (s .args .a .ev) (s .args .c) (ringOf (world-in s))
+accepted s = loss-facts (s .args .time) (s .args .a) (s .args .c) (ringOf (world-in s)) (s .pre .1)
 
 -- from the place after the ledger's step back to the one after the packet is found, and to the entry
 abbrev found : tie.After-mark → tie.After-find
@@ -27,18 +31,21 @@ found p = p .before .before
 abbrev entry : tie.After-mark → tie.Start
 entry p = p .before .before .before .before .before .before .before .before .before .before .before .before .before
 
--- the ledger that came out, and what it leaves to the window's rules
+-- what is kept of the ledger that came out, and what that ledger leaves to the window's rules
+abbrev kept-out : tie.After-mark → Kept
+kept-out p =
+    kept (p .mark .result .flow) (p .mark .result .totals)
+    (memory (entry p .args .outstanding .now) (p .mark .last .1 .1 .1 .0) (entry p .args .sizes .now) (entry p .args .sent .now))
+
 abbrev ledger-out : tie.After-mark → Ledger
-ledger-out p =
-    ledger (p .mark .result .flow) (p .mark .result .totals)
-    (ring (p .mark .last .1 .1 .0) (entry p .args .size .now) (entry p .args .sent .now) (entry p .args .resent .now))
+ledger-out p = markOf (entry p .args .a .psn) (ledgerOf (world-in (entry p)))
 
 after : (p : tie.After-mark) → Ready (entry p .args .c .settings) (entry p .args .time) (entry p .args .c .window) (ledger-out p)
-after p = let s = entry p in rw (p .mark .ensures) (marked-ready (facts s) (accepted s))
+after p = marked-ready (facts (entry p)) (accepted (entry p))
 
 find-requires : tie.Need-find-requires
 find-requires c κs = let s = c .before .before .before .before .before .before .before .before .before .before in
-    sound-even (world-in s) (s .pre .0)
+    sound-lengths (world-in s) (s .pre .0)
 
 mark-requires : tie.Need-mark-requires
 mark-requires c κs = let s = c .before .before .before .before .before .before .before .before .before .before .before .before in
@@ -51,8 +58,13 @@ loss-requires : tie.Need-loss-requires
 loss-requires c κs =
     let p = c .before .before .before .before .before .before in
     let s = entry p in
-    let R = after p in
-    (R .range, (R .sound-window, (rw (found p .find .ensures) (mark-size (facts s) (accepted s)), R .early, ready-above R)))
+    let R = after p in (
+      R .range,
+      (
+        R .sound-window,
+        (rw (found p .find .ensures) (mark-size (facts s) (accepted s)), R .early, ready-above R (p .mark .ensures)),
+      ),
+    )
 
 avoid-requires : tie.Need-avoid-requires
 avoid-requires c κs = let s =
@@ -60,11 +72,12 @@ avoid-requires c κs = let s =
     .before .before .before .before .before in avoid-asks (facts s) (accepted s .timely) (accepted s .ev-ok)
 
 state-of-requires : tie.Need-state-of-requires
-state-of-requires c κs = state-asks (after (c .before .before .before .before .before .before .before .before .before .before .before))
-    (c .before .before .before .before .loss .ensures .sound)
+state-of-requires c κs =
+    let p = c .before .before .before .before .before .before .before .before .before .before .before in
+    state-asks (after p) (p .mark .ensures) (c .before .before .before .before .loss .ensures .sound)
 
 same-length : tie.Need-same-length
-same-length c = c .before .before .before .before .before .before .before .before .before .before .before .before .mark .kept .1 .1 .0
+same-length c = c .before .before .before .before .before .before .before .before .before .before .before .before .mark .kept .1 .1 .1 .0
 
 same-length-2 : tie.Need-same-length-2
 same-length-2 c = search needs
@@ -73,8 +86,8 @@ returns : tie.Need-returns
 returns c =
     let p = c .before .before .before .before .before .before .before .before .before .before .before .before in
     let s = entry p in
-    loss-is (s .args .time) (world-in s) {r = ledger-out p .slots} (ready-word (after p)) (c .state-of .ensures) (s .args .a)
-    (found p .find .ensures)
+    loss-is (s .args .time) (viewOf (world-in s)) {m = kept-out p .slots} (ready-word (after p) (p .mark .ensures)) (c .state-of .ensures)
+    (s .args .a) (found p .find .ensures)
     (p .mark .ensures) (c .before .before .before .before .before .loss .ensures .is) (c .before .before .before .avoid .ensures)
 
 pub loss-spec : {M : Type 1} → statement M

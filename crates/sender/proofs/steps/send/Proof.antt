@@ -1,11 +1,13 @@
 -- `send` pushes a new packet or resends a marked one and names the state; each call's need is what a sound world and a send that no
 -- row refuses leave (`send-ready`).
-use mathlib.Core.Path.{_≡_, refl}
+use mathlib.Core.Path.{_≡_, refl, ap, _∙_}
 use borrow.Author.Needs.{needs}
 use Rattle.rules.specs.Branch.{ifSo, so-yes, so-no}
-use Rattle.ledger.specs.Ring.{Ledger, ring, ledger}
+use Rattle.ledger.specs.Ring.{Ledger}
+use Rattle.ledger.specs.Memory.{memory, Kept, kept, keptOf}
 use Rattle.ledger.specs.Steps.{pushOf, resendOf}
-use Rattle.sender.specs.World.{World, world, ledgerOf}
+use Rattle.ledger.proofs.Shows.{shown-cap}
+use Rattle.sender.specs.World.{World, world, ringOf, viewOf, ledgerOf}
 use Rattle.sender.specs.Steps.{sendStep}
 use Rattle.sender.proofs.Sounds.{SoundFacts, sound-facts, sound-to-ledger}
 use Rattle.sender.proofs.Stepping.{Sendable, send-facts, Ready, state-asks, push-asks, resend-asks, send-ready, settles}
@@ -15,13 +17,14 @@ use Rattle.sender.proofs.steps.send.Tie as tie
 -- the world that came in
 abbrev world-in : tie.Start → World
 world-in s =
-    world (s .args .c) (ring (s .args .status .now) (s .args .size .now) (s .args .sent .now) (s .args .resent .now)) (s .args .evs .now)
+    world (s .args .c) (memory (s .args .outstanding .now) (s .args .marked .now) (s .args .sizes .now) (s .args .sent .now))
+    (s .args .evs .now)
 
-facts : (s : tie.Start) → SoundFacts (world-in s)
-facts s = sound-facts (world-in s) (s .pre .0)
+facts : (s : tie.Start) → SoundFacts (viewOf (world-in s))
+facts s = sound-facts (viewOf (world-in s)) (s .pre .0)
 
-accepted : (s : tie.Start) → Sendable (s .args .time) (s .args .a) (s .args .c) (world-in s .slots)
-accepted s = send-facts (s .args .time) (s .args .a) (s .args .c) (world-in s .slots) (s .pre .1)
+accepted : (s : tie.Start) → Sendable (s .args .time) (s .args .a) (s .args .c) (ringOf (world-in s))
+accepted s = send-facts (s .args .time) (s .args .a) (s .args .c) (ringOf (world-in s)) (s .pre .1)
 
 -- the ledger that the definition gives, and what it leaves to the state's name
 abbrev sent-of : tie.Start → Ledger
@@ -36,25 +39,26 @@ ready s = send-ready (facts s) (accepted s)
 abbrev entry-resend : tie.After-resend → tie.Start
 entry-resend p = p .before .before .before .before .before .before .before .before .before .before .before .before .before .before .before
 
-abbrev ledger-resend : tie.After-resend → Ledger
-ledger-resend p =
-    ledger (p .resend .result .flow) (p .resend .result .totals)
-    (ring (p .resend .last .1 .1 .1 .0) (p .resend .last .1 .1 .1 .1 .0) (p .resend .last .1 .1 .1 .1 .1 .0)
+abbrev kept-resend : tie.After-resend → Kept
+kept-resend p =
+    kept (p .resend .result .flow) (p .resend .result .totals)
+    (memory (p .resend .last .1 .1 .1 .0) (p .resend .last .1 .1 .1 .1 .0) (p .resend .last .1 .1 .1 .1 .1 .0)
     (p .resend .last .1 .1 .1 .1 .1 .1 .0))
 
-is-resend : (p : tie.After-resend) → ledger-resend p ≡ sent-of (entry-resend p)
-is-resend p = so-yes _ _ _ _ (p .before .before .before .before .before .if1 .taken) (p .resend .ensures)
+is-resend : (p : tie.After-resend) → kept-resend p ≡ keptOf (sent-of (entry-resend p))
+is-resend p = p .resend .ensures ∙ ap keptOf (so-yes _ _ _ _ (p .before .before .before .before .before .if1 .taken) refl)
 
 abbrev entry-push : tie.After-push → tie.Start
 entry-push p = p .before .before .before .before .before .before .before .before .before .before .before .before .before .before .before
 
-abbrev ledger-push : tie.After-push → Ledger
-ledger-push p =
-    ledger (p .push .result .flow) (p .push .result .totals)
-    (ring (p .push .last .1 .1 .1 .0) (p .push .last .1 .1 .1 .1 .0) (p .push .last .1 .1 .1 .1 .1 .0) (p .push .last .1 .1 .1 .1 .1 .1 .0))
+abbrev kept-push : tie.After-push → Kept
+kept-push p =
+    kept (p .push .result .flow) (p .push .result .totals)
+    (memory (p .push .last .1 .1 .1 .0) (p .push .last .1 .1 .1 .1 .0) (p .push .last .1 .1 .1 .1 .1 .0)
+    (p .push .last .1 .1 .1 .1 .1 .1 .0))
 
-is-push : (p : tie.After-push) → ledger-push p ≡ sent-of (entry-push p)
-is-push p = so-no _ _ _ _ (p .before .before .before .before .before .if1 .left) (p .push .ensures)
+is-push : (p : tie.After-push) → kept-push p ≡ keptOf (sent-of (entry-push p))
+is-push p = p .push .ensures ∙ ap keptOf (so-no _ _ _ _ (p .before .before .before .before .before .if1 .left) refl)
 
 resend-requires : tie.Need-resend-requires
 resend-requires c κs =
@@ -66,7 +70,7 @@ state-of-requires : tie.Need-state-of-requires
 state-of-requires c κs =
     let p = c .before .before .before .before .before .before .before .before in
     let s = entry-resend p in
-    state-asks {v = s .args .c .window} {l = ledger-resend p} (rw (is-resend p) (ready s)) (ready s .sound-window)
+    state-asks (ready s) (is-resend p) (ready s .sound-window)
 
 same-length : tie.Need-same-length
 same-length c = search needs
@@ -85,19 +89,21 @@ unfolding sendStep
 returns c =
     let p = c .before .before .before .before .before .before .before .before .before in
     let s = entry-resend p in
-    settles (s .args .time) (s .args .c) {r = ledger-resend p .slots} (is-resend p) refl refl (c .state-of .ensures)
+    settles (s .args .time) (s .args .c) (sent-of s) {m = kept-resend p .slots} (is-resend p) refl refl (c .state-of .ensures)
 
 push-requires : tie.Need-push-requires
 push-requires c κs =
     let t = c .before .before .before .before in
     let s = t .before .before .before .before .before .before .before .before .before .before in
-    (sound-to-ledger (world-in s) (s .pre .0), push-asks (facts s) (accepted s) (t .if1 .left))
+    let w = world-in s in
+    let asks = push-asks (facts s) (accepted s) (t .if1 .left) in
+    (sound-to-ledger w (s .pre .0), (asks .0, rw (shown-cap (w .state .flow .low) (w .state .flow .next) (w .slots)) at (asks .1)))
 
 state-of-requires-2 : tie.Need-state-of-requires-2
 state-of-requires-2 c κs =
     let p = c .before .before .before .before .before .before .before .before in
     let s = entry-push p in
-    state-asks {v = s .args .c .window} {l = ledger-push p} (rw (is-push p) (ready s)) (ready s .sound-window)
+    state-asks (ready s) (is-push p) (ready s .sound-window)
 
 same-length-5 : tie.Need-same-length-5
 same-length-5 c = search needs
@@ -116,7 +122,7 @@ unfolding sendStep
 returns-2 c =
     let p = c .before .before .before .before .before .before .before .before .before in
     let s = entry-push p in
-    settles (s .args .time) (s .args .c) {r = ledger-push p .slots} (is-push p) refl refl (c .state-of2 .ensures)
+    settles (s .args .time) (s .args .c) (sent-of s) {m = kept-push p .slots} (is-push p) refl refl (c .state-of2 .ensures)
 
 pub send-spec : {M : Type 1} → statement M
 send-spec =
