@@ -15,7 +15,7 @@ use Rattle.window.specs.declared.Settings.{Settings}
 use Rattle.window.specs.declared.Window.{Window}
 use Rattle.window.specs.declared.Sample.{Sample}
 use Rattle.window.specs.declared.Sample.the-variants.{Ticks, Absent}
-use Rattle.sender.specs.World.{World}
+use Rattle.sender.specs.World.{World, viewOf}
 use Rattle.sender.specs.Steps.{stateOf, settled, newDataState, newDataStep, sendStep, ackSample, ackStep, nackSample, nackStep, lossStep}
 use Rattle.sender.specs.Steps.{pathState, pathStep}
 use Rattle.sender.specs.declared.Ack.{Ack}
@@ -48,15 +48,17 @@ measure-none w marked = refl
 
 module _ (time : ℕ) (a : Ack) (w : World) where
   -- the step's average is that of its sample
-  ack-average : ackStep time a w .state .window .avg ≡ measure-average w (a .marked) (ackSample time a w)
+  ack-average : ackStep time a (viewOf w) .state .window .avg ≡ measure-average w (a .marked) (ackSample time a (viewOf w))
   unfolding ackStep settled stateOf measure-average
-  ack-average = ap (λ (d : Delays). d .avg) (ack-delays (w .state .settings) time _ (a .marked) (ackSample time a w) _ (w .state .window))
+  ack-average =
+      ap (λ (d : Delays). d .avg)
+      (ack-delays (w .state .settings) time _ (a .marked) (ackSample time a (viewOf w)) _ (w .state .window))
 
   -- where 01 has no sample there is none
-  absent : ((ticks : ℕ) → SampleIs w (a .trigger) (a .retx) time (a .service) ticks → ⊥) → ackSample time a w ≡ Absent
-  absent none = go (ackSample time a w) refl
+  absent : ((ticks : ℕ) → SampleIs w (a .trigger) (a .retx) time (a .service) ticks → ⊥) → ackSample time a (viewOf w) ≡ Absent
+  absent none = go (ackSample time a (viewOf w)) refl
     where
-      go : (p : Sample) → ackSample time a w ≡ p → ackSample time a w ≡ Absent
+      go : (p : Sample) → ackSample time a (viewOf w) ≡ p → ackSample time a (viewOf w) ≡ Absent
       go (Ticks t) e = absurd (none t (ack-sampled time t a w .0 e))
       go Absent e = e
 
@@ -69,18 +71,18 @@ update-base-rtt-average s Absent w = refl
 
 module _ (time : ℕ) (a : Nack) (w : World) where
   abbrev lowered : Window
-  lowered = updateBaseRttOf (w .state .settings) (nackSample time a w) (w .state .window)
+  lowered = updateBaseRttOf (w .state .settings) (nackSample time a (viewOf w)) (w .state .window)
 
   abbrev average : ℕ
-  average = nackStep time a w .state .window .avg
+  average = nackStep time a (viewOf w) .state .window .avg
 
   nack-average : average ≡ ifSo (isTrimmed (a .reason)) (feedTrimmedOf (w .state .settings) lowered) lowered .avg
   unfolding nackStep settled stateOf
-  nack-average = ap (λ (d : Delays). d .avg) (nack-delays (w .state .settings) time _ (a .reason) (nackSample time a w) _
+  nack-average = ap (λ (d : Delays). d .avg) (nack-delays (w .state .settings) time _ (a .reason) (nackSample time a (viewOf w)) _
       (w .state .window))
 
   lowered-same : lowered .avg ≡ w .state .window .avg
-  lowered-same = update-base-rtt-average (w .state .settings) (nackSample time a w) (w .state .window)
+  lowered-same = update-base-rtt-average (w .state .settings) (nackSample time a (viewOf w)) (w .state .window)
 
   trimmed : a .reason ≤ 1 → average ≡ fed (w .state .window .avg) (w .state .settings .«config_base_rtt»)
   unfolding isTrimmed feedTrimmedOf updateDelayOf

@@ -29,17 +29,16 @@ use Rattle.ledger.specs.Ring.{Ledger, packets}
 use Rattle.ledger.specs.Steps.{heldOf, newlyOf, acknowledgeOf}
 use Rattle.ledger.proofs.Facts.{packets-long}
 use Rattle.window.specs.Limits.{timeEnd}
-use Rattle.sender.specs.World.{World, Answered, ledgerOf}
+use Rattle.sender.specs.World.{World, ringOf, Answered, ledgerOf}
 use Rattle.sender.specs.Sound.{sound}
 use Rattle.sender.specs.Rows.{ackAllRows}
-use Rattle.sender.specs.Steps.{ackStep}
 use Rattle.sender.specs.Events.{onAck}
 use Rattle.sender.specs.declared.Ack.{Ack}
-use Rattle.demands.specs.Events.{ack}
+use Rattle.demands.specs.Events.{ack, stepOf}
 use Rattle.demands.specs.Burst.{Arrival, deliver, Timely, Newest, Of, Arrives, coversPsn, psnOf, wasCovered}
 use Rattle.demands.specs.Demands.{Burst}
-use Rattle.demands.proofs.Runs.{accepted, step-ledger, step-clock, step-settings}
-use Rattle.demands.proofs.Sounded.{ledger-facts, step-sound}
+use Rattle.demands.proofs.Runs.{accepted, step-clock, step-settings}
+use Rattle.demands.proofs.Sounded.{ledger-facts, step-sound, step-ledger}
 use Rattle.demands.proofs.Ledgers.{cover-agree, settledBy, settled-same, ack-cases, badFields, fields-count, Fine, accepted-fine}
 use Rattle.demands.proofs.Ledgers.{fine-rows, fine-accepted, heldIn, inFlightIn, deliver-settles}
 
@@ -146,19 +145,19 @@ module _ (n : Ack) (evs next : ℕ) (rest : ℤ) (fields : badFields evs n ≡ f
     took-a : Took (n .count) (heldIn w) (a .count)
     took-a = taken (n .count) (heldIn w) (a .count) (g .near) close
 
-    held-is : heldIn (ackStep t a w) ≡ heldOf (a .count) (heldIn w)
+    held-is : heldIn (stepOf (ack t a) w) ≡ heldOf (a .count) (heldIn w)
     unfolding acknowledgeOf
-    held-is = ap (λ (l : Ledger). l .flow .held) (step-ledger (ack t a) w)
+    held-is = ap (λ (l : Ledger). l .flow .held) (step-ledger (ack t a) w (g .holds) rows)
 
-    in-flight-is : inFlightIn (ackStep t a w) ≡ fallen (inFlightIn w) (newlyOf (a .count) (heldIn w))
+    in-flight-is : inFlightIn (stepOf (ack t a) w) ≡ fallen (inFlightIn w) (newlyOf (a .count) (heldIn w))
     unfolding acknowledgeOf
-    in-flight-is = ap (λ (l : Ledger). l .totals .«in_flight») (step-ledger (ack t a) w)
+    in-flight-is = ap (λ (l : Ledger). l .totals .«in_flight») (step-ledger (ack t a) w (g .holds) rows)
 
-    next-same : ackStep t a w .state .flow .next ≡ w .state .flow .next
+    next-same : stepOf (ack t a) w .state .flow .next ≡ w .state .flow .next
     unfolding acknowledgeOf
-    next-same = ap (λ (l : Ledger). l .flow .next) (step-ledger (ack t a) w)
+    next-same = ap (λ (l : Ledger). l .flow .next) (step-ledger (ack t a) w (g .holds) rows)
 
-    member : Went n evs next rest (lag (n .count) (heldIn w)) t (ackStep t a w)
+    member : Went n evs next rest (lag (n .count) (heldIn w)) t (stepOf (ack t a) w)
     member =
         record {
           good =
@@ -176,7 +175,7 @@ module _ (n : Ack) (evs next : ℕ) (rest : ℤ) (fields : badFields evs n ≡ f
           clocked = omega (arith, step-clock (ack t a) w);
         }
 
-    caught-up : lag (n .count) (heldIn (ackStep t a w)) ≤ lag (n .count) (a .count)
+    caught-up : lag (n .count) (heldIn (stepOf (ack t a) w)) ≤ lag (n .count) (a .count)
     caught-up = rw held-is (took-a .caught)
 
   -- any member
@@ -237,7 +236,7 @@ module _ (n : Ack) (evs next : ℕ) (rest : ℤ) (fields : badFields evs n ≡ f
       first q =
           let is-n : d .ack ≡ n = ap (λ (y : Arrival). y .ack) (sym q) ∙ x .2 in
           let fine = newest-fine w (d .time) g (h .0) (h .1) in
-          let e : onAck (d .time) (d .ack) w ≡ record { number = 0; after = ackStep (d .time) n w } =
+          let e : onAck (d .time) (d .ack) w ≡ record { number = 0; after = stepOf (ack (d .time) n) w } =
           ap (λ (a : Ack). onAck (d .time) a w) is-n ∙ fine-accepted (d .time) n w fine (g .holds) in
           let z : lag (n .count) (heldIn v) ≤ 0 =
           rw (ap (λ (y : Answered). y .after) e)
@@ -338,15 +337,15 @@ module _ (w : World) (at : ℕ) (n : Ack) (others : List Ack) (nw : Newest w at 
       in-flight-n : inFlightIn (deliver w ds) ≡ rest
       in-flight-n = sym (fall-none (inFlightIn (deliver w ds))) ∙ (rw none-left at (g .left))
 
-      agree : coverAll (wasCovered w ds) (w .state .flow .low) (packets (w .state .flow) (w .slots))
-          ≡ coverAll (coversPsn n) (w .state .flow .low) (packets (w .state .flow) (w .slots))
+      agree : coverAll (wasCovered w ds) (w .state .flow .low) (packets (w .state .flow) (ringOf w))
+          ≡ coverAll (coversPsn n) (w .state .flow .low) (packets (w .state .flow) (ringOf w))
       agree =
-          cover-agree (wasCovered w ds) (coversPsn n) (w .state .flow .low) (packets (w .state .flow) (w .slots))
+          cover-agree (wasCovered w ds) (coversPsn n) (w .state .flow .low) (packets (w .state .flow) (ringOf w))
           (ledger-facts w holds .low-psn)
           (λ k hk out.
           bool-same (wasCovered w ds (psnOf w k)) (coversPsn n (psnOf w k))
           (covered-too n others (psnOf w k)
-          (λ a m. nw .covers-too a m k (record { within = omega (arith, packets-long (w .state .flow) (w .slots)); out = out })) ds w o)
+          (λ a m. nw .covers-too a m k (record { within = omega (arith, packets-long (w .state .flow) (ringOf w)); out = out })) ds w o)
           (e .1 (psnOf w k)))
 
 pub burst : Burst

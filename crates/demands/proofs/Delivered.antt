@@ -24,7 +24,7 @@ use Rattle.ledger.specs.Ring.{Ledger, longOf, packets, offsetOf, packetOf}
 use Rattle.ledger.specs.declared.Packet.{Packet}
 use Rattle.ledger.proofs.Facts.{Facts, packets-long}
 use Rattle.ledger.proofs.Queues.{cover-no, cover-out, cover-at, done-in, now-done, goneOf, leftOf}
-use Rattle.sender.specs.World.{World, ledgerOf}
+use Rattle.sender.specs.World.{World, ringOf, ledgerOf}
 use Rattle.sender.specs.Sound.{sound}
 use Rattle.sender.specs.Events.{onAck}
 use Rattle.demands.specs.Events.{ack}
@@ -125,11 +125,11 @@ from-sound w ds h k o =
     let F = ledger-facts w h in
     let c = wasCovered w ds in
     let f = w .state .flow in
-    let xs = packets f (w .slots) in
+    let xs = packets f (ringOf w) in
     ap (λ (l : Ledger). isDelivered l (psnOf w k)) (deliver-settles ds w h)
     ∙ settled-delivers (w .state .settings .mtu) (w .state .clock) (ledgerOf w) F c (heldIn (deliver w ds)) (inFlightIn (deliver w ds))
     k (o .within)
-    ∙ ap isDone (cover-at c (f .low) k xs (F .low-psn) (omega (arith, packets-long f (w .slots), o .within)))
+    ∙ ap isDone (cover-at c (f .low) k xs (F .low-psn) (omega (arith, packets-long f (ringOf w), o .within)))
     ∙ cover-done (c (psnOf w k)) (getD xs k noPacket) (o .out)
 
 -- a start that does not hold together: every ACK is refused, and an outstanding packet stays so
@@ -152,7 +152,7 @@ module _ (w : World) (h : sound w ≡ false) where
   unfolding isDelivered packetOf offsetOf longOf
   still-out k o =
       let f = w .state .flow in
-      let xs = packets f (w .slots) in
+      let xs = packets f (ringOf w) in
       let l : longOf f < psns = minus-lt psns (f .next) (f .low) (omega arith) in
       let e : minus psns (plus (f .low) k) (f .low) ≡ k = minus-plus (f .low) k (omega (arith, o .within)) in
       sym (lt-yes _ _ false _ true (omega (arith, o .within))

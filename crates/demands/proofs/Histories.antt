@@ -13,12 +13,13 @@ use Rattle.rules.specs.Branch.{so-both, eq-yes, eq-no}
 use Rattle.rules.specs.Rows.{firstOf}
 use Rattle.serial.specs.Psn.{psns}
 use Rattle.window.specs.declared.Settings.{Settings}
-use Rattle.ledger.specs.Ring.{Ring, Ledger, packetOf}
+use Rattle.ledger.specs.Ring.{Ledger, packetOf}
+use Rattle.ledger.specs.Memory.{Memory}
 use Rattle.ledger.specs.Rows.{markRows}
 use Rattle.ledger.specs.Steps.{pushOf, resendOf, markOf, acknowledgeOf}
 use Rattle.ledger.proofs.Judging.{resend-facts, mark-facts}
 use Rattle.ledger.proofs.Sends.{flies}
-use Rattle.sender.specs.World.{World, ledgerOf}
+use Rattle.sender.specs.World.{World, ringOf, ledgerOf}
 use Rattle.sender.specs.Sound.{sound}
 use Rattle.sender.specs.Start.{freshState}
 use Rattle.sender.proofs.Starts.{set-up-fresh}
@@ -26,8 +27,8 @@ use Rattle.sender.proofs.Stepping.{send-facts, nack-facts, loss-facts}
 use Rattle.demands.specs.Events.{Event, newData, send, ack, nack, loss, path, answer, run, SetUp}
 use Rattle.demands.specs.Sums.{Past, noPast, remember, sentBy, reportedBy, lostBy, sum}
 use Rattle.demands.specs.Demands.{History}
-use Rattle.demands.proofs.Runs.{rowsOf, ledgerStep, step-ledger, accepted, refused-same}
-use Rattle.demands.proofs.Sounded.{answer-sound, start-sound}
+use Rattle.demands.proofs.Runs.{rowsOf, ledgerStep, accepted, refused-same}
+use Rattle.demands.proofs.Sounded.{step-ledger, answer-sound, start-sound}
 use Rattle.demands.proofs.Pasts.{Agrees, agrees-step, agrees-fresh, size-remembered}
 
 -- ---- what one event moves
@@ -52,15 +53,15 @@ unfolding sentBy reportedBy lostBy pushOf resendOf acknowledgeOf
 moves (newData time bytes) w p rows A = simp +ℤ-idr
 moves (send time a) w p rows A =
     let z = w .state .totals .«in_flight» in
-    let S = send-facts time a (w .state) (w .slots) rows in
+    let S = send-facts time a (w .state) (ringOf w) rows in
     so-both (λ (l : Ledger). l .totals .«in_flight» ≡ moved z (a .size) 0 0) (a .resend) _ _
     (λ again.
-    let size-is = resend-facts (w .state .flow) (w .slots) (a .psn) (a .size) (rw again at (S .rows)) .1 in
+    let size-is = resend-facts (w .state .flow) (ringOf w) (a .psn) (a .size) (rw again at (S .rows)) .1 in
     rw (← size-is) (simp +ℤ-idr))
     (λ new. simp +ℤ-idr)
 moves (ack time a) w p rows A = rw (A .count-is) (simp +ℤ-idr)
-moves (nack time a) w p rows A = marked-moves p (ledgerOf w) (a .psn) (nack-facts time a (w .state) (w .slots) rows .rows) A
-moves (loss time a) w p rows A = marked-moves p (ledgerOf w) (a .psn) (loss-facts time a (w .state) (w .slots) rows .rows) A
+moves (nack time a) w p rows A = marked-moves p (ledgerOf w) (a .psn) (nack-facts time a (w .state) (ringOf w) rows .rows) A
+moves (loss time a) w p rows A = marked-moves p (ledgerOf w) (a .psn) (loss-facts time a (w .state) (ringOf w) rows .rows) A
 moves (path time) w p rows A = simp +ℤ-idr
 
 -- ---- sums
@@ -100,7 +101,7 @@ net (e ∷ es) w p h A =
     let after = answer e w .after in
     let q = remember e p in
     let z = w .state .totals .«in_flight» in
-    let l : ledgerOf after ≡ ledgerStep e (ledgerOf w) = ap ledgerOf (T .leaves) ∙ step-ledger e w in
+    let l : ledgerOf after ≡ ledgerStep e (ledgerOf w) = ap ledgerOf (T .leaves) ∙ step-ledger e w h (T .none-refuses) in
     net es after q (answer-sound e w h) (rw l (agrees-step e w p h (T .none-refuses) A))
     ∙ ap (λ (x : ℤ). moved x (sum sentBy after q es) (sum reportedBy after q es) (sum lostBy after q es))
     (ap (λ (m : Ledger). m .totals .«in_flight») l ∙ moves e w p (T .none-refuses) A)
@@ -112,13 +113,13 @@ net (e ∷ es) w p h A =
     ∙ rw (sum-same sentBy w p e es n, sum-same reportedBy w p e es n, sum-same lostBy w p e es n))
 
 -- nothing is in flight at the start
-fresh-empty : {s : Settings} {r : Ring} {times : List ℕ} {w : World} → SetUp s r times w → w .state .totals .«in_flight» ≡ pos 0
+fresh-empty : {s : Settings} {m : Memory} {times : List ℕ} {w : World} → SetUp s m times w → w .state .totals .«in_flight» ≡ pos 0
 unfolding freshState
-fresh-empty {s} {r} {times} {w} U = rw (U .gives, set-up-fresh s r times (U .accepted) .2)
+fresh-empty {s} {m} {times} {w} U = rw (U .gives, set-up-fresh s m times (U .accepted) .2)
 
 -- DEMAND 2: in-flight bytes equal sent less reported less taken out as lost, summed from set-up on
 pub history : History
-history s r times w es U =
+history s m times w es U =
     net es w noPast (start-sound U) (agrees-fresh U)
     ∙ ap (λ (z : ℤ). moved z (sum sentBy w noPast es) (sum reportedBy w noPast es) (sum lostBy w noPast es)) (fresh-empty U)
     ∙ simp +ℤ-idl

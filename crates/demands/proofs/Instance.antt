@@ -15,6 +15,7 @@ use lib.ListN.{length, replicate}
 use Rattle.rules.specs.Branch.{ifSo, ifLt, ifEq, eq-yes}
 use Rattle.rules.specs.Test.{inside}
 use Rattle.rules.specs.Rows.{firstOf}
+use Rattle.bits.specs.Bits.{bit, isWord, bitAt, one, valueOf, wordsOf}
 use Rattle.serial.specs.Wrap.{minus}
 use Rattle.serial.specs.Psn.{plus, bitOf, covered, backOf, spanOf, unsentOrOld}
 use Rattle.serial.specs.Count.{counts, half, aheadOf, isOld, forwardOf}
@@ -32,51 +33,54 @@ use Rattle.window.specs.declared.Settings.{Settings}
 use Rattle.ledger.specs.Packets.{isFlying, isMarked, isDone, isOut, flyingOne, markedOne, markedSize, sumOf, coverOne, coverAll, coveredSum}
 use Rattle.ledger.specs.Packets.{doneRun}
 use Rattle.ledger.specs.Bounds.{inBounds, sinks}
-use Rattle.ledger.specs.Ring.{Ring, ring, Ledger, packetAt, tabulate, placeOf, ageOf, lay, laid, queueOf, longOf, packets, offsetOf}
+use Rattle.ledger.specs.Ring.{Ledger, packetAt, tabulate, placeOf, ageOf, lay, laid, queueOf, longOf, packets, offsetOf}
 use Rattle.ledger.specs.Ring.{packetOf}
-use Rattle.ledger.specs.Sound.{allTo, isCapacity, isRing, isLive, isZero, slotOk, headOk, stands, tallies, soundLedger}
+use Rattle.ledger.specs.Memory.{Memory, memory, packed, sizeIn, resentIn, slotsOf, inWindow, statusOf, wordsAt, statusAt, shown}
+use Rattle.ledger.specs.Memory.{isOutStatus, isMarkStatus, stored}
+use Rattle.ledger.specs.Sound.{allTo, isCapacity, isRing, isEven, isLive, isZero, slotOk, headOk, stands, tallies, soundLedger}
 use Rattle.ledger.specs.Steps.{changed, supplyOf, pushOf, resendOf, markOf, heldOf, newlyOf, acknowledgeOf}
 use Rattle.ledger.specs.declared.Packet.{Packet}
 use Rattle.sender.specs.World.{World, world, Answered, ledgerOf}
 use Rattle.sender.specs.Named.{hasRoom, phaseOf, phaseNumber}
-use Rattle.sender.specs.Sound.{timesOk, namedOk, sound}
+use Rattle.sender.specs.Sound.{timesOk, namedOk, soundView, sound}
 use Rattle.sender.specs.Rows.{setUpRows}
 use Rattle.sender.specs.Start.{freshState, onSetUp}
 use Rattle.sender.specs.Steps.{stateOf, settled, avoidedIn, newDataState, newDataStep, sendStep, ackSample, ackStep, lossStep}
 use Rattle.sender.specs.Events.{decided, onNewData, onSend, onAck, onLoss}
 use Rattle.sender.specs.declared.Send.{Send}
 use Rattle.sender.specs.declared.Ack.{Ack}
-use Rattle.demands.specs.Events.{Event, newData, send, ack, loss, run, SetUp}
+use Rattle.demands.specs.Events.{Event, newData, send, ack, loss, stepOf, run, SetUp}
 use Rattle.demands.specs.Sums.{noPast, remember, sentBy, reportedBy, lostBy, sum}
 use Rattle.demands.specs.Burst.{Arrival, deliver, Timely, Outstanding, psnOf, coversPsn, Of, Arrives}
 use Rattle.demands.specs.Cases.{settingsE}
-use Rattle.demands.proofs.Runs.{step-ledger, step-clock, step-settings}
-use Rattle.demands.proofs.Sounded.{step-sound}
+use Rattle.demands.proofs.Runs.{step-clock, step-settings}
+use Rattle.demands.proofs.Sounded.{step-sound, step-ledger}
 use Rattle.demands.proofs.Ledgers.{Fine, fine-accepted, fine-rows}
 use Rattle.demands.proofs.Bursts.{burst}
 
 -- ---- an accepted setting up: settings E, and 64 slots and 256 EV times of anything
 
-pub record Lent (r : Ring) (times : List ℕ) : Type 0 where
-  pub status : length (r .status) ≡ 64
-  pub size : length (r .size) ≡ 64
-  pub sent : length (r .sent) ≡ 64
-  pub resent : length (r .resent) ≡ 64
+pub record Lent (m : Memory) (times : List ℕ) : Type 0 where
+  pub outstanding : length (m .outstanding) ≡ 1
+  pub marked : length (m .marked) ≡ 1
+  pub sizes : length (m .sizes) ≡ 64
+  pub sent : length (m .sent) ≡ 64
   pub evs : length times ≡ 256
 
 unfoldable pub fresh : World
-fresh = world (freshState settingsE) (ring (replicate 64 0) (replicate 64 0) (replicate 64 0) (replicate 64 0)) (replicate 256 0)
+fresh = world (freshState settingsE) (memory (replicate 1 0) (replicate 1 0) (replicate 64 0) (replicate 64 0)) (replicate 256 0)
 
-module _ (r : Ring) (times : List ℕ) (L : Lent r times) where
-  none-refuses : firstOf (setUpRows settingsE r times) ≡ 0
-  unfolding firstOf ifSo settingsE inRange inside isEvCount isRing isCapacity
-  none-refuses = rw (L .size, L .sent, L .resent, L .evs, L .status)
+module _ (m : Memory) (times : List ℕ) (L : Lent m times) where
+  none-refuses : firstOf (setUpRows settingsE m times) ≡ 0
+  unfolding firstOf ifSo ifEq settingsE inRange inside isEvCount isEven slotsOf isCapacity
+  none-refuses = rw (L .sizes, L .sent, L .evs, L .marked, L .outstanding)
 
-  answers : onSetUp settingsE r times ≡ record { number = 0; after = fresh }
+  answers : onSetUp settingsE m times ≡ record { number = 0; after = fresh }
   unfolding onSetUp fresh
-  answers = sym (eq-yes (firstOf (setUpRows settingsE r times)) 0 _ _ _ none-refuses (rw (L .status, L .size, L .sent, L .resent, L .evs)))
+  answers = sym (eq-yes (firstOf (setUpRows settingsE m times)) 0 _ _ _ none-refuses
+      (rw (L .outstanding, L .marked, L .sizes, L .sent, L .evs)))
 
-  pub set-up-here : SetUp settingsE r times fresh
+  pub set-up-here : SetUp settingsE m times fresh
   set-up-here = record { accepted = ap (λ (x : Answered). x .number) answers; gives = sym (ap (λ (x : Answered). x .after) answers) }
 
 -- ---- a history from it: 01's worked example, with a send that is refused; then a packet that is sent, lost and sent again
@@ -116,8 +120,10 @@ unfolding fresh freshState settingsE sum remember sentBy reportedBy lostBy ifSo 
     flyingOne markedOne markedSize sumOf coverOne coverAll coveredSum doneRun inBounds sinks packetAt tabulate placeOf ageOf lay laid
     queueOf longOf packets offsetOf packetOf allTo isCapacity isRing isLive isZero slotOk headOk stands tallies soundLedger changed
     supplyOf
-    pushOf resendOf markOf heldOf newlyOf acknowledgeOf hasRoom phaseOf phaseNumber timesOk namedOk sound stateOf settled avoidedIn
+    pushOf resendOf markOf heldOf newlyOf acknowledgeOf hasRoom phaseOf phaseNumber timesOk namedOk soundView stateOf settled avoidedIn
     newDataState newDataStep sendStep ackSample ackStep lossStep decided onNewData onSend onAck onLoss
+    bit isWord bitAt one valueOf wordsOf packed sizeIn resentIn slotsOf inWindow statusOf wordsAt statusAt shown isOutStatus isMarkStatus
+    stored
 worked-sums = (refl, refl, refl, refl)
 
 -- ---- the start of the bursts: settings E, 64 slots, four packets, of which the second was lost
@@ -132,14 +138,16 @@ start =
     (record { low = 4294967294; next = 2; held = 16777214; backlog = 8192 })
     (record { flying = 3; marked = 1; «marked_bytes» = 4096; «in_flight» = pos 12288 })
     (freshOf settingsE) 100 0)
-    (laid 64 4294967294 (sentAt 10 1 ∷ sentAt 20 2 ∷ sentAt 30 1 ∷ sentAt 40 1 ∷ []))
+    (stored (laid 64 4294967294 (sentAt 10 1 ∷ sentAt 20 2 ∷ sentAt 30 1 ∷ sentAt 40 1 ∷ [])))
     (replicate 256 0)
 
 start-sound : sound start ≡ true
-unfolding start settingsE sound isEvCount inRange inside soundWindow maxWndOf freshOf soundLedger stands isRing isCapacity longOf minus
+unfolding start settingsE soundView isEvCount inRange inside soundWindow maxWndOf freshOf soundLedger stands isRing isCapacity longOf minus
     allTo
     slotOk ifLt ifSo ifEq isLive isZero headOk tallies sumOf flyingOne markedOne markedSize inBounds packets queueOf tabulate packetAt
     placeOf plus ageOf lay laid isDone timesOk namedOk phaseOf phaseNumber hasRoom stateOf
+    bit isWord bitAt one valueOf wordsOf packed sizeIn resentIn slotsOf inWindow statusOf wordsAt statusAt shown isOutStatus isMarkStatus
+    stored
 start-sound = refl
 
 -- ---- ACKs
@@ -232,7 +240,7 @@ newest-fine : Fine 110 newest (start .state .settings .«ev_count») (start .sta
 unfolding start settingsE stateOf covered bitOf minus plus unsentOrOld backOf spanOf sinks newlyOf forwardOf aheadOf ifLt leadingZeros
 newest-fine = record { later = omega arith; early = omega arith; fields = refl; sent = refl; afloat = refl }
 
-newest-accepted : onAck 110 newest start ≡ record { number = 0; after = ackStep 110 newest start }
+newest-accepted : onAck 110 newest start ≡ record { number = 0; after = stepOf (ack 110 newest) start }
 newest-accepted = fine-accepted 110 newest start newest-fine start-sound
 
 newest-near : minus counts (newest .count) (start .state .flow .held) < half
@@ -324,16 +332,19 @@ then-premises a OnCounts OnCovers counts-so covers-so =
 unfoldable left : Ledger
 left = acknowledgeOf 0 0 3 (ledgerOf start)
 
-left-is : ledgerOf (ackStep 110 newest start) ≡ left
+left-is : ledgerOf (stepOf (ack 110 newest) start) ≡ left
 unfolding left
-left-is = step-ledger (ack 110 newest) start
+left-is = step-ledger (ack 110 newest) start start-sound (fine-rows 110 newest start newest-fine)
 
 abbrev evs : ℕ
 evs = start .state .settings .«ev_count»
 
 module _ (a : Ack) (f : Fine 120 a evs 110 left) where
   abbrev w : World
-  w = ackStep 110 newest start
+  w = stepOf (ack 110 newest) start
+
+  w-sound : sound w ≡ true
+  w-sound = step-sound (ack 110 newest) start start-sound (fine-rows 110 newest start newest-fine)
 
   fine-here : Fine 120 a (w .state .settings .«ev_count») (w .state .clock) (ledgerOf w)
   fine-here =
@@ -345,8 +356,8 @@ module _ (a : Ack) (f : Fine 120 a evs 110 left) where
   both-leave =
       ap (λ (x : Answered). ledgerOf (onAck 120 a (x .after) .after)) newest-accepted
       ∙ ap (λ (x : Answered). ledgerOf (x .after))
-      (fine-accepted 120 a w fine-here (step-sound (ack 110 newest) start start-sound (fine-rows 110 newest start newest-fine)))
-      ∙ step-ledger (ack 120 a) w
+      (fine-accepted 120 a w fine-here w-sound)
+      ∙ step-ledger (ack 120 a) w w-sound (fine-rows 120 a w fine-here)
       ∙ ap (acknowledgeOf (a .cum) (a .map) (a .count)) left-is
 
   -- a number that the two ledgers have differently
@@ -357,8 +368,8 @@ module _ (a : Ack) (f : Fine 120 a evs 110 left) where
 
 -- both of the others below are accepted there
 then-fine : Fine 120 ahead evs 110 left × Fine 120 farther evs 110 left
-unfolding left acknowledgeOf start settingsE stateOf covered bitOf minus plus unsentOrOld backOf spanOf sinks newlyOf forwardOf aheadOf isOld
-    heldOf ifLt ifSo leadingZeros
+unfolding left acknowledgeOf start settingsE stateOf covered bitOf minus plus unsentOrOld backOf spanOf sinks newlyOf forwardOf aheadOf
+    isOld heldOf ifLt ifSo leadingZeros
 then-fine = (
   record { later = omega arith; early = omega arith; fields = refl; sent = refl; afloat = refl },
   record { later = omega arith; early = omega arith; fields = refl; sent = refl; afloat = refl },
@@ -366,9 +377,11 @@ then-fine = (
 
 -- the held count that `ahead` leaves, and the newest; low that `farther` leaves, and the newest
 then-numbers :
-    (acknowledgeOf 4294967295 0 4 left .flow .held ≡ 4) × (left .flow .held ≡ 3) × (acknowledgeOf 1 0 2 left .flow .low ≡ 2) × (left .flow .low ≡ 1)
+    (acknowledgeOf 4294967295 0 4 left .flow .held ≡ 4) × (left .flow .held ≡ 3) × (acknowledgeOf 1 0 2 left .flow .low ≡ 2)
+    × (left .flow .low ≡ 1)
 unfolding left acknowledgeOf start stateOf covered bitOf minus plus aheadOf isOld heldOf longOf packets queueOf tabulate packetAt placeOf
-    ageOf lay laid coverAll coverOne isOut isFlying isMarked doneRun ifSo ifEq
+    ageOf lay laid coverAll coverOne isOut isFlying isMarked doneRun ifSo ifEq bit
+    isWord bitAt one valueOf wordsOf packed sizeIn resentIn slotsOf inWindow statusOf wordsAt statusAt shown isOutStatus isMarkStatus stored
 then-numbers = (refl, refl, refl, refl)
 
 -- ---- `Behind` is needed: all premises hold but this, as the other's count is ahead of the newest's.

@@ -31,17 +31,16 @@ use Rattle.ledger.proofs.Queues.{plus-none, plus-next, cover-no, cover-stays, c
 use Rattle.ledger.proofs.Queues.{cover-sum, run-le, run-stop, run-end, either, goneOf, leftOf, settle-twice, covered-twice}
 use Rattle.ledger.proofs.Judging.{ack-0, ack-facts}
 use Rattle.window.specs.Limits.{timeEnd}
-use Rattle.sender.specs.World.{World, Answered, ledgerOf}
+use Rattle.sender.specs.World.{World, viewOf, worldOf, Answered, ledgerOf}
 use Rattle.sender.specs.Sound.{sound}
 use Rattle.sender.specs.Rows.{withSound, ackAllRows}
 use Rattle.sender.specs.Steps.{ackStep}
 use Rattle.sender.specs.Events.{decided, onAck}
 use Rattle.sender.specs.declared.Ack.{Ack}
 use Rattle.sender.proofs.Stepping.{time-facts}
-use Rattle.demands.specs.Events.{ack}
+use Rattle.demands.specs.Events.{ack, stepOf}
 use Rattle.demands.specs.Burst.{Arrival, deliver, coversPsn, wasCovered}
-use Rattle.demands.proofs.Runs.{step-ledger}
-use Rattle.demands.proofs.Sounded.{ledger-facts, step-sound}
+use Rattle.demands.proofs.Sounded.{ledger-facts, step-sound, step-ledger}
 
 -- ---- queues
 
@@ -186,7 +185,7 @@ module _ (mtu clock : ℕ) (l : Ledger) (F : Facts mtu clock (l .flow) (l .slots
 
 -- an ACK is accepted, and the world is stepped, or refused, and the world is as it was
 pub ack-cases : (P : Answered → Type 0) (time : ℕ) (a : Ack) (w : World)
-    → (firstOf (ackAllRows time a (w .state)) ≡ 0 → P (record { number = 0; after = ackStep time a w }))
+    → (firstOf (ackAllRows time a (w .state)) ≡ 0 → P (record { number = 0; after = worldOf (ackStep time a (viewOf w)) }))
     → ((n : ℕ) → (n ≡ 0 → ⊥) → P (record { number = n; after = w })) → P (onAck time a w)
 unfolding onAck decided
 ack-cases P time a w f g =
@@ -239,7 +238,7 @@ module _ (time : ℕ) (a : Ack) (w : World) where
         both-ok : (leb counts (a .count) ≡ false) × (leb (w .state .settings .«ev_count») (a .ev) ≡ false)
         both-ok = neither (leb counts (a .count)) (leb (w .state .settings .«ev_count») (a .ev)) (ok .0)
 
-    pub fine-accepted : sound w ≡ true → onAck time a w ≡ record { number = 0; after = ackStep time a w }
+    pub fine-accepted : sound w ≡ true → onAck time a w ≡ record { number = 0; after = worldOf (ackStep time a (viewOf w)) }
     unfolding onAck decided
     fine-accepted h = sym (eq-yes _ 0 _ _ _ (sym (first-later 0 2 _ _ (ap not h) (sym fine-rows))) refl)
 
@@ -270,11 +269,11 @@ deliver-settles (d ∷ ds) w h = go (λ v K. deliver-settles ds v K)
         let a = d .ack in
         ack-cases (SettlesOn w a ds) (d .time) a w
         (λ rows.
-        let v = ackStep (d .time) a w in
+        let v = stepOf (ack (d .time) a) w in
         let u = deliver v ds in
         ih v (step-sound (ack (d .time) a) w h rows)
         ∙ ap (settledBy (wasCovered v ds) (heldIn u) (inFlightIn u))
-        (step-ledger (ack (d .time) a) w ∙ acked-settled (a .cum) (a .map) (a .count) (ledgerOf w))
+        (step-ledger (ack (d .time) a) w h rows ∙ acked-settled (a .cum) (a .map) (a .count) (ledgerOf w))
         ∙ settled-twice (w .state .settings .mtu) (w .state .clock) (ledgerOf w) (ledger-facts w h)
         (covered (a .cum) (a .map)) _ _ (wasCovered v ds) (heldIn u) (inFlightIn u))
         (λ n z.

@@ -4,6 +4,7 @@ pub mod Pasts
 pub mod Histories
 pub mod Sounded
 pub mod Ledgers
+pub mod Statuses
 pub mod Bursts
 pub mod Delivered
 pub mod Instance

@@ -19,7 +19,8 @@ use Rattle.serial.proofs.Wraps.{minus-self, minus-turns}
 use Rattle.serial.proofs.Cover.{plus-plus, plus-minus, minus-plus}
 use Rattle.window.specs.declared.Settings.{Settings}
 use Rattle.ledger.specs.Packets.{noPacket, markedStatus, doneStatus, withStatus, isOut, coverOne, coverAll}
-use Rattle.ledger.specs.Ring.{Ring, Ledger, ledger, capOf, laid, longOf, packets, offsetOf, packetOf}
+use Rattle.ledger.specs.Ring.{Ledger, ledger, capOf, laid, longOf, packets, offsetOf, packetOf}
+use Rattle.ledger.specs.Memory.{Memory}
 use Rattle.ledger.specs.Sound.{isCapacity}
 use Rattle.ledger.specs.Steps.{changed, newPacket, resentPacket, supplyOf, pushOf, resendOf, markOf, acknowledgeOf, heldOf}
 use Rattle.ledger.specs.declared.Flow.{Flow}
@@ -29,7 +30,7 @@ use Rattle.ledger.proofs.Queues.{cover-long, cover-at, goneOf, leftOf}
 use Rattle.ledger.proofs.Facts.{Facts, packets-long, packets-laid, packet-some}
 use Rattle.ledger.proofs.Judging.{new-facts}
 use Rattle.ledger.proofs.Sends.{new-room}
-use Rattle.sender.specs.World.{World, ledgerOf}
+use Rattle.sender.specs.World.{World, ringOf, ledgerOf}
 use Rattle.sender.specs.Sound.{sound}
 use Rattle.sender.specs.Start.{freshState}
 use Rattle.sender.proofs.Starts.{set-up-fresh}
@@ -189,13 +190,13 @@ agrees-step (newData time bytes) w p h rows A = supplied-agrees (ledgerOf w) (le
 agrees-step (send time a) w p h rows A =
     let f = w .state .flow in
     let F = ledger-facts w h in
-    let S = send-facts time a (w .state) (w .slots) rows in
+    let S = send-facts time a (w .state) (ringOf w) rows in
     agrees-either (a .resend)
     (λ again. resent-agrees (ledgerOf w) F A time (a .psn))
     (λ new.
     let R = rw new at (S .rows) in
-    pushed-agrees (ledgerOf w) F A (new-room _ _ f (w .slots) F (a .psn) (a .size) R .1) time (a .psn) (a .size)
-    (new-facts f (capOf (w .slots)) (a .psn) (a .size) R .0))
+    pushed-agrees (ledgerOf w) F A (new-room _ _ f (ringOf w) F (a .psn) (a .size) R .1) time (a .psn) (a .size)
+    (new-facts f (capOf (ringOf w)) (a .psn) (a .size) R .0))
 agrees-step (ack time a) w p h rows A = acked-agrees (ledgerOf w) (ledger-facts w h) A (a .cum) (a .map) (a .count)
 agrees-step (nack time a) w p h rows A = marked-agrees (ledgerOf w) (ledger-facts w h) A (a .psn)
 agrees-step (loss time a) w p h rows A = marked-agrees (ledgerOf w) (ledger-facts w h) A (a .psn)
@@ -214,10 +215,10 @@ size-remembered p l psn A some =
     A .sizes (offsetOf (l .flow) psn) (packet-some (l .flow) (l .slots) psn some) ∙ ap (p .bytes) (leads-there (l .flow .low) psn)
 
 -- at the start nothing is remembered, and the queue is empty
-pub agrees-fresh : {s : Settings} {r : Ring} {times : List ℕ} {w : World} → SetUp s r times w → Agrees noPast (ledgerOf w)
+pub agrees-fresh : {s : Settings} {m : Memory} {times : List ℕ} {w : World} → SetUp s m times w → Agrees noPast (ledgerOf w)
 unfolding freshState longOf
-agrees-fresh {s} {r} {times} {w} U =
-    rw (U .gives, set-up-fresh s r times (U .accepted) .2)
+agrees-fresh {s} {m} {times} {w} U =
+    rw (U .gives, set-up-fresh s m times (U .accepted) .2)
     (record {
       count-is = refl;
       sizes = λ k h. absurd (let z : ⊥ = omega (arith, minus-self psns (s .«first_psn») (omega arith)) in z);

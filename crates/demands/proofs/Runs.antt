@@ -1,6 +1,6 @@
 -- Events one by one. A refused one leaves the world as it was (`refused-same`; of setting up `set-up-refused`: demand 1). An accepted one
 -- came to a sound world, no row refuses it, and what it leaves is its step (`accepted`; `rules-hold`, `path-taken`: demand 2), whose ledger
--- is the ledger's own step (`step-ledger`) at the event's time (`step-clock`). By the sender's laws.
+-- is the ledger's own step (`view-ledger`) at the event's time (`step-clock`). By the sender's laws.
 -- Assumes nothing.
 use mathlib.Core.Path.{_≡_, refl, sym, _∙_}
 use mathlib.Core.Bool.{not, true}
@@ -11,9 +11,10 @@ use borrow.Author.Tests.{not-false}
 use Rattle.rules.specs.Branch.{ifSo, ifEq, eq-both}
 use Rattle.rules.specs.Rows.{Row, firstOf, none-here}
 use Rattle.window.specs.declared.Settings.{Settings}
-use Rattle.ledger.specs.Ring.{Ring, Ledger, ledger}
+use Rattle.ledger.specs.Ring.{Ledger, ledger}
+use Rattle.ledger.specs.Memory.{Memory}
 use Rattle.ledger.specs.Steps.{supplyOf, pushOf, resendOf, markOf, acknowledgeOf}
-use Rattle.sender.specs.World.{World, world, Answered, Routing, ledgerOf}
+use Rattle.sender.specs.World.{World, world, View, ringOf, viewOf, Answered, Routing, ledgerIn}
 use Rattle.sender.specs.Sound.{sound}
 use Rattle.sender.specs.Rows.{withSound, newDataRows, sendAllRows, ackAllRows, nackAllRows, lossAllRows, pathRows, setUpRows}
 use Rattle.sender.specs.Steps.{stateOf, settled, newDataState, newDataStep, sendStep, ackStep, nackStep, lossStep, pathState, pathStep}
@@ -21,7 +22,7 @@ use Rattle.sender.specs.Steps.{routeOf}
 use Rattle.sender.specs.Start.{noSettings, freshState, onSetUp}
 use Rattle.sender.specs.Events.{decided, onNewData, onSend, onAck, onNack, onLoss, onPath}
 use Rattle.sender.proofs.Refusals.{new-data-same, send-same, ack-same, nack-same, loss-same, path-same}
-use Rattle.demands.specs.Events.{Event, newData, send, ack, nack, loss, path, answer, stepOf}
+use Rattle.demands.specs.Events.{Event, newData, send, ack, nack, loss, path, answer, viewStep, stepOf}
 use Rattle.demands.specs.Demands.{RefusedSame, RulesHold, PathTaken}
 
 -- ---- refused
@@ -36,11 +37,11 @@ refused-same (loss time a) w h = loss-same time w a h
 refused-same (path time) w h = path-same time w h .0
 
 -- the same of setting up: "a refused setting up: a state of zeros", and lent memory untouched
-pub set-up-refused : (s : Settings) (r : Ring) (times : List ℕ) → (onSetUp s r times .number ≡ 0 → ⊥)
-    → onSetUp s r times .after ≡ world (freshState noSettings) r times
+pub set-up-refused : (s : Settings) (m : Memory) (times : List ℕ) → (onSetUp s m times .number ≡ 0 → ⊥)
+    → onSetUp s m times .after ≡ world (freshState noSettings) m times
 unfolding onSetUp
-set-up-refused s r times =
-    eq-both (λ (x : Answered). (x .number ≡ 0 → ⊥) → x .after ≡ world (freshState noSettings) r times) (firstOf (setUpRows s r times)) 0 _ _
+set-up-refused s m times =
+    eq-both (λ (x : Answered). (x .number ≡ 0 → ⊥) → x .after ≡ world (freshState noSettings) m times) (firstOf (setUpRows s m times)) 0 _ _
     (λ e h. absurd (h refl)) (λ e h. refl)
 
 -- ---- accepted
@@ -56,10 +57,10 @@ timeOf (path time) = time
 
 abbrev pub rowsOf : Event → World → List Row
 rowsOf (newData time bytes) w = newDataRows time bytes (w .state)
-rowsOf (send time a) w = sendAllRows time a (w .state) (w .slots)
+rowsOf (send time a) w = sendAllRows time a (w .state) (ringOf w)
 rowsOf (ack time a) w = ackAllRows time a (w .state)
-rowsOf (nack time a) w = nackAllRows time a (w .state) (w .slots)
-rowsOf (loss time a) w = lossAllRows time a (w .state) (w .slots)
+rowsOf (nack time a) w = nackAllRows time a (w .state) (ringOf w)
+rowsOf (loss time a) w = lossAllRows time a (w .state) (ringOf w)
 rowsOf (path time) w = pathRows time (w .state)
 
 pub record Accepted (w : World) (rows : List Row) (to after : World) : Type 0 where
@@ -96,7 +97,7 @@ rules-hold e w n = accepted e w n .leaves
 pub path-taken : PathTaken
 unfolding onPath
 path-taken time w =
-    eq-both (λ (x : Routing). x .number ≡ 0 → x .ev ≡ routeOf time w .ev) (firstOf (withSound w (pathRows time (w .state)))) 0 _ _
+    eq-both (λ (x : Routing). x .number ≡ 0 → x .ev ≡ routeOf time (viewOf w) .ev) (firstOf (withSound w (pathRows time (w .state)))) 0 _ _
     (λ e n. refl) (λ e n. absurd (e n))
 
 -- ---- what a step leaves
@@ -110,14 +111,14 @@ ledgerStep (nack time a) l = markOf (a .psn) l
 ledgerStep (loss time a) l = markOf (a .psn) l
 ledgerStep (path time) l = l
 
-pub step-ledger : (e : Event) (w : World) → ledgerOf (stepOf e w) ≡ ledgerStep e (ledgerOf w)
+pub view-ledger : (e : Event) (v : View) → ledgerIn (viewStep e v) ≡ ledgerStep e (ledgerIn v)
 unfolding newDataStep newDataState sendStep ackStep nackStep lossStep pathStep pathState settled stateOf
-step-ledger (newData time bytes) w = refl
-step-ledger (send time a) w = refl
-step-ledger (ack time a) w = refl
-step-ledger (nack time a) w = refl
-step-ledger (loss time a) w = refl
-step-ledger (path time) w = refl
+view-ledger (newData time bytes) v = refl
+view-ledger (send time a) v = refl
+view-ledger (ack time a) v = refl
+view-ledger (nack time a) v = refl
+view-ledger (loss time a) v = refl
+view-ledger (path time) v = refl
 
 -- "the clock becomes the event's time"
 pub step-clock : (e : Event) (w : World) → stepOf e w .state .clock ≡ timeOf e

@@ -19,7 +19,7 @@ use Rattle.window.proofs.Tests.{sample-exists, exists-sample}
 use Rattle.ledger.specs.Packets.{flyingStatus, markedStatus, isFlying, isMarked, isOut}
 use Rattle.ledger.specs.Ring.{packetOf}
 use Rattle.ledger.specs.declared.Packet.{Packet}
-use Rattle.sender.specs.World.{World, Answered, Routing}
+use Rattle.sender.specs.World.{World, ringOf, viewOf, worldOf, Answered, Routing}
 use Rattle.sender.specs.Steps.{stateOf, settled, newDataState, newDataStep, sendStep, ackSample, ackStep, nackSample, nackStep, lossStep}
 use Rattle.sender.specs.Steps.{pathState, pathStep}
 use Rattle.sender.specs.Events.{decided, onNewData, onSend, onAck, onNack, onLoss, onPath}
@@ -55,10 +55,10 @@ is-out x (inr e) = rw (eq-eqb (x .status) markedStatus e, or-true)
 
 -- of any packet, by the window's laws: the sample is `Ticks ticks` exactly under 01's conditions
 sampled : (w : World) (psn : ℕ) (retx : Bool) (time service ticks : ℕ) →
-    let x = packetOf (w .state .flow) (w .slots) psn in
+    let x = packetOf (w .state .flow) (ringOf w) psn in
     (sampleOf (isOut x) (x .resent) retx time (x .sent) service ≡ Ticks ticks) ↔ SampleIs w psn retx time service ticks
 sampled w psn retx time service ticks =
-    let x = packetOf (w .state .flow) (w .slots) psn in (
+    let x = packetOf (w .state .flow) (ringOf w) psn in (
       λ e.
           let s = exists-sample (isOut x) (x .resent) retx time (x .sent) service ticks e in
           record { outstanding = out-is x (s .0 .known); copy = s .0 .copy; positive = s .0 .late; ticks-is = s .1 },
@@ -90,17 +90,17 @@ measure-base s marked (Ticks t) w = refl
 measure-base s marked Absent w = refl
 
 module _ (w : World) (time : ℕ) where
-  ack-lowers : (a : Ack) → Lowers (ackSample time a w) w (ackStep time a w)
+  ack-lowers : (a : Ack) → Lowers (ackSample time a (viewOf w)) w (worldOf (ackStep time a (viewOf w)))
   unfolding ackStep settled stateOf
   ack-lowers a =
-      ap (λ (d : Delays). d .base) (ack-delays (w .state .settings) time _ (a .marked) (ackSample time a w) _ (w .state .window))
-      ∙ measure-base (w .state .settings) (a .marked) (ackSample time a w) (w .state .window)
+      ap (λ (d : Delays). d .base) (ack-delays (w .state .settings) time _ (a .marked) (ackSample time a (viewOf w)) _ (w .state .window))
+      ∙ measure-base (w .state .settings) (a .marked) (ackSample time a (viewOf w)) (w .state .window)
 
-  nack-lowers : (a : Nack) → Lowers (nackSample time a w) w (nackStep time a w)
+  nack-lowers : (a : Nack) → Lowers (nackSample time a (viewOf w)) w (worldOf (nackStep time a (viewOf w)))
   unfolding nackStep settled stateOf feedTrimmedOf
   nack-lowers a =
-      let v = updateBaseRttOf (w .state .settings) (nackSample time a w) (w .state .window) in
-      ap (λ (d : Delays). d .base) (nack-delays (w .state .settings) time _ (a .reason) (nackSample time a w) _ (w .state .window))
+      let v = updateBaseRttOf (w .state .settings) (nackSample time a (viewOf w)) (w .state .window) in
+      ap (λ (d : Delays). d .base) (nack-delays (w .state .settings) time _ (a .reason) (nackSample time a (viewOf w)) _ (w .state .window))
       ∙ so-both (λ (x : Window). x .base ≡ v .base) (isTrimmed (a .reason)) _ _ (λ e. refl) (λ e. refl)
 
 -- ---- .. without a sample

@@ -1,6 +1,7 @@
 -- Every statement of specs/Demands with its proof, in the order of the statements.
 -- Assumes nothing.
 use mathlib.Core.Logic.{⊎-elim}
+use Rattle.sender.specs.World.{viewOf}
 use Rattle.sender.proofs.Refusals.{new-data-exact, send-exact, ack-exact, nack-exact, loss-exact, path-exact, permitted-new}
 use Rattle.sender.proofs.Refusals.{permitted-resend}
 use Rattle.sender.proofs.Refusals as refusals
@@ -40,7 +41,7 @@ pub path-taken : demand.PathTaken
 path-taken = runs.path-taken
 
 pub set-up-fresh : demand.SetUpFresh
-set-up-fresh s r times n = starts.set-up-fresh s r times n .2
+set-up-fresh s m times n = starts.set-up-fresh s m times n .2
 
 pub permitted-send : demand.PermittedSend
 permitted-send time a w = ⊎-elim (permitted-new time a w) (permitted-resend time a w)
@@ -49,8 +50,8 @@ pub always-sound : demand.AlwaysSound
 always-sound = sounded.always-sound
 
 pub cwnd-between : demand.CwndBetween
-cwnd-between s r times w es u =
-    let H = sound-facts (run w es) (sounded.always-sound s r times w es u) .sound-window in
+cwnd-between s m times w es u =
+    let H = sound-facts (viewOf (run w es)) (sounded.always-sound s m times w es u) .sound-window in
     (H .cwnd-low, H .cwnd-high)
 
 pub history : demand.History

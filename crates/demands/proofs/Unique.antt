@@ -10,7 +10,7 @@ use Rattle.rules.specs.Verdict.{numberOf, number-tells}
 use Rattle.rules.specs.declared.verdict.Verdict.{Verdict}
 use Rattle.window.specs.declared.Settings.{Settings}
 use Rattle.window.specs.declared.Sampling.{Sampling}
-use Rattle.ledger.specs.Ring.{Ring}
+use Rattle.ledger.specs.Memory.{Memory}
 use Rattle.sender.specs.World.{World, Answered, answered, Routing, routed}
 use Rattle.sender.specs.Start.{onSetUp}
 use Rattle.sender.specs.Events.{saysOf, onNewData, onSend, onAck, ackSays, onNack, nackSays, onLoss, onPath}
@@ -25,10 +25,10 @@ use Rattle.sender.specs.declared.Nack.{Nack}
 use Rattle.sender.specs.declared.Loss.{Loss}
 use Rattle.sender.proofs.Refusals.{one-outcome, one-route}
 
--- the whole outcome of a call: its answer, and the final contents of the ring and of the EV times
+-- the whole outcome of a call: its answer, and the final contents of the ring's memory and of the EV times
 pub record Outcomes (A : Type 0) : Type 0 where
   pub answer : A
-  pub slots : Ring
+  pub slots : Memory
   pub times : List ℕ
 
 -- what the contracts make of it
@@ -77,14 +77,14 @@ heard-tells x y e =
 
 -- a call of an entry point that answers state and outcome: what it was handed
 pub data Call : Type 0 where
-  setUp : Settings → Ring → List ℕ → Call
+  setUp : Settings → Memory → List ℕ → Call
   newData : World → ℕ → ℕ → Call
   send : World → ℕ → Send → Call
   loss : World → ℕ → Loss → Call
 
 -- what its contract wants
 abbrev pub wanted : Call → Answered
-wanted (setUp s r times) = onSetUp s r times
+wanted (setUp s m times) = onSetUp s m times
 wanted (newData w time bytes) = onNewData time bytes w
 wanted (send w time a) = onSend time a w
 wanted (loss w time a) = onLoss time a w

@@ -14,7 +14,7 @@ use Rattle.serial.specs.Count.{counts, half}
 use Rattle.ledger.specs.Packets.{noPacket, isOut, isDone}
 use Rattle.ledger.specs.Ring.{Ledger, longOf, packets, packetOf, offsetOf}
 use Rattle.window.specs.Limits.{timeEnd}
-use Rattle.sender.specs.World.{World}
+use Rattle.sender.specs.World.{World, ringOf}
 use Rattle.sender.specs.Events.{onAck}
 use Rattle.sender.specs.declared.Ack.{Ack}
 
@@ -36,7 +36,7 @@ Timely clock (d ∷ ds) = (clock ≤ d .time) × (d .time < timeEnd) × Timely (
 -- the packet k after low is outstanding
 pub record Outstanding (w : World) (k : ℕ) : Type 0 where
   pub within : k < longOf (w .state .flow)
-  pub out : isOut (getD (packets (w .state .flow) (w .slots)) k noPacket) ≡ true
+  pub out : isOut (getD (packets (w .state .flow) (ringOf w)) k noPacket) ≡ true
 
 -- its PSN
 abbrev pub psnOf : World → ℕ → ℕ

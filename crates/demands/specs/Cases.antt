@@ -19,6 +19,7 @@ use Rattle.window.specs.declared.Delayed.{Delayed}
 use Rattle.window.specs.declared.Sample.{Sample}
 use Rattle.window.specs.declared.Sample.the-variants.{Ticks, Absent}
 use Rattle.ledger.specs.Ring.{Ledger, laid}
+use Rattle.ledger.specs.Memory.{stored}
 use Rattle.ledger.specs.Steps.{newPacket, heldOf, newlyOf}
 use Rattle.ledger.specs.declared.Flow.{Flow}
 use Rattle.sender.specs.World.{World, world, Answered, Routing, ledgerOf}
@@ -83,11 +84,11 @@ measuredBy d = d .delay ∷ d .window .avg ∷ []
 
 -- a world of these settings at time 0, with 64 slots: n packets of 4,096 bytes from low on, all flying, and the
 -- fresh window (cwnd is 614,400)
-unfoldable pub worldOf : Flow → ℕ → ℕ → List ℕ → World
-worldOf f n inFlight times =
+unfoldable pub worldWith : Flow → ℕ → ℕ → List ℕ → World
+worldWith f n inFlight times =
     world
     (stateOf settingsE f (record { flying = n; marked = 0; «marked_bytes» = 0; «in_flight» = pos inFlight }) (freshOf settingsE) 0 0)
-    (laid 64 (f .low) (replicate n (newPacket 0 4096)))
+    (stored (laid 64 (f .low) (replicate n (newPacket 0 4096))))
     times
 
 abbrev pub flowOf : ℕ → ℕ → ℕ → Flow
@@ -98,15 +99,15 @@ free k = replicate k 0
 
 -- n packets from low to next - 1
 abbrev pub holding : ℕ → ℕ → ℕ → World
-holding low next n = worldOf (flowOf low next 0) n (4096 * n) (free 256)
+holding low next n = worldWith (flowOf low next 0) n (4096 * n) (free 256)
 
 -- a packet of 4,096 bytes to send, at this in-flight
 abbrev pub sending : ℕ → World
-sending inFlight = worldOf (flowOf 0 0 4096) 0 inFlight (free 256)
+sending inFlight = worldWith (flowOf 0 0 4096) 0 inFlight (free 256)
 
 -- the first k EVs avoided until 20, the others free, and the cursor at 0
 abbrev pub avoiding : ℕ → World
-avoiding k = worldOf (flowOf 0 0 0) 0 0 (replicate k 20 ++ free (256 - k))
+avoiding k = worldWith (flowOf 0 0 0) 0 0 (replicate k 20 ++ free (256 - k))
 
 -- an ACK whose trigger is cum itself
 abbrev pub ackWith : ℕ → ℕ → Ack

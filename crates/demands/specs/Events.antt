@@ -4,8 +4,8 @@ use mathlib.Core.Path.{_≡_}
 use mathlib.Core.List.{List, [], _∷_}
 use Prim.Native.Nat.{ℕ}
 use Rattle.window.specs.declared.Settings.{Settings}
-use Rattle.ledger.specs.Ring.{Ring}
-use Rattle.sender.specs.World.{World, Answered}
+use Rattle.ledger.specs.Memory.{Memory}
+use Rattle.sender.specs.World.{World, View, ringOf, viewOf, worldOf, Answered}
 use Rattle.rules.specs.Rows.{Row}
 use Rattle.sender.specs.Rows.{withSound, newDataRows, sendAllRows, ackAllRows, nackAllRows, lossAllRows, pathRows}
 use Rattle.sender.specs.Steps.{newDataStep, sendStep, ackStep, nackStep, lossStep, pathStep}
@@ -28,10 +28,10 @@ pub data Event : Type 0 where
 -- the rows that it is tested by, in document 01's order
 abbrev pub rowsOf : Event → World → List Row
 rowsOf (newData time bytes) w = withSound w (newDataRows time bytes (w .state))
-rowsOf (send time a) w = withSound w (sendAllRows time a (w .state) (w .slots))
+rowsOf (send time a) w = withSound w (sendAllRows time a (w .state) (ringOf w))
 rowsOf (ack time a) w = withSound w (ackAllRows time a (w .state))
-rowsOf (nack time a) w = withSound w (nackAllRows time a (w .state) (w .slots))
-rowsOf (loss time a) w = withSound w (lossAllRows time a (w .state) (w .slots))
+rowsOf (nack time a) w = withSound w (nackAllRows time a (w .state) (ringOf w))
+rowsOf (loss time a) w = withSound w (lossAllRows time a (w .state) (ringOf w))
 rowsOf (path time) w = withSound w (pathRows time (w .state))
 
 -- what the sender answers
@@ -43,15 +43,19 @@ answer (nack time a) w = onNack time a w
 answer (loss time a) w = onLoss time a w
 answer (path time) w = record { number = onPath time w .number; after = onPath time w .after }
 
--- the world that document 01's rules make of one by an event that no row refuses: the ledger, then the window in its order,
+-- the view that document 01's rules make of one by an event that no row refuses: the ledger, then the window in its order,
 -- the EV times, the state's name
+abbrev pub viewStep : Event → View → View
+viewStep (newData time bytes) v = newDataStep time bytes v
+viewStep (send time a) v = sendStep time a v
+viewStep (ack time a) v = ackStep time a v
+viewStep (nack time a) v = nackStep time a v
+viewStep (loss time a) v = lossStep time a v
+viewStep (path time) v = pathStep time v
+
+-- the world that keeps it
 abbrev pub stepOf : Event → World → World
-stepOf (newData time bytes) w = newDataStep time bytes w
-stepOf (send time a) w = sendStep time a w
-stepOf (ack time a) w = ackStep time a w
-stepOf (nack time a) w = nackStep time a w
-stepOf (loss time a) w = lossStep time a w
-stepOf (path time) w = pathStep time w
+stepOf e w = worldOf (viewStep e (viewOf w))
 
 -- the world after a list of events
 abbrev pub run : World → List Event → World
@@ -59,6 +63,6 @@ run w [] = w
 run w (e ∷ es) = run (answer e w .after) es
 
 -- a world that an accepted setting up gives
-pub record SetUp (s : Settings) (r : Ring) (times : List ℕ) (w : World) : Type 0 where
-  pub accepted : onSetUp s r times .number ≡ 0
-  pub gives : w ≡ onSetUp s r times .after
+pub record SetUp (s : Settings) (m : Memory) (times : List ℕ) (w : World) : Type 0 where
+  pub accepted : onSetUp s m times .number ≡ 0
+  pub gives : w ≡ onSetUp s m times .after

@@ -5,3 +5,4 @@ pub mod Burst
 pub mod Samples
 pub mod Demands
 pub mod Cases
+pub mod Statuses

@@ -13,6 +13,7 @@ use Rattle.rules.specs.Branch.{ifSo, ifLt, ifEq}
 use Rattle.rules.specs.Rows.{firstOf}
 use Rattle.rules.specs.Test.{inside}
 use Rattle.log_bytes.specs.Little.{littleEndian, numberAt}
+use Rattle.bits.specs.Bits.{bit, isWord, bitAt, one, valueOf, wordsOf}
 use Rattle.serial.specs.Wrap.{minus}
 use Rattle.serial.specs.Psn.{plus, bitOf, covered, backOf, spanOf, unsentOrOld}
 use Rattle.serial.specs.Count.{aheadOf, isOld, forwardOf}
@@ -21,11 +22,13 @@ use Rattle.window.specs.Sound.{soundWindow, freshOf}
 use Rattle.window.specs.Limits.{maxWndOf}
 use Rattle.ledger.specs.Packets.{isDone, flyingOne, markedOne, markedSize, sumOf, coverOne, coverAll, doneRun, isFlying, isOut}
 use Rattle.ledger.specs.Bounds.{inBounds, sinks}
-use Rattle.ledger.specs.Ring.{ring, packetAt, putAt, tabulate, placeOf, ageOf, lay, laid, queueOf, longOf, packets}
-use Rattle.ledger.specs.Sound.{allTo, isCapacity, isRing, isLive, isZero, slotOk, headOk, stands, tallies, soundLedger}
+use Rattle.ledger.specs.Ring.{packetAt, tabulate, placeOf, ageOf, lay, laid, queueOf, longOf, packets}
+use Rattle.ledger.specs.Memory.{memory, packed, sizeIn, resentIn, slotsOf, inWindow, statusOf, wordsAt, statusAt, shown, isOutStatus}
+use Rattle.ledger.specs.Memory.{isMarkStatus, stored}
+use Rattle.ledger.specs.Sound.{allTo, isCapacity, isRing, isEven, isLive, isZero, slotOk, headOk, stands, tallies, soundLedger}
 use Rattle.ledger.specs.Steps.{changed, supplyOf, pushOf, heldOf, newlyOf, acknowledgeOf}
 use Rattle.sender.specs.Named.{hasRoom, phaseOf, phaseNumber}
-use Rattle.sender.specs.Sound.{timesOk, namedOk, sound}
+use Rattle.sender.specs.Sound.{timesOk, namedOk, soundView}
 use Rattle.sender.specs.Steps.{stateOf, settled, newDataState, newDataStep, sendStep, ackStep}
 use Rattle.sender.specs.Events.{decided, onNewData, onSend, onAck}
 use Rattle.sender.specs.World.{World, world, Answered}
@@ -79,7 +82,7 @@ first =
 
 -- 64 slots and 256 EV times are lent
 unfoldable pub lent : World
-lent = world (freshState noSettings) (ring (replicate 64 0) (replicate 64 0) (replicate 64 0) (replicate 64 0)) (replicate 256 0)
+lent = world (freshState noSettings) (memory (replicate 1 0) (replicate 1 0) (replicate 64 0) (replicate 64 0)) (replicate 256 0)
 
 worked-read : recordsOf worked ≡ first ∷ behind
 unfolding worked readFrom readIn parseAt frontOf lookUp wholeOf checkOf properOf ifSo ifLt ifEq numberAt littleEndian
@@ -90,7 +93,7 @@ unfolding worked readFrom readIn parseAt frontOf lookUp wholeOf checkOf properOf
 worked-last = refl
 
 pub worked-opened : Opened worked lent settingsE behind
-unfolding lent settingsE onSetUp firstOf inRange inside isEvCount isRing isCapacity ifSo ifEq
+unfolding lent settingsE onSetUp firstOf inRange inside isEvCount isEven slotsOf isCapacity ifSo ifEq
 worked-opened = record { first = first; reads = worked-read; settings = refl; accepted = refl }
 
 -- "new data 8192 at 0; send PSN 0, 4096 at 10; send PSN 2, 4096 at 20; ACK at 110"
@@ -120,9 +123,10 @@ abbrev given : List Answered
 given = told 0 (opened settingsE lent) ∷ answers (opened settingsE lent) events
 
 given-numbers : map (λ (a : Answered). a .number) given ≡ 0 ∷ 0 ∷ 0 ∷ 8 ∷ 0 ∷ []
-unfolding lent settingsE answers onSetUp freshState freshOf firstOf inRange inside isEvCount isRing isCapacity ifSo ifEq ifLt onNewData
-    onSend onAck
-    decided newDataStep newDataState sendStep settled stateOf supplyOf pushOf putAt changed sound soundWindow maxWndOf soundLedger
+unfolding lent settingsE answers onSetUp freshState freshOf firstOf inRange inside isEvCount isRing isEven isCapacity ifSo ifEq ifLt
+    onNewData onSend onAck bit isWord bitAt one valueOf wordsOf packed sizeIn resentIn slotsOf inWindow statusOf wordsAt statusAt shown
+    isOutStatus isMarkStatus stored
+    decided newDataStep newDataState sendStep settled stateOf supplyOf pushOf changed soundView soundWindow maxWndOf soundLedger
     stands longOf minus
     allTo slotOk isLive isZero headOk tallies sumOf flyingOne markedOne markedSize inBounds packets queueOf tabulate packetAt placeOf
     plus ageOf lay
@@ -131,9 +135,10 @@ unfolding lent settingsE answers onSetUp freshState freshOf firstOf inRange insi
 given-numbers = refl
 
 given-flights : map (λ (a : Answered). a .after .state .totals .«in_flight») given ≡ pos 0 ∷ pos 0 ∷ pos 4096 ∷ pos 4096 ∷ pos 0 ∷ []
-unfolding lent settingsE answers onSetUp freshState freshOf firstOf inRange inside isEvCount isRing isCapacity ifSo ifEq ifLt onNewData
-    onSend onAck
-    decided newDataStep newDataState sendStep settled stateOf supplyOf pushOf putAt changed sound soundWindow maxWndOf soundLedger
+unfolding lent settingsE answers onSetUp freshState freshOf firstOf inRange inside isEvCount isRing isEven isCapacity ifSo ifEq ifLt
+    onNewData onSend onAck bit isWord bitAt one valueOf wordsOf packed sizeIn resentIn slotsOf inWindow statusOf wordsAt statusAt shown
+    isOutStatus isMarkStatus stored
+    decided newDataStep newDataState sendStep settled stateOf supplyOf pushOf changed soundView soundWindow maxWndOf soundLedger
     stands longOf minus
     allTo slotOk isLive isZero headOk tallies sumOf flyingOne markedOne markedSize inBounds packets queueOf tabulate packetAt placeOf
     plus ageOf lay
@@ -147,9 +152,10 @@ abbrev summed : (Event → Past → ℕ) → ℕ
 summed by = sum by (opened settingsE lent) noPast events
 
 given-sums : summed sentBy ∷ summed reportedBy ∷ summed lostBy ∷ [] ≡ 4096 ∷ 4096 ∷ 0 ∷ []
-unfolding lent settingsE answers onSetUp freshState freshOf firstOf inRange inside isEvCount isRing isCapacity ifSo ifEq ifLt onNewData
-    onSend onAck
-    decided newDataStep newDataState sendStep settled stateOf supplyOf pushOf putAt changed sound soundWindow maxWndOf soundLedger
+unfolding lent settingsE answers onSetUp freshState freshOf firstOf inRange inside isEvCount isRing isEven isCapacity ifSo ifEq ifLt
+    onNewData onSend onAck bit isWord bitAt one valueOf wordsOf packed sizeIn resentIn slotsOf inWindow statusOf wordsAt statusAt shown
+    isOutStatus isMarkStatus stored
+    decided newDataStep newDataState sendStep settled stateOf supplyOf pushOf changed soundView soundWindow maxWndOf soundLedger
     stands longOf minus
     allTo slotOk isLive isZero headOk tallies sumOf flyingOne markedOne markedSize inBounds packets queueOf tabulate packetAt placeOf
     plus ageOf lay

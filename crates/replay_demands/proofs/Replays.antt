@@ -13,7 +13,7 @@ use Rattle.rules.specs.Test.{both}
 use Rattle.rules.specs.Rows.{Row}
 use Rattle.window.specs.declared.Sampling.{Sampling}
 use Rattle.window.specs.declared.Settings.{Settings}
-use Rattle.sender.specs.World.{World, Answered}
+use Rattle.sender.specs.World.{World, ringOf, Answered}
 use Rattle.sender.specs.Rows.{withSound, sendAllRows}
 use Rattle.sender.specs.Start.{onSetUp}
 use Rattle.sender.specs.Statements.{First}
@@ -58,7 +58,7 @@ rows-other (newData time bytes) w = refl
 rows-other (send time a) w = by (a .resend)
   where
     by : (again : Bool) → other (withSound w (sendAllRows time (record { psn = a .psn; size = a .size; resend = again }) (w .state)
-        (w .slots))) ≡ true
+        (ringOf w))) ≡ true
     by true = refl
     by false = refl
 rows-other (ack time a) w = refl
