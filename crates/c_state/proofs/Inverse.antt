@@ -16,7 +16,7 @@ use Rattle.ledger.proofs.Walks.{length-tabulate, getD-tabulate}
 use Rattle.ledger.proofs.Facts.{sound-ledger-facts}
 use Rattle.sender.specs.Named.{phaseNumber}
 use Rattle.sender.specs.Sound.{sound}
-use Rattle.sender.specs.World.{World}
+use Rattle.sender.specs.World.{World, viewOf}
 use Rattle.sender.specs.declared.Controller.{Controller}
 use Rattle.sender.specs.declared.Phase.{Phase}
 use Rattle.sender.specs.declared.Phase.the-variants.{Idle, Pending, Ready, Active}
@@ -136,12 +136,12 @@ sound-machine w e =
     let C = sound-to-ledger w e in
     let F = sound-ledger-facts C in
     record {
-      first-psn = sound-facts w e .range .psn-high;
+      first-psn = sound-facts (viewOf w) e .range .psn-high;
       low = F .low-psn;
       next = F .next-psn;
       held = omega (arith, F .held);
       flying = omega (arith, C .flying-most);
       marked = omega (arith, C .marked-most);
-      cursor = omega (arith, sound-facts w e .cursor-ok, sound-bounded w e .evs-high);
+      cursor = omega (arith, sound-facts (viewOf w) e .cursor-ok, sound-bounded w e .evs-high);
       flown = sound-ledger-flown C;
     }

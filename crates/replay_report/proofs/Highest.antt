@@ -12,7 +12,7 @@ use Rattle.window.specs.Delays.{samplingOf, sampleIn, Sampled}
 use Rattle.window.specs.declared.Sample.the-variants.{Ticks, Absent}
 use Rattle.window.specs.declared.Sampling.{Sampling}
 use Rattle.window.proofs.Tests.{sample-bounds, same-sample}
-use Rattle.sender.specs.World.{World}
+use Rattle.sender.specs.World.{World, viewOf}
 use Rattle.sender.specs.Steps.{ackSampling, nackSampling}
 use Rattle.sender.specs.Events.{says}
 use Rattle.sender.specs.declared.Ack.{Ack}
@@ -87,11 +87,11 @@ held-sampling : (out : Bool) (resent : ℕ) (retx : Bool) (time sent service : �
 held-sampling out resent retx time sent service = rw (same-sample out resent retx time sent service)
     (sample-bounds out resent retx time sent service)
 
-held-ack : (time : ℕ) (a : Ack) (w : World) → Sampled (sampleIn (ackSampling time a w))
+held-ack : (time : ℕ) (a : Ack) (w : World) → Sampled (sampleIn (ackSampling time a (viewOf w)))
 unfolding ackSampling
 held-ack time a w = held-sampling _ _ _ _ _ _
 
-held-nack : (time : ℕ) (a : Nack) (w : World) → Sampled (sampleIn (nackSampling time a w))
+held-nack : (time : ℕ) (a : Nack) (w : World) → Sampled (sampleIn (nackSampling time a (viewOf w)))
 unfolding nackSampling
 held-nack time a w = held-sampling _ _ _ _ _ _
 
@@ -109,8 +109,8 @@ on-later : (e : Event) (w : World) → Held (onLater e w .shown)
 unfolding onLater
 on-later (event.NewData time bytes) w = not-shown refl
 on-later (event.Send time a) w = not-shown refl
-on-later (event.Ack time a) w = held-says _ (ackSampling time a w) (held-ack time a w)
-on-later (event.Nack time a) w = held-says _ (nackSampling time a w) (held-nack time a w)
+on-later (event.Ack time a) w = held-says _ (ackSampling time a (viewOf w)) (held-ack time a w)
+on-later (event.Nack time a) w = held-says _ (nackSampling time a (viewOf w)) (held-nack time a w)
 on-later (event.Loss time a) w = not-shown refl
 on-later (event.Path time) w = held-path _ _
 on-later (event.SetUp s) w = not-shown refl

@@ -16,6 +16,7 @@ use Rattle.rules.specs.Branch.{ifSo, ifLt, ifEq}
 use Rattle.rules.specs.Test.{inside, inside-yes, neither}
 use Rattle.rules.specs.Rows.{firstOf}
 use Rattle.log_bytes.specs.Little.{littleEndian, numberAt, bytesOf}
+use Rattle.bits.specs.Bits.{bit, isWord, bitAt, one, valueOf, wordsOf}
 use Rattle.serial.specs.Wrap.{minus}
 use Rattle.serial.specs.Psn.{plus, bitOf, covered, backOf, spanOf, unsentOrOld}
 use Rattle.serial.specs.Count.{aheadOf, forwardOf}
@@ -28,12 +29,14 @@ use Rattle.window.specs.Events.{shrinkOf, lossOf}
 use Rattle.window.specs.Quick.{firesOf, restartOf, quickAdaptOf}
 use Rattle.ledger.specs.Packets.{isFlying, isMarked, isDone, isOut, flyingOne, markedOne, markedSize, sumOf}
 use Rattle.ledger.specs.Bounds.{inBounds, sinks}
-use Rattle.ledger.specs.Ring.{ring, packetAt, tabulate, placeOf, ageOf, lay, laid, queueOf, longOf, packets, offsetOf, packetOf}
-use Rattle.ledger.specs.Sound.{allTo, isCapacity, isRing, isLive, isZero, slotOk, headOk, stands, tallies, soundLedger}
+use Rattle.ledger.specs.Memory.{memory, slotsOf, inWindow, statusOf, wordsAt, statusAt, shown, sizeIn, resentIn}
+use Rattle.ledger.specs.Memory.{stored, packed, isOutStatus, isMarkStatus}
+use Rattle.ledger.specs.Ring.{packetAt, tabulate, placeOf, ageOf, lay, laid, queueOf, longOf, packets, offsetOf, packetOf}
+use Rattle.ledger.specs.Sound.{allTo, isCapacity, isRing, isEven, isLive, isZero, slotOk, headOk, stands, tallies, soundLedger}
 use Rattle.ledger.specs.Steps.{changed, supplyOf, pushOf, resendOf, markOf, newlyOf}
 use Rattle.sender.specs.World.{World, world}
 use Rattle.sender.specs.Named.{hasRoom, phaseOf, phaseNumber}
-use Rattle.sender.specs.Sound.{timesOk, namedOk, sound}
+use Rattle.sender.specs.Sound.{timesOk, namedOk, soundView}
 use Rattle.sender.specs.Start.{noSettings, freshState, onSetUp}
 use Rattle.sender.specs.Steps.{stateOf, settled, avoidedIn, newDataState, newDataStep, sendStep, ackSampling, lossStep}
 use Rattle.sender.specs.Events.{decided, says, onNewData, onSend, onAck, onLoss}
@@ -185,7 +188,7 @@ abbrev pub start : Place
 start = record { at = 0; done = 0; stopped = false }
 
 unfoldable pub lent : World
-lent = world (freshState noSettings) (ring (replicate 64 0) (replicate 64 0) (replicate 64 0) (replicate 64 0)) (replicate 256 0)
+lent = world (freshState noSettings) (memory (replicate 1 0) (replicate 1 0) (replicate 64 0) (replicate 64 0)) (replicate 256 0)
 
 abbrev turnsFrom : List ℕ → List Turning
 turnsFrom log = turnsOf (logged log) start lent
@@ -217,9 +220,11 @@ unfolding resentLog onceLog lent recordBytes bytesOf littleEndian numberAt lookU
     markedSize sumOf inBounds
     sinks packetAt tabulate placeOf ageOf lay laid queueOf longOf packets offsetOf packetOf isLive isZero slotOk headOk stands tallies
     soundLedger changed
-    supplyOf pushOf resendOf markOf newlyOf hasRoom phaseOf phaseNumber timesOk namedOk sound stateOf settled avoidedIn
+    supplyOf pushOf resendOf markOf newlyOf hasRoom phaseOf phaseNumber timesOk namedOk soundView stateOf settled avoidedIn
     newDataState newDataStep
     sendStep ackSampling lossStep decided says onNewData onSend onAck onLoss howMany kindTest isAck ackStands mayDiffer
+    isEven slotsOf inWindow statusOf wordsAt statusAt shown sizeIn resentIn stored packed isOutStatus isMarkStatus bit isWord bitAt one
+    valueOf wordsOf
 replayed = record { accepted = refl; ambiguous = refl; may = λ i. refl; near = refl; far = refl }
 
 -- ---- so the theorem has an instance

@@ -13,7 +13,7 @@ use Rattle.rules.specs.Test.{both, inside-tells}
 use Rattle.rules.specs.Rows.{Row}
 use Rattle.window.specs.Limits.{mtuMost}
 use Rattle.ledger.specs.Bounds.{sizeLeast}
-use Rattle.sender.specs.World.{World}
+use Rattle.sender.specs.World.{World, viewOf}
 use Rattle.sender.specs.Statements.{silent}
 use Rattle.sender.specs.Events.{onSend}
 use Rattle.sender.specs.declared.Send.{Send}
@@ -46,7 +46,7 @@ send-small time a w accepted =
     let unsound = silent-here _ _ (send-exact time w a .accepted accepted) in
     let late = silent-here _ _ (unsound .1) in
     let wide = silent-here _ _ (late .1) in
-    let good = sound-facts w (not-false _ (unsound .0)) in
+    let good = sound-facts (viewOf w) (not-false _ (unsound .0)) in
     let size = inside-tells sizeLeast (a .size) (w .state .settings .mtu) (not-false _ (wide .0)) in
     omega (arith, size .1, good .range .mtu-high)
 

@@ -11,7 +11,7 @@ use Rattle.window.specs.Limits.{sampleMost}
 use Rattle.window.specs.declared.Sampling.{Sampling}
 use Rattle.window.specs.declared.Sampling.the-variants.{Cut, Gone, Ambiguous, NotPositive}
 use Rattle.window.proofs.Tests.{same-sample}
-use Rattle.sender.specs.World.{World, Answered}
+use Rattle.sender.specs.World.{World, Answered, viewOf, worldOf}
 use Rattle.sender.specs.Steps.{ackSample, ackSampling, ackStep}
 use Rattle.sender.specs.Events.{decided, onAck, says}
 use Rattle.sender.specs.declared.Ack.{Ack}
@@ -52,28 +52,28 @@ module _ (out : Bool) (resent : ℕ) (retx : Bool) (time sent service other : �
       (λ copy _. sym (so-yes out _ _ _ known (so-no (oneSend resent retx) _ _ _ copy refl))))
       (λ _ e. never e (λ _. cc))
 
-module _ (time : ℕ) (a : Ack) (w : World) (service : ℕ) (is : ackSampling time a w ≡ Ambiguous) where
-  says-served : ackSampling time (served service a) w ≡ Ambiguous
+module _ (time : ℕ) (a : Ack) (w : World) (service : ℕ) (is : ackSampling time a (viewOf w) ≡ Ambiguous) where
+  says-served : ackSampling time (served service a) (viewOf w) ≡ Ambiguous
   unfolding ackSampling
   says-served = sampling-served _ _ _ _ _ (a .service) service is
 
-  sample-served : ackSample time (served service a) w ≡ ackSample time a w
+  sample-served : ackSample time (served service a) (viewOf w) ≡ ackSample time a (viewOf w)
   unfolding ackSample ackSampling
   sample-served = sym (same-sample _ _ _ _ _ service) ∙ (ap sampleIn (says-served ∙ sym is) ∙ same-sample _ _ _ _ _ (a .service))
 
-  step-served : ackStep time (served service a) w ≡ ackStep time a w
+  step-served : ackStep time (served service a) (viewOf w) ≡ ackStep time a (viewOf w)
   unfolding ackStep
   step-served = rw sample-served
 
   -- THE ANSWER AND THE WORLD AFTERWARDS ARE THE SAME: no row looks at the service time
   ack-served : onAck time (served service a) w ≡ onAck time a w
   unfolding onAck
-  ack-served = ap (decided _ w) step-served
+  ack-served = ap (decided _ w) (ap worldOf step-served)
 
   heard-served : onLater (event.Ack time (served service a)) w ≡ onLater (event.Ack time a) w
   unfolding onLater
   heard-served =
-      ap (λ (x : Answered). heardBy (says (x .number) (ackSampling time (served service a) w)) x) ack-served
+      ap (λ (x : Answered). heardBy (says (x .number) (ackSampling time (served service a) (viewOf w))) x) ack-served
       ∙ ap (λ (q : Sampling). heardBy (says (onAck time a w .number) q) (onAck time a w)) (says-served ∙ sym is)
 
 -- an answer that shows a sample is an acceptance
@@ -94,7 +94,7 @@ module _ (done time : ℕ) (a : Ack) (w : World) (shows : onEvent done (event.Ac
       (λ _ s. let z : _≡_ {A = ℕ} 0 1 = cc in absurd (let wrong : ⊥ = omega arith in wrong))
       (λ not _. (refl, not)) shows
 
-  said : (onAck time a w .number ≡ 0) × (ackSampling time a w ≡ Ambiguous)
+  said : (onAck time a w .number ≡ 0) × (ackSampling time a (viewOf w) ≡ Ambiguous)
   unfolding onLater
   said = shown-said _ _ _ (ap (λ (t : Telling). t .shown) (sym (later-on .0)) ∙ shows)
 

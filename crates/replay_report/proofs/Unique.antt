@@ -4,7 +4,7 @@
 use mathlib.Core.Path.{refl}
 use mathlib.Core.List.{List}
 use Prim.Native.Nat.{ℕ}
-use Rattle.ledger.specs.Ring.{Ring}
+use Rattle.ledger.specs.Memory.{Memory}
 use Rattle.sender.specs.World.{World}
 use Rattle.replay.specs.Places.{feed}
 use Rattle.replay.specs.declared.Place.{Place}
@@ -16,7 +16,7 @@ use Rattle.replay_report.specs.declared.Tallied.{Tallied}
 
 pub record Outcome : Type 0 where
   pub answer : Tallied
-  pub slots : Ring
+  pub slots : Memory
   pub times : List ℕ
   pub figures : List ℕ
 

@@ -6,7 +6,7 @@ use Prim.Native.Nat.{ℕ}
 use lib.Dec.{eqb}
 use lib.ListN.{length}
 use Rattle.rules.specs.Branch.{ifSo}
-use Rattle.ledger.specs.Ring.{Ring}
+use Rattle.ledger.specs.Memory.{Memory}
 use Rattle.sender.specs.World.{World, world}
 use Rattle.sender.specs.declared.Controller.{Controller}
 use Rattle.replay.specs.Places.{Feed, foundAt, Turning, soundPlace, turnsOf, lastPlace, lastWorld}
@@ -26,7 +26,7 @@ pub record Tallying : Type 0 where
   pub after : World
   pub figures : List ℕ
 
-abbrev pub tallying : ℕ → Place → Controller → Ring → List ℕ → List ℕ → Tallying
+abbrev pub tallying : ℕ → Place → Controller → Memory → List ℕ → List ℕ → Tallying
 tallying n p c r t figures = record { number = n; place = p; after = world c r t; figures = figures }
 
 -- all turns from a place on, and the figures with them

@@ -17,7 +17,7 @@ ghost use lib.ListN.{length};
 ghost use Rattle.rules.specs.Verdict.{numberOf};
 ghost use Rattle.replay.specs.Places.{feed, soundPlace};
 ghost use Rattle.report_text.specs.Places.{figureCount};
-ghost use Rattle.ledger.specs.Lent.{ringAfter};
+ghost use Rattle.ledger.specs.Lent.{memoryAfter};
 ghost use Rattle.sender.specs.Lent.{worldGiven, worldBefore};
 ghost use Rattle.replay_report.specs.Tallies.{tallying, tallyTurnsOf, tallyOf};
 
@@ -33,25 +33,36 @@ fn tally_turns<'a, 'b, 'c, 'd, 'e, 'f, 'g>(
     source: Source,
     place: Place,
     state: Controller,
-    status: &'a mut [u8],
-    size: &'b mut [u32],
-    sent: &'c mut [u64],
-    resent: &'d mut [u8],
+    outstanding: &'a mut [u64],
+    marked: &'b mut [u64],
+    sizes: &'c mut [u32],
+    sent: &'d mut [u64],
     evs: &'e mut [u64],
     log: &'f [u8],
     figures: &'g mut [u64],
 ) -> Tallied
-    requires { ⌜ soundPlace place (worldGiven state status size sent resent evs) ≡ true ⌝ }
+    requires { ⌜ soundPlace place (worldGiven state outstanding marked sizes sent evs) ≡ true ⌝ }
     requires { ⌜ length (now figures) ≡ figureCount ⌝ }
     ensures { λ r. ⌜ tallying (numberOf (r .verdict)) (r .place) (r .state)
-        (ringAfter status size sent resent) (now (evs .exit)) (now (figures .exit))
-        ≡ tallyTurnsOf (feed source (now (log .entry))) place (worldBefore state status size sent resent evs) (now (figures .entry)) ⌝ }
+        (memoryAfter outstanding marked sizes sent) (now (evs .exit)) (now (figures .exit))
+        ≡ tallyTurnsOf (feed source (now (log .entry))) place (worldBefore state outstanding marked sizes sent evs) (now
+        (figures .entry)) ⌝ }
 {
     let mut place = place;
     let mut state = state;
     loop {
         let at = place.at;
-        let t = turn(source, place, state, status, size, sent, resent, evs, log);
+        let t = turn(
+            source,
+            place,
+            state,
+            outstanding,
+            marked,
+            sizes,
+            sent,
+            evs,
+            log,
+        );
         place = t.place;
         state = t.state;
         if t.ended {
@@ -73,19 +84,19 @@ pub fn tally<'a, 'b, 'c, 'd, 'e, 'f, 'g>(
     source: Source,
     place: Place,
     state: Controller,
-    status: &'a mut [u8],
-    size: &'b mut [u32],
-    sent: &'c mut [u64],
-    resent: &'d mut [u8],
+    outstanding: &'a mut [u64],
+    marked: &'b mut [u64],
+    sizes: &'c mut [u32],
+    sent: &'d mut [u64],
     evs: &'e mut [u64],
     log: &'f [u8],
     figures: &'g mut [u64],
 ) -> Tallied
     ensures { λ r. ⌜ tallying (numberOf (r .verdict)) (r .place) (r .state)
-        (ringAfter status size sent resent) (now (evs .exit)) (now (figures .exit))
-        ≡ tallyOf (feed source (now (log .entry))) place (worldBefore state status size sent resent evs) (now (figures .entry)) ⌝ }
+        (memoryAfter outstanding marked sizes sent) (now (evs .exit)) (now (figures .exit))
+        ≡ tallyOf (feed source (now (log .entry))) place (worldBefore state outstanding marked sizes sent evs) (now (figures .entry)) ⌝ }
 {
-    let whole = is_sound(place, state, status, size, sent, resent, evs);
+    let whole = is_sound(place, state, outstanding, marked, sizes, sent, evs);
     if (figures.len() != FIGURES) | !whole {
         return Tallied {
             verdict: Verdict::Unsound,
@@ -97,10 +108,10 @@ pub fn tally<'a, 'b, 'c, 'd, 'e, 'f, 'g>(
         source,
         place,
         state,
-        status,
-        size,
+        outstanding,
+        marked,
+        sizes,
         sent,
-        resent,
         evs,
         log,
         figures,

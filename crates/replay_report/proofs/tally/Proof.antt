@@ -1,7 +1,7 @@
 -- `tally` tests number 2, then relies on it.
 use borrow.Author.Needs.{needs}
 use Rattle.rules.specs.Verdict.{numberOf}
-use Rattle.ledger.specs.Ring.{ring}
+use Rattle.ledger.specs.Memory.{memory}
 use Rattle.sender.specs.World.{World, world}
 use Rattle.replay.specs.Places.{feed}
 use Rattle.replay_report.proofs.Tallies.{tally-tested, tally-refused, tally-made}
@@ -12,7 +12,7 @@ use Rattle.replay_report.proofs.tally.Tie as tie
 abbrev given : tie.Start → World
 given s =
     let a = s .args in
-    world (a .state) (ring (a .status .now) (a .size .now) (a .sent .now) (a .resent .now)) (a .evs .now)
+    world (a .state) (memory (a .outstanding .now) (a .marked .now) (a .sizes .now) (a .sent .now)) (a .evs .now)
 
 -- from the test of number 2 back to the entry
 abbrev start : tie.After-is-sound → tie.Start

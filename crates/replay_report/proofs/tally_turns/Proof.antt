@@ -3,7 +3,7 @@ use mathlib.Core.Path.{sym, _∙_}
 use lib.ListN.{length}
 use borrow.Author.Needs.{needs}
 use Rattle.rules.specs.Verdict.{numberOf}
-use Rattle.ledger.specs.Ring.{ring}
+use Rattle.ledger.specs.Memory.{memory}
 use Rattle.sender.specs.World.{world}
 use Rattle.replay.specs.Places.{Turning, feed, turnsOf}
 use Rattle.replay.proofs.Making.{turnIs}
@@ -13,14 +13,14 @@ use Rattle.replay_report.proofs.tally_turns.Statement.{statement}
 use Rattle.replay_report.proofs.tally_turns.Tie as tie
 
 abbrev Inv-loop : tie.InvT-loop
-Inv-loop source status₀ size₀ sent₀ resent₀ evs₀ log figures₀ place₀ state₀ status size sent resent evs figures place state =
-    Going (feed source log) place₀ (world state₀ (ring status₀ size₀ sent₀ resent₀) evs₀) figures₀ place
-    (world state (ring status size sent resent) evs) figures
-    × Lent status₀ size₀ sent₀ resent₀ evs₀ status size sent resent evs
+Inv-loop source outstanding₀ marked₀ sizes₀ sent₀ evs₀ log figures₀ place₀ state₀ outstanding marked sizes sent evs figures place state =
+    Going (feed source log) place₀ (world state₀ (memory outstanding₀ marked₀ sizes₀ sent₀) evs₀) figures₀ place
+    (world state (memory outstanding marked sizes sent) evs) figures
+    × Lent outstanding₀ marked₀ sizes₀ sent₀ evs₀ outstanding marked sizes sent evs
 
 abbrev μ-loop : tie.MeasureT-loop
-μ-loop source status₀ size₀ sent₀ resent₀ evs₀ log figures₀ place₀ state₀ status size sent resent evs figures place state =
-    length (turnsOf (feed source log) place (world state (ring status size sent resent) evs))
+μ-loop source outstanding₀ marked₀ sizes₀ sent₀ evs₀ log figures₀ place₀ state₀ outstanding marked sizes sent evs figures place state =
+    length (turnsOf (feed source log) place (world state (memory outstanding marked sizes sent) evs))
 
 -- from a turn back to the loop's top and the entry
 abbrev looped : tie.After-turn Inv-loop μ-loop → tie.At-loop Inv-loop μ-loop
@@ -40,12 +40,12 @@ at-count c = c .before .before .before .before .before .before .before .before .
 abbrev taken : tie.After-turn Inv-loop μ-loop → Turning
 taken k =
     let l = k .turn .last .1 .1 .1 in
-    turnIs (k .turn .result) (ring (l .0) (l .1 .0) (l .1 .1 .0) (l .1 .1 .1 .0)) (l .1 .1 .1 .1 .0)
+    turnIs (k .turn .result) (memory (l .0) (l .1 .0) (l .1 .1 .0) (l .1 .1 .1 .0)) (l .1 .1 .1 .1 .0)
 
 lent : (k : tie.After-turn Inv-loop μ-loop)
     → let a = start k .args in
     let l = k .turn .last .1 .1 .1 in
-    Lent (a .status .now) (a .size .now) (a .sent .now) (a .resent .now) (a .evs .now) (l .0) (l .1 .0) (l .1 .1 .0) (l .1 .1 .1 .0)
+    Lent (a .outstanding .now) (a .marked .now) (a .sizes .now) (a .sent .now) (a .evs .now) (l .0) (l .1 .0) (l .1 .1 .0) (l .1 .1 .1 .0)
     (l .1 .1 .1 .1 .0)
 lent k =
     let h = k .turn .kept .1 .1 .1 in
@@ -60,16 +60,16 @@ turn-requires : tie.Need-turn-requires Inv-loop μ-loop
 turn-requires c κs = c .before .before .before .before .before .loop .inv .0 .good
 
 same-length : tie.Need-same-length Inv-loop μ-loop
-same-length c = lent (at-end c) .status-long
+same-length c = lent (at-end c) .outstanding-long
 
 same-length-2 : tie.Need-same-length-2 Inv-loop μ-loop
-same-length-2 c = lent (at-end c) .size-long
+same-length-2 c = lent (at-end c) .marked-long
 
 same-length-3 : tie.Need-same-length-3 Inv-loop μ-loop
-same-length-3 c = lent (at-end c) .sent-long
+same-length-3 c = lent (at-end c) .sizes-long
 
 same-length-4 : tie.Need-same-length-4 Inv-loop μ-loop
-same-length-4 c = lent (at-end c) .resent-long
+same-length-4 c = lent (at-end c) .sent-long
 
 same-length-5 : tie.Need-same-length-5 Inv-loop μ-loop
 same-length-5 c = lent (at-end c) .evs-long
