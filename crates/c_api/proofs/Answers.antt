@@ -10,7 +10,7 @@ use borrow.Author.Tests.{eq-eqb, ne-eqb, not-true, not-false}
 use Rattle.rules.specs.Branch.{ifSo, so-yes, so-no, eq-yes, eq-no, so-both}
 use Rattle.window.specs.Range.{inRange}
 use Rattle.window.specs.declared.Settings.{Settings}
-use Rattle.ledger.specs.Ring.{Ring}
+use Rattle.ledger.specs.Memory.{Memory}
 use Rattle.rules.specs.Verdict.{numberOf}
 use Rattle.sender.specs.World.{World, world, Answered, answered}
 use Rattle.sender.specs.Start.{onSetUp}
@@ -46,7 +46,7 @@ unpacked-state ws ok = ap (λ (u : Unpacked). u .state) (sym (so-yes (wordsOk ws
 
 -- an answer kept beside the lent words is the event's answer packed
 kept-packed :
-    (ws : List ℕ) (x : Answered) (a : Answer) (s : Ring) (u : List ℕ) → answered (numberOf (a .verdict)) (a .state) s u ≡ x → (n : ℕ)
+    (ws : List ℕ) (x : Answered) (a : Answer) (s : Memory) (u : List ℕ) → answered (numberOf (a .verdict)) (a .state) s u ≡ x → (n : ℕ)
     (xs : List ℕ) →
     (n ≡ numberOf (a .verdict)) × (xs ≡ wordsAfter n ws (a .state)) → called n xs s u ≡ packed ws x
 kept-packed ws x a s u e n xs k = rw (k .1, k .0) (ap (packed ws) e)
@@ -56,27 +56,27 @@ module _ (ws : List ℕ) (given : Unpacked) (given-is : given ≡ unpacked ws) w
   good-is = ap (λ (u : Unpacked). u .good) given-is ∙ unpacked-good ws
 
   module _ (bad : not (given .good) ≡ true) where
-    not-ok : wordsOk ws ≡ false
+    pub not-ok : wordsOk ws ≡ false
     not-ok = sym good-is ∙ not-true (given .good) bad
 
     -- words that are no state's: 2, whatever the event
-    pub no-state : (e : Event) (r : Ring) (t : List ℕ) → called 2 ws r t ≡ onEventWords e ws r t
+    pub no-state : (e : Event) (r : Memory) (t : List ℕ) → called 2 ws r t ≡ onEventWords e ws r t
     unfolding onEventWords
     no-state e r t = so-no (wordsOk ws) _ _ _ not-ok refl
 
   module _ (good : not (given .good) ≡ false) where
-    ok : wordsOk ws ≡ true
+    pub ok : wordsOk ws ≡ true
     ok = sym good-is ∙ not-false (given .good) good
 
     pub words-long : length ws ≡ wordCount
     words-long = words-facts ws ok .long
 
-    state-is : given .state ≡ stateFrom ws
+    pub state-is : given .state ≡ stateFrom ws
     state-is = ap (λ (u : Unpacked). u .state) given-is ∙ unpacked-state ws ok
 
     -- the event's answer, kept
     pub event-on :
-        (e : Event) (r : Ring) (t : List ℕ) (n : ℕ) (c : Controller) (s : Ring) (u : List ℕ)
+        (e : Event) (r : Memory) (t : List ℕ) (n : ℕ) (c : Controller) (s : Memory) (u : List ℕ)
         → saying n c s u ≡ onceOf e (world (given .state) r t) →
         (xs : List ℕ) → xs ≡ wordsAfter (n % 2 ^ 32) ws c → called n xs s u ≡ onEventWords e ws r t
     unfolding onEventWords
@@ -85,7 +85,7 @@ module _ (ws : List ℕ) (given : Unpacked) (given-is : given ≡ unpacked ws) w
 
 -- ---- setting up, by the tests in their order
 
-module _ (ns : List ℕ) (psn : ℕ) (off : Bool) (evs : ℕ) (ws : List ℕ) (r : Ring) (t : List ℕ) where
+module _ (ns : List ℕ) (psn : ℕ) (off : Bool) (evs : ℕ) (ws : List ℕ) (r : Memory) (t : List ℕ) where
   pub few-settings : (length ns ≡ settingsCount → ⊥) → called 2 ws r t ≡ onSetUpWords ns psn off evs ws r t
   unfolding onSetUpWords
   few-settings h = so-no _ _ _ _ (ne-eqb (length ns) settingsCount h) refl
@@ -113,7 +113,8 @@ module _ (ns : List ℕ) (psn : ℕ) (off : Bool) (evs : ℕ) (ws : List ℕ) (r
         wrong-words h = past-range _ (so-no _ _ _ _ (ne-eqb (length ws) wordCount h) refl)
 
         pub set-up-on :
-            length ws ≡ wordCount → (a : Answer) (s : Ring) (u : List ℕ) → answered (numberOf (a .verdict)) (a .state) s u ≡ onSetUp g r t →
+            length ws ≡ wordCount → (a : Answer) (s : Memory) (u : List ℕ) → answered (numberOf (a .verdict)) (a .state) s u
+            ≡ onSetUp g r t →
             (n : ℕ) (xs : List ℕ) → (n ≡ numberOf (a .verdict)) × (xs ≡ wordsAfter n ws (a .state)) →
             called n xs s u ≡ onSetUpWords ns psn off evs ws r t
         set-up-on h a s u e n xs k =

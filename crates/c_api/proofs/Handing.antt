@@ -12,7 +12,7 @@ use lib.Seq.{sets, sets-eq, drop-length}
 use borrow.Author.Tests.{eqb-true, eq-eqb, ne-eqb}
 use Rattle.rules.specs.Branch.{so-yes, so-no}
 use Rattle.rules.specs.Test.{both}
-use Rattle.ledger.specs.Ring.{Ring}
+use Rattle.ledger.specs.Memory.{Memory}
 use Rattle.sender.specs.World.{world}
 use Rattle.replay.specs.Places.{logged}
 use Rattle.replay.specs.Batches.{Batching, batchOf}
@@ -45,7 +45,7 @@ module _ (place ws : List ℕ) where
       let p = both (eqb (length place) placeCount) (eqb (length ws) wordCount) (both _ _ e .0) in
       (eqb-true (length place) placeCount (p .0), eqb-true (length ws) wordCount (p .1))
 
-module _ (log place ws : List ℕ) (r : Ring) (t answers : List ℕ) where
+module _ (log place ws : List ℕ) (r : Memory) (t answers : List ℕ) where
   pub lent-wrong : lentOk place ws ≡ false → replayCalled 2 place ws r t answers ≡ onReplayWords log place ws r t answers
   unfolding onReplayWords
   lent-wrong e = so-no (lentOk place ws) _ _ _ e refl

@@ -9,7 +9,7 @@ use native.Mathlib.Omega.{arith}
 use lib.ListN.{length, take}
 use lib.Seq.{take-all}
 use borrow.Author.Tests.{eq-eqb}
-use Rattle.ledger.specs.Ring.{Ring}
+use Rattle.ledger.specs.Memory.{Memory}
 use Rattle.sender.specs.World.{World}
 use Rattle.replay.specs.Answers.{soundAfter}
 use Rattle.replay.specs.Places.{logged, soundPlace, Turning, turnsOf, lastPlace, lastWorld}
@@ -30,7 +30,7 @@ use Rattle.c_api.proofs.ChunkCalls.{between, Sound, matches, Run, run}
 use Rattle.c_api.proofs.ReplayCalls.{Stands, replays}
 use Rattle.c_api.proofs.Stored.{threeWords}
 
-module _ (piece ws : List ℕ) (r : Ring) (t : List ℕ) (sized : Sized piece ws) where
+module _ (piece ws : List ℕ) (r : Memory) (t : List ℕ) (sized : Sized piece ws) where
   abbrev l : Lent
   l = chunkStart piece ws r t
 

@@ -12,3 +12,4 @@ pub mod Header
 pub mod Untouched
 pub mod Constant
 pub mod Unique
+pub mod Lookings

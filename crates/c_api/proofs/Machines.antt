@@ -12,7 +12,7 @@ use borrow.Author.Tests.{ne-eqb}
 use Rattle.rules.specs.Branch.{ifEq, so-both, eq-yes, eq-both}
 use Rattle.rules.specs.Rows.{firstOf}
 use Rattle.window.specs.declared.Settings.{Settings}
-use Rattle.ledger.specs.Ring.{Ring}
+use Rattle.ledger.specs.Memory.{Memory}
 use Rattle.sender.specs.World.{World, Answered}
 use Rattle.sender.specs.Sound.{sound}
 use Rattle.sender.specs.Rows.{setUpRows}
@@ -61,7 +61,7 @@ zeros-machine =
       flown = record { low = omega arith; high = omega arith };
     }
 
-refused-zeros : (s : Settings) (r : Ring) (times : List ℕ) → (onSetUp s r times .number ≡ 0 → ⊥)
+refused-zeros : (s : Settings) (r : Memory) (times : List ℕ) → (onSetUp s r times .number ≡ 0 → ⊥)
     → onSetUp s r times .after .state ≡ freshState noSettings
 unfolding onSetUp
 refused-zeros s r times =

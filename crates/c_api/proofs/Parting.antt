@@ -12,7 +12,7 @@ use lib.Seq.{sets, sets-eq, drop-length}
 use borrow.Author.Tests.{eqb-true, eq-eqb, ne-eqb}
 use Rattle.rules.specs.Branch.{so-yes, so-no}
 use Rattle.rules.specs.Test.{both}
-use Rattle.ledger.specs.Ring.{Ring}
+use Rattle.ledger.specs.Memory.{Memory}
 use Rattle.sender.specs.World.{world}
 use Rattle.replay_chunks.specs.Chunks.{Chunking, chunkOf}
 use Rattle.replay_chunks.specs.declared.Carry.{Carry}
@@ -45,7 +45,7 @@ module _ (part ws : List ℕ) where
       let p = both (eqb (length part) partCount) (eqb (length ws) wordCount) (both _ _ e .0) in
       (eqb-true (length part) partCount (p .0), eqb-true (length ws) wordCount (p .1))
 
-module _ (chunk : List ℕ) (ended : Bool) (part piece ws : List ℕ) (r : Ring) (t answers : List ℕ) where
+module _ (chunk : List ℕ) (ended : Bool) (part piece ws : List ℕ) (r : Memory) (t answers : List ℕ) where
   pub part-wrong : partOk part ws ≡ false → chunkCalled 2 part piece ws r t answers ≡ onChunkWords chunk ended part piece ws r t answers
   unfolding onChunkWords
   part-wrong e = so-no (partOk part ws) _ _ _ e refl

@@ -11,8 +11,8 @@ use Rattle.rules.specs.Branch.{ifSo, ifEq, so-yes, so-no, so-both, eq-no, eq-bo
 use Rattle.rules.specs.Rows.{Row, firstOf}
 use Rattle.rules.specs.Test.{inside}
 use Rattle.window.specs.declared.Sampling.{Sampling}
-use Rattle.ledger.specs.Ring.{Ring}
-use Rattle.sender.specs.World.{World, world, Answered, Routing}
+use Rattle.ledger.specs.Memory.{Memory}
+use Rattle.sender.specs.World.{World, world, Answered, Routing, ringOf, viewOf, worldOf}
 use Rattle.sender.specs.Sound.{sound}
 use Rattle.sender.specs.Rows.{withSound, newDataRows, sendAllRows, ackAllRows, nackAllRows, lossAllRows, pathRows}
 use Rattle.sender.specs.Steps.{ackSampling, ackStep, nackSampling, nackStep, pathStep}
@@ -89,12 +89,12 @@ module _ (time : ℕ) (w : World) where
 
   pub send-single : (a : Send) → Single (event.Send time a) w (onSend time a w)
   unfolding onSend onLater
-  send-single a = single-by (event.Send time a) w (sendAllRows time a (w .state) (w .slots)) _
-      (send-all-numbered time a (w .state) (w .slots)) refl
+  send-single a = single-by (event.Send time a) w (sendAllRows time a (w .state) (ringOf w)) _
+      (send-all-numbered time a (w .state) (ringOf w)) refl
 
   pub loss-single : (a : Loss) → Single (event.Loss time a) w (onLoss time a w)
   unfolding onLoss onLater numbered inside
-  loss-single a = single-by (event.Loss time a) w (lossAllRows time a (w .state) (w .slots)) _ refl refl
+  loss-single a = single-by (event.Loss time a) w (lossAllRows time a (w .state) (ringOf w)) _ refl refl
 
 -- ---- an event whose answer has a second number
 
@@ -134,7 +134,8 @@ unfolding onPath
 path-worded time w =
     let n = firstOf (withSound w (pathRows time (w .state))) in
     eq-both (λ (a : Routing). worded (routedBy a) ≡ said (2 ^ 32 * a .ev + a .number) (a .after)) n 0 (taken time w) (untaken n w)
-    (λ _. ap (λ (s : Shown). worded (record { number = 0; shown = s; after = pathStep time w })) (shown-yes (taken time w .ev)))
+    (λ _. ap (λ (s : Shown). worded (record { number = 0; shown = s; after = worldOf (pathStep time (viewOf w)) })) (shown-yes
+    (taken time w .ev)))
     (λ no. ap (λ (s : Shown). worded (record { number = n; shown = s; after = w })) (shown-no n 0 no))
 
 path-unsound : (time : ℕ) (w : World) → sound w ≡ false → untaken 2 w ≡ onPath time w
@@ -184,16 +185,17 @@ module _ (e : Event) (w : World) (xs : List Row) (after : World) (sampling : Sam
 module _ (time : ℕ) (w : World) where
   pub ack-double : (a : Ack) → Double (event.Ack time a) w (ackBeside time a w)
   unfolding onAck onLater numbered inside
-  ack-double a = heard-double (event.Ack time a) w (ackAllRows time a (w .state)) (ackStep time a w) (ackSampling time a w) refl refl
+  ack-double a = heard-double (event.Ack time a) w (ackAllRows time a (w .state)) (worldOf (ackStep time a (viewOf w)))
+      (ackSampling time a (viewOf w)) refl refl
 
   pub nack-double : (a : Nack) → Double (event.Nack time a) w (nackBeside time a w)
   unfolding onNack onLater numbered inside
-  nack-double a = heard-double (event.Nack time a) w (nackAllRows time a (w .state) (w .slots)) (nackStep time a w)
-      (nackSampling time a w) refl refl
+  nack-double a = heard-double (event.Nack time a) w (nackAllRows time a (w .state) (ringOf w)) (worldOf (nackStep time a (viewOf w)))
+      (nackSampling time a (viewOf w)) refl refl
 
 -- ---- over lent words
 
-module _ (ws : List ℕ) (r : Ring) (t : List ℕ) where
+module _ (ws : List ℕ) (r : Memory) (t : List ℕ) where
   pub words-on : (e : Event) (on : World → Answered) → ((w : World) → Single e w (on w)) → onEventWords e ws r t ≡ onWords ws r t on
   unfolding onEventWords onWords
   words-on e on single =

@@ -4,7 +4,7 @@ use mathlib.Core.Path.{refl}
 use mathlib.Core.Bool.{Bool}
 use mathlib.Core.List.{List}
 use Prim.Native.Nat.{ℕ}
-use Rattle.ledger.specs.Ring.{Ring}
+use Rattle.ledger.specs.Memory.{Memory}
 use Rattle.sender.specs.Events.{onNewData, onSend, onLoss}
 use Rattle.rules.specs.Unique.{OneOutcome, one-outcome}
 use Rattle.c_api.specs.Calls.{sendBy, ackBy, nackBy, lossBy, Called, called, onWords, pathBeside, ackBeside, nackBeside}
@@ -17,7 +17,7 @@ use Rattle.c_api.specs.Parts.{Chunked, chunkCalled, onChunkWords}
 pub record Outcome : Type 0 where
   pub number : ℕ
   pub state : List ℕ
-  pub slots : Ring
+  pub slots : Memory
   pub evs : List ℕ
 
 -- what the contracts make of it
@@ -31,7 +31,7 @@ call-unique : (wanted : Called) → OneOutcome made wanted
 call-unique = one-outcome made back (λ x. refl)
 
 -- handed the words of a state, a ring and EV times
-module _ (ws : List ℕ) (r : Ring) (t : List ℕ) where
+module _ (ws : List ℕ) (r : Memory) (t : List ℕ) where
   pub set-up-unique : (settings : List ℕ) (psn : ℕ) (off : Bool) (evs : ℕ) → OneOutcome made (onSetUpWords settings psn off evs ws r t)
   set-up-unique settings psn off evs = call-unique _
 
@@ -61,7 +61,7 @@ pub record ReplayOutcome : Type 0 where
   pub number : ℕ
   pub place : List ℕ
   pub state : List ℕ
-  pub slots : Ring
+  pub slots : Memory
   pub evs : List ℕ
   pub answers : List ℕ
 
@@ -78,7 +78,8 @@ backReplay c = record {
   answers = c .answers;
 }
 
-pub replay-unique : (log place ws : List ℕ) (r : Ring) (t answers : List ℕ) → OneOutcome madeReplay (onReplayWords log place ws r t answers)
+pub replay-unique : (log place ws : List ℕ) (r : Memory) (t answers : List ℕ) → OneOutcome madeReplay (onReplayWords log
+    place ws r t answers)
 replay-unique log place ws r t answers = one-outcome madeReplay backReplay (λ x. refl) _
 
 pub record ChunkOutcome : Type 0 where
@@ -86,7 +87,7 @@ pub record ChunkOutcome : Type 0 where
   pub part : List ℕ
   pub piece : List ℕ
   pub state : List ℕ
-  pub slots : Ring
+  pub slots : Memory
   pub evs : List ℕ
   pub answers : List ℕ
 
@@ -105,6 +106,6 @@ backChunk c =
       answers = c .answers;
     }
 
-pub chunk-unique : (chunk : List ℕ) (ended : Bool) (part piece ws : List ℕ) (r : Ring) (t answers : List ℕ)
+pub chunk-unique : (chunk : List ℕ) (ended : Bool) (part piece ws : List ℕ) (r : Memory) (t answers : List ℕ)
     → OneOutcome madeChunk (onChunkWords chunk ended part piece ws r t answers)
 chunk-unique chunk ended part piece ws r t answers = one-outcome madeChunk backChunk (λ x. refl) _

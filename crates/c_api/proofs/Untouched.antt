@@ -12,9 +12,9 @@ use borrow.Author.Tests.{ne-eqb}
 use Rattle.rules.specs.Branch.{ifEq, so-no, eq-no, so-both, lt-both}
 use Rattle.rules.specs.Test.{inside}
 use Rattle.window.specs.Range.{inRange}
-use Rattle.ledger.specs.Ring.{Ring}
+use Rattle.ledger.specs.Memory.{Memory}
 use Rattle.sender.specs.World.{World, world, Answered}
-use Rattle.sender.specs.Sound.{sound}
+use Rattle.sender.specs.Sound.{sound, soundView}
 use Rattle.sender.specs.Events.{onNewData, onSend, onLoss}
 use Rattle.sender.specs.Start.{noSettings, freshState, onSetUp}
 use Rattle.sender.specs.declared.Controller.{Controller}
@@ -35,7 +35,7 @@ use Rattle.c_api.proofs.Singles.{word-parts, path-double, ack-double, n
 use Rattle.c_api.specs.Parts.{carryFrom, partOk, Chunked, chunkCalled, partThen, handedPart, onChunkWords}
 use Rattle.c_api.specs.Batch.{placeFrom, lentOk, Replayed, replayCalled, placeThen, wordsThen, handed, onReplayWords}
 
-pub record Untouched (x : Called) (ws : List ℕ) (r : Ring) (t : List ℕ) : Type 0 where
+pub record Untouched (x : Called) (ws : List ℕ) (r : Memory) (t : List ℕ) : Type 0 where
   pub words-same : x .words ≡ ws
   pub slots-same : x .slots ≡ r
   pub times-same : x .times ≡ t
@@ -58,7 +58,7 @@ module _ (time : ℕ) (w : World) where
 
 -- ---- refused calls
 
-module _ (ws : List ℕ) (r : Ring) (t : List ℕ) where
+module _ (ws : List ℕ) (r : Memory) (t : List ℕ) where
   -- a number other than 0 leaves all as it was
   abbrev pub Spared : Called → Type 0
   Spared x = (x .number ≡ 0 → ⊥) → Untouched x ws r t
@@ -141,15 +141,15 @@ module _ (ws : List ℕ) (r : Ring) (t : List ℕ) where
 -- ---- a refused replay
 
 -- a state of zeros does not hold together: its MTU is out of range
-zeros-unsound : (r : Ring) (t : List ℕ) → sound (world (freshState noSettings) r t) ≡ false
-unfolding sound inRange inside freshState noSettings
+zeros-unsound : (r : Memory) (t : List ℕ) → sound (world (freshState noSettings) r t) ≡ false
+unfolding soundView inRange inside freshState noSettings
 zeros-unsound r t = refl
 
 and-no : (b : Bool) → (b && false) ≡ false
 and-no true = refl
 and-no false = refl
 
-module _ (log place ws : List ℕ) (r : Ring) (t answers : List ℕ) where
+module _ (log place ws : List ℕ) (r : Memory) (t answers : List ℕ) where
   -- a number other than 0 is 2, and all is as it was
   abbrev pub SparedReplay : Replayed → Type 0
   SparedReplay x = (x .number ≡ 0 → ⊥) → x ≡ replayCalled 2 place ws r t answers
@@ -193,7 +193,7 @@ module _ (log place ws : List ℕ) (r : Ring) (t answers : List ℕ) where
 
 -- ---- a refused chunk
 
-module _ (chunk : List ℕ) (ended : Bool) (part piece ws : List ℕ) (r : Ring) (t answers : List ℕ) where
+module _ (chunk : List ℕ) (ended : Bool) (part piece ws : List ℕ) (r : Memory) (t answers : List ℕ) where
   -- a number other than 0, and all is as it was
   abbrev pub SparedChunk : Chunked → Type 0
   SparedChunk x = (x .number ≡ 0 → ⊥) → x ≡ chunkCalled (x .number) part piece ws r t answers

@@ -9,8 +9,8 @@ use lib.ListN.{length}
 use Rattle.rules.specs.Branch.{ifSo, ifEq}
 use Rattle.window.specs.Range.{inRange}
 use Rattle.window.specs.declared.Sampling.{Sampling}
-use Rattle.ledger.specs.Lent.{LentSlice, ringAfter}
-use Rattle.ledger.specs.Ring.{Ring}
+use Rattle.ledger.specs.Lent.{LentSlice, memoryAfter}
+use Rattle.ledger.specs.Memory.{Memory}
 use Rattle.sender.specs.World.{World, world, Answered}
 use Rattle.sender.specs.Start.{onSetUp}
 use Rattle.sender.specs.Events.{onAck, ackSays, onNack, nackSays, onPath}
@@ -50,15 +50,16 @@ lossBy psn ev = record { psn = psn; ev = ev }
 pub record Called : Type 0 where
   pub number : ℕ
   pub words : List ℕ
-  pub slots : Ring
+  pub slots : Memory
   pub times : List ℕ
 
-abbrev pub called : ℕ → List ℕ → Ring → List ℕ → Called
+abbrev pub called : ℕ → List ℕ → Memory → List ℕ → Called
 called n ws r t = record { number = n; words = ws; slots = r; times = t }
 
 -- the same as a call leaves what it was lent
 abbrev pub calledAfter : ℕ → LentSlice → LentSlice → LentSlice → LentSlice → LentSlice → LentSlice → Called
-calledAfter n state status size sent resent evs = called n (state .exit .now) (ringAfter status size sent resent) (evs .exit .now)
+calledAfter n state outstanding marked sizes sent evs = called n (state .exit .now) (memoryAfter outstanding marked sizes sent)
+    (evs .exit .now)
 
 -- the words once an event was answered: those of the state where it was accepted, else as they were
 unfoldable pub wordsAfter : ℕ → List ℕ → Controller → List ℕ
@@ -69,7 +70,7 @@ packed ws a =
     called (a .number) (wordsAfter (a .number) ws (a .after .state)) (a .after .slots) (a .after .times)
 
 -- an event on the state that the words are; 2 where they are none's
-unfoldable pub onWords : List ℕ → Ring → List ℕ → (World → Answered) → Called
+unfoldable pub onWords : List ℕ → Memory → List ℕ → (World → Answered) → Called
 onWords ws r t event = ifSo (wordsOk ws) (packed ws (event (world (stateFrom ws) r t))) (called 2 ws r t)
 
 -- any event's answer as a word: the number, and the EV or the kind of a sample above its 32 bits
@@ -77,7 +78,7 @@ abbrev pub packedWord : List ℕ → Saying → Called
 packedWord ws x =
     called (x .word) (wordsAfter (x .word % 2 ^ 32) ws (x .after .state)) (x .after .slots) (x .after .times)
 
-unfoldable pub onEventWords : Event → List ℕ → Ring → List ℕ → Called
+unfoldable pub onEventWords : Event → List ℕ → Memory → List ℕ → Called
 onEventWords e ws r t = ifSo (wordsOk ws) (packedWord ws (onceOf e (world (stateFrom ws) r t))) (called 2 ws r t)
 
 -- ---- answers that have a second number
@@ -109,11 +110,11 @@ besideWord a = 2 ^ 32 * a .above + a .number
 abbrev pub packedBeside : List ℕ → Beside → Called
 packedBeside ws a = called (besideWord a) (wordsAfter (a .number) ws (a .after .state)) (a .after .slots) (a .after .times)
 
-unfoldable pub onBesideWords : List ℕ → Ring → List ℕ → (World → Beside) → Called
+unfoldable pub onBesideWords : List ℕ → Memory → List ℕ → (World → Beside) → Called
 onBesideWords ws r t event = ifSo (wordsOk ws) (packedBeside ws (event (world (stateFrom ws) r t))) (called 2 ws r t)
 
 -- setting up: 1, then 2 on lengths. Settings that are not twelve numbers can't be read: 2
-unfoldable pub onSetUpWords : List ℕ → ℕ → Bool → ℕ → List ℕ → Ring → List ℕ → Called
+unfoldable pub onSetUpWords : List ℕ → ℕ → Bool → ℕ → List ℕ → Memory → List ℕ → Called
 onSetUpWords ns psn off evs ws r t =
     ifSo (eqb (length ns) settingsCount)
     (ifSo (inRange (settingsFrom ns psn off evs))

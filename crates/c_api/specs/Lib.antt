@@ -1,5 +1,6 @@
 -- What the contracts of `c_api` cite, and what the theorem on chunks speaks of.
 pub mod Calls
+pub mod Looks
 pub mod Batch
 pub mod Parts
 pub mod Statements

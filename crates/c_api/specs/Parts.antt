@@ -6,7 +6,7 @@ use Prim.Native.Nat.{ℕ}
 use lib.Dec.{ltb, eqb}
 use lib.ListN.{length}
 use Rattle.rules.specs.Branch.{ifSo, ifEq}
-use Rattle.ledger.specs.Ring.{Ring}
+use Rattle.ledger.specs.Memory.{Memory}
 use Rattle.sender.specs.World.{world}
 use Rattle.replay_chunks.specs.Chunks.{Chunking, chunkOf}
 use Rattle.replay_chunks.specs.declared.Carry.{Carry}
@@ -35,11 +35,11 @@ pub record Chunked : Type 0 where
   pub part : List ℕ
   pub piece : List ℕ
   pub words : List ℕ
-  pub slots : Ring
+  pub slots : Memory
   pub times : List ℕ
   pub answers : List ℕ
 
-abbrev pub chunkCalled : ℕ → List ℕ → List ℕ → List ℕ → Ring → List ℕ → List ℕ → Chunked
+abbrev pub chunkCalled : ℕ → List ℕ → List ℕ → List ℕ → Memory → List ℕ → List ℕ → Chunked
 chunkCalled n p piece ws r t room = record {
   number = n;
   part = p;
@@ -62,7 +62,7 @@ handedPart part ws b =
     (b .after .slots) (b .after .times) (b .room)
 
 -- words that are no state's are a state of zeros, which number 2 refuses past record 1
-unfoldable pub onChunkWords : List ℕ → Bool → List ℕ → List ℕ → List ℕ → Ring → List ℕ → List ℕ → Chunked
+unfoldable pub onChunkWords : List ℕ → Bool → List ℕ → List ℕ → List ℕ → Memory → List ℕ → List ℕ → Chunked
 onChunkWords chunk ended part piece ws r t answers =
     ifSo (partOk part ws)
     (handedPart part ws (chunkOf (carryFrom part) (world (unpacked ws .state) r t) piece chunk ended answers))

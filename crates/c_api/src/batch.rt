@@ -9,7 +9,7 @@ ghost use mathlib.Core.Path.{_≡_};
 ghost use lib.ListN.{length};
 ghost use Rattle.rules.specs.Verdict.{numberOf};
 ghost use Rattle.c_state.specs.Layout.{wordCount};
-ghost use Rattle.ledger.specs.Lent.{ringBefore, ringAfter};
+ghost use Rattle.ledger.specs.Lent.{memoryBefore, memoryAfter};
 ghost use Rattle.c_api.specs.Batch.{placeCount, placeWords, placeFrom, lentOk, placeThen, wordsThen, replayCalled, onReplayWords};
 
 // The place's words: the offset of the next record, the records done, whether replay has stopped, and how many answers the last call gave.
@@ -82,18 +82,18 @@ fn keep_batch<'a, 'b>(place: &'a mut [u64], state: &'b mut [u64], batch: Batch) 
 pub extern "C" fn nscc_replay(
     place: &mut [u64],
     state: &mut [u64],
-    status: &mut [u8],
-    size: &mut [u32],
+    outstanding: &mut [u64],
+    marked: &mut [u64],
+    sizes: &mut [u32],
     sent: &mut [u64],
-    resent: &mut [u8],
     evs: &mut [u64],
     log: &[u8],
     answers: &mut [u64],
 ) -> u32
     ensures { λ r. ⌜ replayCalled r (now (place .exit)) (now (state .exit))
-        (ringAfter status size sent resent) (now (evs .exit)) (now (answers .exit))
+        (memoryAfter outstanding marked sizes sent) (now (evs .exit)) (now (answers .exit))
         ≡ onReplayWords (now (log .entry)) (now (place .entry)) (now (state .entry))
-        (ringBefore status size sent resent) (now (evs .entry)) (now (answers .entry)) ⌝ }
+        (memoryBefore outstanding marked sizes sent) (now (evs .entry)) (now (answers .entry)) ⌝ }
 {
     if !is_lent(place, state) {
         return number_of(Verdict::Unsound);
@@ -105,10 +105,10 @@ pub extern "C" fn nscc_replay(
         Source::Log,
         from,
         before,
-        status,
-        size,
+        outstanding,
+        marked,
+        sizes,
         sent,
-        resent,
         evs,
         log,
         answers,

@@ -4,6 +4,7 @@
 // overlaps, is said in include/nscc.h.
 
 pub mod batch;
+pub mod looks;
 pub mod parts;
 
 use c_state::WORDS;
@@ -18,8 +19,8 @@ use sender::Nack;
 use sender::Send;
 ghost use mathlib.Core.Path.{_≡_};
 ghost use lib.ListN.{length};
-ghost use Rattle.ledger.specs.Lent.{ringBefore};
-ghost use Rattle.ledger.specs.Ring.{ring};
+ghost use Rattle.ledger.specs.Lent.{memoryBefore};
+ghost use Rattle.ledger.specs.Memory.{memory};
 ghost use Rattle.sender.specs.Events.{onNewData, onSend, onLoss};
 ghost use Rattle.c_state.specs.Layout.{wordCount};
 ghost use Rattle.c_api.specs.Calls.{calledAfter, wordsAfter, onEventWords, onWords, ackBeside, nackBeside, pathBeside, onBesideWords};
@@ -39,21 +40,21 @@ fn keep(state: &mut [u64], number: u64, after: Controller)
 fn take<'a, 'b, 'c, 'd, 'e, 'f>(
     event: Event,
     state: &'a mut [u64],
-    status: &'b mut [u8],
-    size: &'c mut [u32],
-    sent: &'d mut [u64],
-    resent: &'e mut [u8],
+    outstanding: &'b mut [u64],
+    marked: &'c mut [u64],
+    sizes: &'d mut [u32],
+    sent: &'e mut [u64],
     evs: &'f mut [u64],
 ) -> u64
-    ensures { λ r. ⌜ calledAfter r state status size sent resent evs
-        ≡ onEventWords event (now (state .entry)) (ringBefore status size sent resent) (now (evs .entry)) ⌝ }
+    ensures { λ r. ⌜ calledAfter r state outstanding marked sizes sent evs
+        ≡ onEventWords event (now (state .entry)) (memoryBefore outstanding marked sizes sent) (now (evs .entry)) ⌝ }
 {
     let given = c_state::unpack(state);
     if !given.good {
         return number_of(Verdict::Unsound) as u64;
     }
     let before = given.state;
-    let said = replay::once(event, before, status, size, sent, resent, evs);
+    let said = replay::once(event, before, outstanding, marked, sizes, sent, evs);
     let word = said.word;
     let after = said.state;
     keep(state, word % ABOVE, after);
@@ -68,15 +69,15 @@ pub extern "C" fn nscc_set_up(
     quick_adapt_off: bool,
     ev_count: u32,
     state: &mut [u64],
-    status: &mut [u8],
-    size: &mut [u32],
+    outstanding: &mut [u64],
+    marked: &mut [u64],
+    sizes: &mut [u32],
     sent: &mut [u64],
-    resent: &mut [u8],
     evs: &mut [u64],
 ) -> u32
-    ensures { λ r. ⌜ calledAfter r state status size sent resent evs
+    ensures { λ r. ⌜ calledAfter r state outstanding marked sizes sent evs
         ≡ onSetUpWords (now (settings .entry)) «first_psn» «quick_adapt_off» «ev_count» (now (state .entry))
-        (ringBefore status size sent resent) (now (evs .entry)) ⌝ }
+        (memoryBefore outstanding marked sizes sent) (now (evs .entry)) ⌝ }
 {
     if settings.len() != c_state::SETTINGS {
         return number_of(Verdict::Unsound);
@@ -88,7 +89,7 @@ pub extern "C" fn nscc_set_up(
     if state.len() != WORDS {
         return number_of(Verdict::Unsound);
     }
-    let answer = sender::start::set_up(given, status, size, sent, resent, evs);
+    let answer = sender::start::set_up(given, outstanding, marked, sizes, sent, evs);
     let verdict = answer.verdict;
     let after = answer.state;
     let number = number_of(verdict);
@@ -100,24 +101,24 @@ pub extern "C" fn nscc_set_up(
 #[no_mangle]
 pub extern "C" fn nscc_new_data(
     state: &mut [u64],
-    status: &mut [u8],
-    size: &mut [u32],
+    outstanding: &mut [u64],
+    marked: &mut [u64],
+    sizes: &mut [u32],
     sent: &mut [u64],
-    resent: &mut [u8],
     evs: &mut [u64],
     time: u64,
     bytes: u64,
 ) -> u32
-    ensures { λ r. ⌜ calledAfter r state status size sent resent evs
-        ≡ onWords (now (state .entry)) (ringBefore status size sent resent) (now (evs .entry)) (onNewData time bytes) ⌝ }
+    ensures { λ r. ⌜ calledAfter r state outstanding marked sizes sent evs
+        ≡ onWords (now (state .entry)) (memoryBefore outstanding marked sizes sent) (now (evs .entry)) (onNewData time bytes) ⌝ }
 {
     take(
         Event::NewData(time, bytes),
         state,
-        status,
-        size,
+        outstanding,
+        marked,
+        sizes,
         sent,
-        resent,
         evs,
     ) as u32
 }
@@ -126,35 +127,44 @@ pub extern "C" fn nscc_new_data(
 #[no_mangle]
 pub extern "C" fn nscc_send(
     state: &mut [u64],
-    status: &mut [u8],
-    size: &mut [u32],
+    outstanding: &mut [u64],
+    marked: &mut [u64],
+    sizes: &mut [u32],
     sent: &mut [u64],
-    resent: &mut [u8],
     evs: &mut [u64],
     time: u64,
     psn: u32,
     bytes: u32,
     resend: bool,
 ) -> u32
-    ensures { λ r. ⌜ calledAfter r state status size sent resent evs
-        ≡ onWords (now (state .entry)) (ringBefore status size sent resent) (now (evs .entry)) (onSend time (sendBy psn bytes resend)) ⌝ }
+    ensures { λ r. ⌜ calledAfter r state outstanding marked sizes sent evs
+        ≡ onWords (now (state .entry)) (memoryBefore outstanding marked sizes sent) (now (evs .entry)) (onSend time
+        (sendBy psn bytes resend)) ⌝ }
 {
     let a = Send {
         psn,
         size: bytes,
         resend,
     };
-    take(Event::Send(time, a), state, status, size, sent, resent, evs) as u32
+    take(
+        Event::Send(time, a),
+        state,
+        outstanding,
+        marked,
+        sizes,
+        sent,
+        evs,
+    ) as u32
 }
 
 // An ACK: the number, and above its 32 bits the kind of its sample.
 #[no_mangle]
 pub extern "C" fn nscc_ack(
     state: &mut [u64],
-    status: &mut [u8],
-    size: &mut [u32],
+    outstanding: &mut [u64],
+    marked: &mut [u64],
+    sizes: &mut [u32],
     sent: &mut [u64],
-    resent: &mut [u8],
     evs: &mut [u64],
     time: u64,
     cum: u32,
@@ -163,12 +173,12 @@ pub extern "C" fn nscc_ack(
     count: u32,
     service: u32,
     ev: u32,
-    marked: bool,
+    m_flag: bool,
     retx: bool,
 ) -> u64
-    ensures { λ r. ⌜ calledAfter r state status size sent resent evs
-        ≡ onBesideWords (now (state .entry)) (ringBefore status size sent resent) (now (evs .entry))
-        (ackBeside time (ackBy cum map trigger count service ev marked retx)) ⌝ }
+    ensures { λ r. ⌜ calledAfter r state outstanding marked sizes sent evs
+        ≡ onBesideWords (now (state .entry)) (memoryBefore outstanding marked sizes sent) (now (evs .entry))
+        (ackBeside time (ackBy cum map trigger count service ev «m_flag» retx)) ⌝ }
 {
     let a = Ack {
         cum,
@@ -177,65 +187,81 @@ pub extern "C" fn nscc_ack(
         count,
         service,
         ev,
-        marked,
+        marked: m_flag,
         retx,
     };
-    take(Event::Ack(time, a), state, status, size, sent, resent, evs)
+    take(
+        Event::Ack(time, a),
+        state,
+        outstanding,
+        marked,
+        sizes,
+        sent,
+        evs,
+    )
 }
 
 // A NACK: the same.
 #[no_mangle]
 pub extern "C" fn nscc_nack(
     state: &mut [u64],
-    status: &mut [u8],
-    size: &mut [u32],
+    outstanding: &mut [u64],
+    marked: &mut [u64],
+    sizes: &mut [u32],
     sent: &mut [u64],
-    resent: &mut [u8],
     evs: &mut [u64],
     time: u64,
     psn: u32,
     ev: u32,
     reason: u32,
-    marked: bool,
+    m_flag: bool,
     retx: bool,
 ) -> u64
-    ensures { λ r. ⌜ calledAfter r state status size sent resent evs
-        ≡ onBesideWords (now (state .entry)) (ringBefore status size sent resent) (now (evs .entry))
-        (nackBeside time (nackBy psn ev reason marked retx)) ⌝ }
+    ensures { λ r. ⌜ calledAfter r state outstanding marked sizes sent evs
+        ≡ onBesideWords (now (state .entry)) (memoryBefore outstanding marked sizes sent) (now (evs .entry))
+        (nackBeside time (nackBy psn ev reason «m_flag» retx)) ⌝ }
 {
     let a = Nack {
         psn,
         ev,
         reason,
-        marked,
+        marked: m_flag,
         retx,
     };
-    take(Event::Nack(time, a), state, status, size, sent, resent, evs)
+    take(
+        Event::Nack(time, a),
+        state,
+        outstanding,
+        marked,
+        sizes,
+        sent,
+        evs,
+    )
 }
 
 // A loss.
 #[no_mangle]
 pub extern "C" fn nscc_loss(
     state: &mut [u64],
-    status: &mut [u8],
-    size: &mut [u32],
+    outstanding: &mut [u64],
+    marked: &mut [u64],
+    sizes: &mut [u32],
     sent: &mut [u64],
-    resent: &mut [u8],
     evs: &mut [u64],
     time: u64,
     psn: u32,
     ev: u32,
 ) -> u32
-    ensures { λ r. ⌜ calledAfter r state status size sent resent evs
-        ≡ onWords (now (state .entry)) (ringBefore status size sent resent) (now (evs .entry)) (onLoss time (lossBy psn ev)) ⌝ }
+    ensures { λ r. ⌜ calledAfter r state outstanding marked sizes sent evs
+        ≡ onWords (now (state .entry)) (memoryBefore outstanding marked sizes sent) (now (evs .entry)) (onLoss time (lossBy psn ev)) ⌝ }
 {
     take(
         Event::Loss(time, Loss { psn, ev }),
         state,
-        status,
-        size,
+        outstanding,
+        marked,
+        sizes,
         sent,
-        resent,
         evs,
     ) as u32
 }
@@ -244,15 +270,23 @@ pub extern "C" fn nscc_loss(
 #[no_mangle]
 pub extern "C" fn nscc_path(
     state: &mut [u64],
-    status: &mut [u8],
-    size: &mut [u32],
+    outstanding: &mut [u64],
+    marked: &mut [u64],
+    sizes: &mut [u32],
     sent: &mut [u64],
-    resent: &mut [u8],
     evs: &mut [u64],
     time: u64,
 ) -> u64
-    ensures { λ r. ⌜ calledAfter r state status size sent resent evs
-        ≡ onBesideWords (now (state .entry)) (ringBefore status size sent resent) (now (evs .entry)) (pathBeside time) ⌝ }
+    ensures { λ r. ⌜ calledAfter r state outstanding marked sizes sent evs
+        ≡ onBesideWords (now (state .entry)) (memoryBefore outstanding marked sizes sent) (now (evs .entry)) (pathBeside time) ⌝ }
 {
-    take(Event::Path(time), state, status, size, sent, resent, evs)
+    take(
+        Event::Path(time),
+        state,
+        outstanding,
+        marked,
+        sizes,
+        sent,
+        evs,
+    )
 }

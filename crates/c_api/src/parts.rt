@@ -9,7 +9,7 @@ ghost use mathlib.Core.Path.{_≡_};
 ghost use lib.ListN.{length};
 ghost use Rattle.rules.specs.Verdict.{numberOf};
 ghost use Rattle.c_state.specs.Layout.{wordCount};
-ghost use Rattle.ledger.specs.Lent.{ringBefore, ringAfter};
+ghost use Rattle.ledger.specs.Lent.{memoryBefore, memoryAfter};
 ghost use Rattle.c_api.specs.Batch.{wordsThen};
 ghost use Rattle.c_api.specs.Parts.{partCount, partWords, carryFrom, partOk, partThen, chunkCalled, onChunkWords};
 
@@ -95,19 +95,19 @@ pub extern "C" fn nscc_chunk(
     part: &mut [u64],
     piece: &mut [u8],
     state: &mut [u64],
-    status: &mut [u8],
-    size: &mut [u32],
+    outstanding: &mut [u64],
+    marked: &mut [u64],
+    sizes: &mut [u32],
     sent: &mut [u64],
-    resent: &mut [u8],
     evs: &mut [u64],
     chunk: &[u8],
     ended: bool,
     answers: &mut [u64],
 ) -> u32
     ensures { λ r. ⌜ chunkCalled r (now (part .exit)) (now (piece .exit)) (now (state .exit))
-        (ringAfter status size sent resent) (now (evs .exit)) (now (answers .exit))
+        (memoryAfter outstanding marked sizes sent) (now (evs .exit)) (now (answers .exit))
         ≡ onChunkWords (now (chunk .entry)) ended (now (part .entry)) (now (piece .entry)) (now (state .entry))
-        (ringBefore status size sent resent) (now (evs .entry)) (now (answers .entry)) ⌝ }
+        (memoryBefore outstanding marked sizes sent) (now (evs .entry)) (now (answers .entry)) ⌝ }
 {
     if !is_lent(part, state) {
         return number_of(Verdict::Unsound);
@@ -118,10 +118,10 @@ pub extern "C" fn nscc_chunk(
     let took = replay_chunks::chunk(
         carry,
         before,
-        status,
-        size,
+        outstanding,
+        marked,
+        sizes,
         sent,
-        resent,
         evs,
         piece,
         chunk,
