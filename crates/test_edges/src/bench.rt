@@ -5,7 +5,9 @@ use crate::fields::narrow;
 use crate::make;
 use crate::phrase::Phrase;
 use crate::say;
+use crate::slots;
 use crate::words;
+use crate::worlds;
 use crate::worlds::World;
 
 // The world, the one before its last call or to compare it with, and the time of calls.
@@ -43,7 +45,7 @@ fn set_slot(b: Bench, p: Phrase) -> Bench {
     let n = p.numbers;
     Bench {
         before,
-        world: fields::with_slot(b.world, p.word, n[0], n[1]),
+        world: slots::with_slot(b.world, p.word, n[0], n[1]),
         time: b.time,
     }
 }
@@ -54,12 +56,21 @@ fn compare(b: Bench) -> Bench {
     at(b.before, b.time)
 }
 
+// Writes what a look finds.
+fn look(b: Bench, p: Phrase) -> Bench {
+    let n = p.numbers;
+    let status = p.word == words::STATUS_OF;
+    say::look(worlds::look(b.world, status, narrow(n[0])));
+    b
+}
+
 fn choose(b: Bench, p: Phrase) -> Bench {
     let n = p.numbers;
     let word = p.word;
     match word {
         words::FULL => at(make::full(), make::CLOCK),
         words::EMPTY => at(make::empty(narrow(n[0]), narrow(n[1])), make::CLOCK),
+        words::FLOWN => at(make::flown(narrow(n[0]), narrow(n[1])), make::CLOCK),
         words::KEEP => at(b.world, b.time),
         _ => compare(b),
     }
@@ -95,6 +106,7 @@ pub(crate) fn act(b: Bench, p: Phrase) -> Bench {
         words::MTU..=words::TIME => set_number(b, p),
         words::STATUS..=words::EV_TIME => set_slot(b, p),
         words::FULL..=words::COMPARE => choose(b, p),
+        words::STATUS_OF..=words::NEXT_MARKED => look(b, p),
         words::NEW_DATA..=words::SET_UP => call(b, p),
         words::UNKNOWN => {
             say::text(b" unknown");

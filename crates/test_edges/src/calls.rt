@@ -4,6 +4,7 @@ use crate::make;
 use crate::phrase::Numbers;
 use crate::words;
 use crate::worlds;
+use crate::worlds::Call;
 use crate::worlds::World;
 use sender::Ack;
 use sender::Loss;
@@ -62,21 +63,24 @@ fn a_loss(n: Numbers) -> Loss {
     }
 }
 
-// The world's settings, on memory that holds whatever it held.
-fn set_up(w: World) -> World {
-    let state = w.state;
-    worlds::set_up(make::unset(), state.settings)
+fn a_call(word: u32, n: Numbers) -> Call {
+    match word {
+        words::NEW_DATA => Call::NewData(n[0]),
+        words::SEND => Call::Send(a_send(n, false)),
+        words::RESEND => Call::Send(a_send(n, true)),
+        words::ACK => Call::Ack(an_ack(n)),
+        words::NACK => Call::Nack(a_nack(n)),
+        words::LOSS => Call::Loss(a_loss(n)),
+        _ => Call::Path,
+    }
 }
 
+// Setting up takes the world's settings, on memory that holds whatever it held.
 pub(crate) fn call(w: World, time: u64, word: u32, n: Numbers) -> World {
-    match word {
-        words::NEW_DATA => worlds::new_data(w, time, n[0]),
-        words::SEND => worlds::send(w, time, a_send(n, false)),
-        words::RESEND => worlds::send(w, time, a_send(n, true)),
-        words::ACK => worlds::ack(w, time, an_ack(n)),
-        words::NACK => worlds::nack(w, time, a_nack(n)),
-        words::LOSS => worlds::loss(w, time, a_loss(n)),
-        words::PATH => worlds::path(w, time),
-        _ => set_up(w),
+    if word == words::SET_UP {
+        let state = w.state;
+        let settings = state.settings;
+        return worlds::after(make::unset(), time, Call::SetUp(settings));
     }
+    worlds::after(w, time, a_call(word, n))
 }

@@ -4,6 +4,7 @@ use crate::calls::plain_ack;
 use crate::calls::plain_nack;
 use crate::say;
 use crate::worlds;
+use crate::worlds::Call;
 use crate::worlds::World;
 use ledger::Flow;
 use sender::Ack;
@@ -30,14 +31,18 @@ fn an_ack(f: Flow) -> Ack {
     plain_ack(before, 0, before, f.held)
 }
 
+fn event(w: World, time: u64, call: Call) {
+    say::answer(w, worlds::after(w, time, call));
+}
+
 // Six answers.
 pub(crate) fn each(w: World, time: u64) {
     let flow = flow_of(w);
     let psn = flow.low;
-    say::answer(w, worlds::new_data(w, time, 1));
-    say::answer(w, worlds::send(w, time, a_send(flow)));
-    say::answer(w, worlds::ack(w, time, an_ack(flow)));
-    say::answer(w, worlds::nack(w, time, plain_nack(psn, 0, 2)));
-    say::answer(w, worlds::loss(w, time, Loss { psn, ev: 0 }));
-    say::answer(w, worlds::path(w, time));
+    event(w, time, Call::NewData(1));
+    event(w, time, Call::Send(a_send(flow)));
+    event(w, time, Call::Ack(an_ack(flow)));
+    event(w, time, Call::Nack(plain_nack(psn, 0, 2)));
+    event(w, time, Call::Loss(Loss { psn, ev: 0 }));
+    event(w, time, Call::Path);
 }

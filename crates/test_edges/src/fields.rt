@@ -8,20 +8,14 @@ use sender::Phase;
 use window::Settings;
 use window::Window;
 
-// One past the largest number of a field of 32 bits, of a byte, and of 63 bits.
+// One past the largest number of a field of 32 bits, and of 63 bits.
 const FIELD_END: u64 = 1 << 32;
-
-const BYTE_END: u64 = 1 << 8;
 
 const SIGNED_END: u64 = 1 << 63;
 
 // A number in a field of 32 bits, where it wraps.
 pub(crate) fn narrow(n: u64) -> u32 {
     (n % FIELD_END) as u32
-}
-
-fn byte(n: u64) -> u8 {
-    (n % BYTE_END) as u8
 }
 
 // A number that was below zero before it wrapped.
@@ -153,56 +147,4 @@ pub(crate) fn with_number(w: World, word: u32, n: u64) -> World {
 // The time of a call: as the word says, and the clock's where the clock is set.
 pub(crate) fn time_with(time: u64, word: u32, n: u64) -> u64 {
     pick(word, words::TIME, n, pick(word, words::CLOCK, n, time))
-}
-
-fn with_status(w: World, slot: usize, n: u64) -> World {
-    let mut v = w;
-    if slot < 64 {
-        v.status[slot] = byte(n);
-    }
-    v
-}
-
-fn with_size(w: World, slot: usize, n: u64) -> World {
-    let mut v = w;
-    if slot < 64 {
-        v.size[slot] = narrow(n);
-    }
-    v
-}
-
-fn with_sent(w: World, slot: usize, n: u64) -> World {
-    let mut v = w;
-    if slot < 64 {
-        v.sent[slot] = n;
-    }
-    v
-}
-
-fn with_resent(w: World, slot: usize, n: u64) -> World {
-    let mut v = w;
-    if slot < 64 {
-        v.resent[slot] = byte(n);
-    }
-    v
-}
-
-fn with_ev_time(w: World, ev: usize, n: u64) -> World {
-    let mut v = w;
-    if ev < 256 {
-        v.evs[ev] = n;
-    }
-    v
-}
-
-// A number of a slot, or an EV's time.
-pub(crate) fn with_slot(w: World, word: u32, slot: u64, n: u64) -> World {
-    let k = slot as usize;
-    match word {
-        words::STATUS => with_status(w, k, n),
-        words::SIZE => with_size(w, k, n),
-        words::SENT => with_sent(w, k, n),
-        words::RESENT => with_resent(w, k, n),
-        _ => with_ev_time(w, k, n),
-    }
 }

@@ -9,8 +9,10 @@ mod make;
 mod phrase;
 mod read;
 mod report;
+mod ring;
 mod same;
 mod say;
+mod slots;
 mod words;
 mod worlds;
 

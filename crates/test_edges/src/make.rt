@@ -1,4 +1,6 @@
 // Worlds to start from, each built by hand and not by calls.
+use crate::slots;
+use crate::worlds;
 use crate::worlds::World;
 use ledger::Flow;
 use ledger::Totals;
@@ -9,6 +11,9 @@ use window::Window;
 
 // The clock of the worlds here.
 pub const CLOCK: u64 = 1000;
+
+// A resend in a slot's number.
+const RESEND: u32 = 65536;
 
 // Settings E of document 01, and 256 EVs.
 fn settings() -> Settings {
@@ -91,13 +96,14 @@ fn quiet(settings: Settings, flow: Flow, clock: u64, phase: Phase) -> Controller
 }
 
 // Lent memory that holds one number in each place.
-fn lend(state: Controller, fill: u8) -> World {
+fn lend(state: Controller, fill: u32, wide: bool) -> World {
     World {
-        status: [fill; 64],
-        size: [fill as u32; 64],
-        sent: [fill as u64; 64],
-        resent: [fill; 64],
+        outstanding: [fill as u64; 2],
+        marked: [fill as u64; 2],
+        sizes: [fill; 128],
+        sent: [fill as u64; 128],
         evs: [fill as u64; 256],
+        wide,
         number: 0,
         state,
     }
@@ -116,12 +122,12 @@ fn fresh_state(settings: Settings) -> Controller {
 
 // What an accepted setting up must leave.
 pub(crate) fn fresh(settings: Settings) -> World {
-    lend(fresh_state(settings), 0)
+    lend(fresh_state(settings), 0, true)
 }
 
 // No state, which a refused setting up answers too, and lent memory that holds whatever it held.
 pub(crate) fn unset() -> World {
-    lend(fresh_state(no_settings()), 7)
+    lend(fresh_state(no_settings()), 7, true)
 }
 
 // An empty ring with a backlog, named READY.
@@ -132,7 +138,7 @@ pub(crate) fn empty(low: u32, next: u32) -> World {
         held: 7,
         backlog: 8192,
     };
-    lend(quiet(settings(), flow, CLOCK, Phase::Ready), 0)
+    lend(quiet(settings(), flow, CLOCK, Phase::Ready), 0, false)
 }
 
 // Low 5, next 10: 5 flying, 6 marked, 7 done, 8 and 9 flying. Every event has one that is accepted here.
@@ -141,31 +147,48 @@ pub(crate) fn mixed() -> World {
     w.state.totals.flying = 3;
     w.state.totals.marked = 1;
     w.state.totals.marked_bytes = 200;
-    w.status[5] = 1;
-    w.size[5] = 1024;
+    w.outstanding[0] = (1 << 5) | (1 << 6) | (1 << 8) | (1 << 9);
+    w.marked[0] = 1 << 6;
+    w.sizes[5] = 1024;
     w.sent[5] = 900;
-    w.status[6] = 2;
-    w.size[6] = 200;
+    w.sizes[6] = 200 + RESEND;
     w.sent[6] = 910;
-    w.resent[6] = 1;
-    w.status[7] = 3;
-    w.size[7] = 300;
+    w.sizes[7] = 300 + 2 * RESEND;
     w.sent[7] = 920;
-    w.resent[7] = 2;
-    w.status[8] = 1;
-    w.size[8] = 41;
+    w.sizes[8] = 41;
     w.sent[8] = 930;
-    w.status[9] = 1;
-    w.size[9] = 1000;
+    w.sizes[9] = 1000;
     w.sent[9] = CLOCK;
     w
 }
 
-// Every slot holds a flying packet of 41 bytes: low 5, next 69.
-pub(crate) fn full() -> World {
-    let mut w = empty(5, 69);
-    w.status = [1; 64];
-    w.size = [41; 64];
-    w.state.totals.flying = 64;
+// Whether a slot is one of low..next-1.
+fn is_between(slot: usize, low: u32, next: u32, wide: bool) -> bool {
+    let cap = worlds::capacity(wide);
+    let age = std::num::wrapping_sub_usize(slot, low as usize) % cap;
+    (slot < cap) & (age < std::num::wrapping_sub_u32(next, low) as usize)
+}
+
+// Low..next-1 fly, of 41 bytes each, sent at one time.
+fn flying(low: u32, next: u32, sent: u64, wide: bool) -> World {
+    let count = std::num::wrapping_sub_u32(next, low);
+    let mut w = empty(low, next);
+    w.wide = wide;
+    w.state.totals.flying = count;
+    for slot in 0..128 {
+        if is_between(slot, low, next, wide) {
+            w = slots::flying(w, slot, 41, sent);
+        }
+    }
     w
+}
+
+// Packets low..next-1 in a ring of 128 slots.
+pub(crate) fn flown(low: u32, next: u32) -> World {
+    flying(low, next, 900, true)
+}
+
+// A packet in every slot of 64: low 5, next 69.
+pub(crate) fn full() -> World {
+    flying(5, 69, 0, false)
 }

@@ -1,6 +1,7 @@
 // What a case writes when its call is made.
 use crate::events;
 use crate::make;
+use crate::ring;
 use crate::same::same_world;
 use crate::say;
 use crate::words;
@@ -61,7 +62,8 @@ pub(crate) fn write(word: u32, before: World, after: World, time: u64) {
         words::SET_UP => set_up(before, after),
         words::EVENTS => events::each(after, time),
         words::ROW => row(after),
-        words::COMPARE => (),
+        words::LEDGER => ring::write(after),
+        words::COMPARE..=words::NEXT_MARKED => (),
         _ => say::text(b" unknown"),
     }
 }

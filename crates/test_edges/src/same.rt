@@ -2,7 +2,7 @@
 use crate::worlds::World;
 use sender::Controller;
 
-// Slices of one length whose every element is equal, at two widths; `check::same` is the one for bytes.
+// Slices of one length whose every element is equal, at two widths.
 fn same_32<'a>(a: &'a [u32], b: &'a [u32]) -> bool {
     if a.len() != b.len() {
         return false;
@@ -41,20 +41,20 @@ fn same_state(a: Controller, b: Controller) -> bool {
     same_64(&a_words, &b_words) & (a_totals.in_flight == b_totals.in_flight)
 }
 
-fn same_packets(a: World, b: World) -> bool {
-    let a_status = a.status;
-    let b_status = b.status;
-    let a_size = a.size;
-    let b_size = b.size;
-    check::same(&a_status, &b_status) & same_32(&a_size, &b_size)
+fn same_bits(a: World, b: World) -> bool {
+    let a_outstanding = a.outstanding;
+    let b_outstanding = b.outstanding;
+    let a_marked = a.marked;
+    let b_marked = b.marked;
+    same_64(&a_outstanding, &b_outstanding) & same_64(&a_marked, &b_marked)
 }
 
-fn same_sends(a: World, b: World) -> bool {
+fn same_packets(a: World, b: World) -> bool {
+    let a_sizes = a.sizes;
+    let b_sizes = b.sizes;
     let a_sent = a.sent;
     let b_sent = b.sent;
-    let a_resent = a.resent;
-    let b_resent = b.resent;
-    same_64(&a_sent, &b_sent) & check::same(&a_resent, &b_resent)
+    same_32(&a_sizes, &b_sizes) & same_64(&a_sent, &b_sent)
 }
 
 fn same_evs(a: World, b: World) -> bool {
@@ -65,5 +65,5 @@ fn same_evs(a: World, b: World) -> bool {
 
 // State, ring and EV times; what the last call answered is no part of it.
 pub(crate) fn same_world(a: World, b: World) -> bool {
-    same_state(a.state, b.state) & same_packets(a, b) & same_sends(a, b) & same_evs(a, b)
+    same_state(a.state, b.state) & same_bits(a, b) & same_packets(a, b) & same_evs(a, b)
 }

@@ -1,16 +1,22 @@
 // What the program writes.
 use crate::same::same_world;
 use crate::worlds::World;
+use rules::verdict::number_of;
 use sender::Phase;
+use sender::look::Look;
 
 pub(crate) fn text(t: &[u8]) {
     io::write_all(libc::STDOUT_FILENO, t);
 }
 
+pub(crate) fn number(n: u64) {
+    io::print_decimal(libc::STDOUT_FILENO, n);
+}
+
 // A space and a number.
 pub(crate) fn also(n: u64) {
     text(b" ");
-    io::print_decimal(libc::STDOUT_FILENO, n);
+    number(n);
 }
 
 pub(crate) fn word_of(phase: Phase) {
@@ -29,6 +35,13 @@ pub(crate) fn comparison(before: World, after: World) {
         return;
     }
     text(b" CHANGED");
+}
+
+// The number that a look answered, and what it found.
+pub(crate) fn look(a: Look) {
+    let verdict = a.verdict;
+    also(number_of(verdict) as u64);
+    also(a.found as u64);
 }
 
 // The number that a call answered; where it is a refusal, whether state and lent memory are as they were.

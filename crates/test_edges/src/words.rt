@@ -1,9 +1,11 @@
 // The words of a case and the place of each in their list. Numbers follow a word; one that is left out is 0:
 //   a setting or another number of the state, and its value; the state's name alone; `time`, of the calls that follow
-//   `status`, `size`, `sent` or `resent` SLOT VALUE; `EV_time` EV TIME
-//   `full`; `empty` LOW NEXT; where neither is said the world is `make::mixed`
+//   `status` SLOT 1 flying, 2 marked, 3 done or 0 none: its two bits; `size`, `resent` or `sent` SLOT VALUE; `EV_time` EV TIME
+//   `outstanding_bit` or `marked_bit` SLOT 0 or 1, each by itself; `number` SLOT VALUE, size and resend count as they are kept
+//   `full`; `empty` LOW NEXT; `flown` LOW NEXT, in a ring of 128 slots; where none is said the world is `make::mixed`
 //   `new_data` BYTES; `send` or `resend` PSN SIZE; `ack` CUM MAP TRIGGER COUNT EV M SERVICE; `nack` PSN EV REASON; `loss` PSN EV; `path`
 //   `set_up`, with the world's settings; `events`, every event by itself; `row`, a line of the worked example
+//   `ledger`, low, next, totals and ring; `status_of` PSN and `next_marked` PSN, the two looks
 //   `compare`, with the world that the case began with or was told to `keep`
 use crate::read::byte_at;
 
@@ -26,9 +28,10 @@ pub(crate) fn place(s: &[u8], from: usize, end: usize) -> u32 {
     search = search.look(b"fi_count fast_mode trigger quick_adapt_end ", s);
     search = search.look(b"last_adjust last_decrease clock cursor ", s);
     search = search.look(b"IDLE PENDING READY ACTIVE time ", s);
-    search = search.look(b"status size sent resent EV_time ", s);
-    search = search.look(b"full empty keep compare new_data send resend ack ", s);
-    search = search.look(b"nack loss path set_up events row ", s);
+    search = search.look(b"status size sent resent outstanding_bit marked_bit ", s);
+    search = search.look(b"number EV_time full empty flown keep compare ", s);
+    search = search.look(b"status_of next_marked new_data send resend ack ", s);
+    search = search.look(b"nack loss path set_up events row ledger ", s);
     search.found
 }
 
@@ -128,40 +131,54 @@ pub const SENT: u32 = 46;
 
 pub const RESENT: u32 = 47;
 
-pub const EV_TIME: u32 = 48;
+pub const OUTSTANDING_BIT: u32 = 48;
 
-pub const FULL: u32 = 49;
+pub const MARKED_BIT: u32 = 49;
 
-pub const EMPTY: u32 = 50;
+pub const NUMBER: u32 = 50;
 
-pub const KEEP: u32 = 51;
+pub const EV_TIME: u32 = 51;
 
-pub const COMPARE: u32 = 52;
+pub const FULL: u32 = 52;
 
-pub const NEW_DATA: u32 = 53;
+pub const EMPTY: u32 = 53;
 
-pub const SEND: u32 = 54;
+pub const FLOWN: u32 = 54;
 
-pub const RESEND: u32 = 55;
+pub const KEEP: u32 = 55;
 
-pub const ACK: u32 = 56;
+pub const COMPARE: u32 = 56;
 
-pub const NACK: u32 = 57;
+pub const STATUS_OF: u32 = 57;
 
-pub const LOSS: u32 = 58;
+pub const NEXT_MARKED: u32 = 58;
 
-pub const PATH: u32 = 59;
+pub const NEW_DATA: u32 = 59;
 
-pub const SET_UP: u32 = 60;
+pub const SEND: u32 = 60;
 
-pub const EVENTS: u32 = 61;
+pub const RESEND: u32 = 61;
 
-pub const ROW: u32 = 62;
+pub const ACK: u32 = 62;
+
+pub const NACK: u32 = 63;
+
+pub const LOSS: u32 = 64;
+
+pub const PATH: u32 = 65;
+
+pub const SET_UP: u32 = 66;
+
+pub const EVENTS: u32 = 67;
+
+pub const ROW: u32 = 68;
+
+pub const LEDGER: u32 = 69;
 
 // No word, and one that is not listed.
-pub const NONE: u32 = 63;
+pub const NONE: u32 = 70;
 
-pub const UNKNOWN: u32 = 64;
+pub const UNKNOWN: u32 = 71;
 
 // A word looked for in a list, and where it stands in a text: the place that the list's next word has, how far the word is compared,
 // whether it was the same so far, and the place where it was found.

@@ -10,6 +10,7 @@ use sender::Loss;
 use sender::Nack;
 use sender::Routed;
 use sender::Send;
+use sender::look::Look;
 use window::Settings;
 
 // An entry point; the events are calls on the empty ledger that no row but 2, 10 or, by its EV, 23 refuses.
@@ -27,6 +28,12 @@ pub enum Call {
 pub struct Got {
     pub number: u32,
     pub state: Controller,
+}
+
+// What the two looks answered.
+pub struct Looks {
+    pub status: Look,
+    pub next_marked: Look,
 }
 
 fn of_answer(answer: Answer) -> Got {
@@ -93,17 +100,17 @@ fn a_nack(ev: u32) -> Nack {
 fn reading<'a>(
     call: Call,
     e: Evs,
-    status: &'a [u8],
-    size: &'a [u32],
+    outstanding: &'a [u64],
+    marked: &'a [u64],
+    sizes: &'a [u32],
     sent: &'a [u64],
-    resent: &'a [u8],
     evs: &'a [u64],
 ) -> Got {
     let time = make::CLOCK;
     let before = make::empty(e);
     match call {
-        Call::NewData => of_answer(before.new_data(status, size, sent, resent, evs, time, 1)),
-        _ => of_routed(before.path(status, size, sent, resent, evs, time)),
+        Call::NewData => of_answer(before.new_data(outstanding, marked, sizes, sent, evs, time, 1)),
+        _ => of_routed(before.path(outstanding, marked, sizes, sent, evs, time)),
     }
 }
 
@@ -111,26 +118,34 @@ fn reading<'a>(
 fn marking<'a, 'b, 'c>(
     call: Call,
     e: Evs,
-    status: &'a mut [u8],
-    size: &'b [u32],
+    outstanding: &'b [u64],
+    marked: &'a mut [u64],
+    sizes: &'b [u32],
     sent: &'b [u64],
-    resent: &'b [u8],
     evs: &'c mut [u64],
 ) -> Got {
     let time = make::CLOCK;
     let before = make::empty(e);
     match call {
-        Call::Nack => of_heard(before.nack(status, size, sent, resent, evs, time, a_nack(e.ev))),
-        Call::Loss => of_answer(before.loss(
-            status,
-            size,
+        Call::Nack => of_heard(before.nack(
+            outstanding,
+            marked,
+            sizes,
             sent,
-            resent,
+            evs,
+            time,
+            a_nack(e.ev),
+        )),
+        Call::Loss => of_answer(before.loss(
+            outstanding,
+            marked,
+            sizes,
+            sent,
             evs,
             time,
             Loss { psn: 5, ev: e.ev },
         )),
-        _ => reading(call, e, status, size, sent, resent, evs),
+        _ => reading(call, e, outstanding, marked, sizes, sent, evs),
     }
 }
 
@@ -138,19 +153,51 @@ fn marking<'a, 'b, 'c>(
 pub(crate) fn answered<'a, 'b, 'c, 'd, 'e>(
     call: Call,
     e: Evs,
-    status: &'a mut [u8],
-    size: &'b mut [u32],
-    sent: &'c mut [u64],
-    resent: &'d mut [u8],
+    outstanding: &'a mut [u64],
+    marked: &'b mut [u64],
+    sizes: &'c mut [u32],
+    sent: &'d mut [u64],
     evs: &'e mut [u64],
 ) -> Got {
     let time = make::CLOCK;
     let before = make::empty(e);
     match call {
-        Call::SetUp(s) => of_answer(sender::start::set_up(s, status, size, sent, resent, evs)),
-        Call::Send => of_answer(before.send(status, size, sent, resent, evs, time, a_send())),
-        Call::Ack => of_heard(before.ack(status, size, sent, resent, evs, time, an_ack(e.ev))),
-        _ => marking(call, e, status, size, sent, resent, evs),
+        Call::SetUp(s) => of_answer(sender::start::set_up(
+            s,
+            outstanding,
+            marked,
+            sizes,
+            sent,
+            evs,
+        )),
+        Call::Send => of_answer(before.send(outstanding, marked, sizes, sent, evs, time, a_send())),
+        Call::Ack => of_heard(before.ack(
+            outstanding,
+            marked,
+            sizes,
+            sent,
+            evs,
+            time,
+            an_ack(e.ev),
+        )),
+        _ => marking(call, e, outstanding, marked, sizes, sent, evs),
+    }
+}
+
+// The two looks, at low.
+pub(crate) fn looked<'a>(
+    e: Evs,
+    outstanding: &'a [u64],
+    marked: &'a [u64],
+    sizes: &'a [u32],
+    sent: &'a [u64],
+    evs: &'a [u64],
+) -> Looks {
+    let state = make::empty(e);
+    let low = make::LOW;
+    Looks {
+        status: sender::look::status(state, outstanding, marked, sizes, sent, evs, low),
+        next_marked: sender::look::next_marked(state, outstanding, marked, sizes, sent, evs, low),
     }
 }
 

@@ -1,4 +1,4 @@
-// Refusal 2 on lengths: each slice too short, too long, or no power of two, to setting up and to every event.
+// Refusal 2 on lengths: each slice too short, too long, or no power of two, to setting up, to every event and to the looks.
 use crate::calls::Call;
 use crate::make;
 use crate::make::Evs;
@@ -52,38 +52,52 @@ fn events(label: &[u8], e: Evs, k: Lengths) {
     say::text(b"\n");
 }
 
-// Setting up with a number of EVs, and every event: two lines.
+// The two looks: the number that each answers, and what it finds.
+fn looks(label: &[u8], e: Evs, k: Lengths) {
+    let v = room::look(e, k);
+    say::text(label);
+    say::text(b":");
+    say::look(v.status);
+    say::look(v.next_marked);
+    say::text(b"\n");
+}
+
+// Setting up with a number of EVs, every event, and the looks: three lines.
 fn counted(label: &[u8], count: u64, k: Lengths) {
+    let evs = some_evs(count, 0, 0);
     say::text(b"2 set up ");
     set_up(label, make::settings(4096, count), k);
     say::text(b"2 lengths ");
-    events(label, some_evs(count, 0, 0), k);
+    events(label, evs, k);
+    say::text(b"2 looks ");
+    looks(label, evs, k);
 }
 
 fn both(label: &[u8], k: Lengths) {
     counted(label, 256, k);
 }
 
-// A capacity for all four, and a number of EV times.
+// Slots for all four, as many as there are whole words of bits for, and a number of EV times.
 fn even(slots: usize, evs: usize) -> Lengths {
+    let words = slots / 64;
     Lengths {
-        status: slots,
-        size: slots,
+        outstanding: words,
+        marked: words,
+        sizes: slots,
         sent: slots,
-        resent: slots,
         evs,
     }
 }
 
-fn uneven(label: &[u8], status: usize, size: usize, sent: usize, resent: usize) {
+fn uneven(label: &[u8], outstanding: usize, marked: usize, sizes: usize, sent: usize) {
     let evs = 256;
     both(
         label,
         Lengths {
-            status,
-            size,
+            outstanding,
+            marked,
+            sizes,
             sent,
-            resent,
             evs,
         },
     );
@@ -97,6 +111,7 @@ fn capacities() {
     both(b"65 slots", even(65, 256));
     both(b"96 slots", even(96, 256));
     both(b"128 slots", even(128, 256));
+    both(b"192 slots", even(192, 256));
     both(b"4095 slots", even(4095, 256));
     both(b"4096 slots", even(4096, 256));
     both(b"4097 slots", even(4097, 256));
@@ -107,15 +122,44 @@ fn capacities() {
     both(b"512 EV times", even(64, 512));
 }
 
-fn differing() {
-    uneven(b"status shorter", 64, 128, 128, 128);
-    uneven(b"status longer", 128, 64, 64, 64);
-    uneven(b"size shorter", 64, 63, 64, 64);
-    uneven(b"size longer", 64, 128, 64, 64);
-    uneven(b"sent shorter", 64, 64, 0, 64);
-    uneven(b"sent longer", 64, 64, 65, 64);
-    uneven(b"resent shorter", 128, 128, 128, 64);
-    uneven(b"resent longer", 64, 64, 64, 65);
+// Words of bits: a capacity of 128 has two of each kind, one of 4,096 has 64.
+fn differing_words() {
+    uneven(b"no outstanding", 0, 2, 128, 128);
+    uneven(b"outstanding shorter", 1, 2, 128, 128);
+    uneven(b"outstanding longer", 3, 2, 128, 128);
+    uneven(b"outstanding 64 shorter", 0, 64, 4096, 4096);
+    uneven(b"outstanding 64 longer", 128, 64, 4096, 4096);
+    uneven(b"outstanding a word a slot", 128, 2, 128, 128);
+    uneven(b"no marked", 2, 0, 128, 128);
+    uneven(b"marked shorter", 2, 1, 128, 128);
+    uneven(b"marked longer", 2, 3, 128, 128);
+    uneven(b"marked 64 shorter", 64, 0, 4096, 4096);
+    uneven(b"marked 64 longer", 64, 128, 4096, 4096);
+    uneven(b"marked a word a slot", 2, 128, 128, 128);
+    uneven(b"no words", 0, 0, 128, 128);
+    uneven(b"both words shorter", 1, 1, 128, 128);
+    uneven(b"both words longer", 3, 3, 128, 128);
+    uneven(b"both words of 256 slots", 4, 4, 128, 128);
+    uneven(b"both words, a word a slot", 128, 128, 128, 128);
+    uneven(b"outstanding shorter, marked longer", 1, 3, 128, 128);
+}
+
+fn differing_slots() {
+    uneven(b"no sizes", 2, 2, 0, 128);
+    uneven(b"sizes shorter", 1, 1, 63, 64);
+    uneven(b"sizes longer", 1, 1, 65, 64);
+    uneven(b"sizes 64 shorter", 2, 2, 64, 128);
+    uneven(b"sizes 64 longer", 1, 1, 128, 64);
+    uneven(b"no sent", 1, 1, 64, 0);
+    uneven(b"sent shorter", 1, 1, 64, 63);
+    uneven(b"sent longer", 1, 1, 64, 65);
+    uneven(b"sent 64 shorter", 2, 2, 128, 64);
+    uneven(b"sent 64 longer", 1, 1, 64, 128);
+    uneven(b"sizes and sent shorter", 2, 2, 127, 127);
+    uneven(b"sizes and sent longer", 2, 2, 129, 129);
+    uneven(b"sizes and sent 64 shorter", 2, 2, 64, 64);
+    uneven(b"sizes and sent 64 longer", 2, 2, 192, 192);
+    uneven(b"sizes and sent of 256 slots", 2, 2, 256, 256);
 }
 
 // Numbers of EVs: one that is not allowed is refusal 1 of setting up, whatever is lent; of one that is allowed
@@ -155,7 +199,8 @@ fn chosen() {
 // Refusal 1 comes before 2: an MTU of 1023, and lengths that are refused.
 pub(crate) fn run() {
     capacities();
-    differing();
+    differing_words();
+    differing_slots();
     counts();
     chosen();
     set_up(b"order 1 2", make::settings(1023, 256), even(63, 255));

@@ -9,6 +9,9 @@ use window::Window;
 // The clock of the empty ledger.
 pub const CLOCK: u64 = 1000;
 
+// Its low and next.
+pub const LOW: u32 = 5;
+
 // What a case says of EVs: how many the settings have, where the cursor stands, and the EV of feedback.
 pub struct Evs {
     pub count: u64,
@@ -112,11 +115,11 @@ pub(crate) fn no_state() -> Controller {
     fresh(no_settings())
 }
 
-// An empty ledger at PSN 5 with a backlog, named READY; its ring is zeros of whatever length is lent.
+// An empty ledger with a backlog, named READY; its ring is zeros of whatever length is lent.
 pub(crate) fn empty(e: Evs) -> Controller {
     let flow = Flow {
-        low: 5,
-        next: 5,
+        low: LOW,
+        next: LOW,
         held: 7,
         backlog: 8192,
     };

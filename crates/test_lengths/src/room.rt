@@ -2,16 +2,17 @@
 use crate::calls;
 use crate::calls::Call;
 use crate::calls::Got;
+use crate::calls::Looks;
 use crate::make::Evs;
 use crate::same;
 ghost use Prim.Native.Nat.{_≤_};
 
-// The lengths of status, size, sent, resent and EV times.
+// The lengths of what is lent: words of outstanding and of marked bits, sizes, send times, EV times.
 pub struct Lengths {
-    pub status: usize,
-    pub size: usize,
+    pub outstanding: usize,
+    pub marked: usize,
+    pub sizes: usize,
     pub sent: usize,
-    pub resent: usize,
     pub evs: usize,
 }
 
@@ -29,7 +30,7 @@ fn cut(n: usize) -> usize
 }
 
 // What memory must hold after a call: an accepted setting up clears it.
-fn fill_after(number: u32, fill: u8) -> u8 {
+fn fill_after(number: u32, fill: u32) -> u32 {
     if number == 0 { 0 } else { fill }
 }
 
@@ -37,12 +38,12 @@ fn fill_after(number: u32, fill: u8) -> u8 {
 fn verdict_of<'a>(
     call: Call,
     e: Evs,
-    fill: u8,
+    fill: u32,
     got: Got,
-    status: &'a [u8],
-    size: &'a [u32],
+    outstanding: &'a [u64],
+    marked: &'a [u64],
+    sizes: &'a [u32],
     sent: &'a [u64],
-    resent: &'a [u8],
     evs: &'a [u64],
 ) -> Verdict {
     let number = got.number;
@@ -50,44 +51,66 @@ fn verdict_of<'a>(
     Verdict {
         number,
         as_wanted: same::same_state(got.state, calls::wanted(call, e, number))
-            & same::all(status, size, sent, resent, evs, left),
+            & same::all(outstanding, marked, sizes, sent, evs, left),
     }
 }
 
 fn judged<'a, 'b, 'c, 'd, 'e>(
     call: Call,
     e: Evs,
-    fill: u8,
-    status: &'a mut [u8],
-    size: &'b mut [u32],
-    sent: &'c mut [u64],
-    resent: &'d mut [u8],
+    fill: u32,
+    outstanding: &'a mut [u64],
+    marked: &'b mut [u64],
+    sizes: &'c mut [u32],
+    sent: &'d mut [u64],
     evs: &'e mut [u64],
 ) -> Verdict {
-    let got = calls::answered(call, e, status, size, sent, resent, evs);
-    verdict_of(call, e, fill, got, status, size, sent, resent, evs)
+    let got = calls::answered(call, e, outstanding, marked, sizes, sent, evs);
+    verdict_of(call, e, fill, got, outstanding, marked, sizes, sent, evs)
+}
+
+// The two looks on an empty ring of these lengths.
+pub(crate) fn look(e: Evs, k: Lengths) -> Looks {
+    let a = cut(k.outstanding);
+    let b = cut(k.marked);
+    let c = cut(k.sizes);
+    let d = cut(k.sent);
+    let n = cut(k.evs);
+    let outstanding = [0; 8192];
+    let marked = [0; 8192];
+    let sizes = [0; 8192];
+    let sent = [0; 8192];
+    let evs = [0; 8192];
+    calls::looked(
+        e,
+        &outstanding[0..a],
+        &marked[0..b],
+        &sizes[0..c],
+        &sent[0..d],
+        &evs[0..n],
+    )
 }
 
 // A call on fresh memory of these lengths.
-pub(crate) fn lend(call: Call, evs_of: Evs, fill: u8, k: Lengths) -> Verdict {
-    let a = cut(k.status);
-    let b = cut(k.size);
-    let c = cut(k.sent);
-    let d = cut(k.resent);
+pub(crate) fn lend(call: Call, evs_of: Evs, fill: u32, k: Lengths) -> Verdict {
+    let a = cut(k.outstanding);
+    let b = cut(k.marked);
+    let c = cut(k.sizes);
+    let d = cut(k.sent);
     let e = cut(k.evs);
-    let mut status = [fill; 8192];
-    let mut size = [fill as u32; 8192];
+    let mut outstanding = [fill as u64; 8192];
+    let mut marked = [fill as u64; 8192];
+    let mut sizes = [fill; 8192];
     let mut sent = [fill as u64; 8192];
-    let mut resent = [fill; 8192];
     let mut evs = [fill as u64; 8192];
     judged(
         call,
         evs_of,
         fill,
-        &mut status[0..a],
-        &mut size[0..b],
-        &mut sent[0..c],
-        &mut resent[0..d],
+        &mut outstanding[0..a],
+        &mut marked[0..b],
+        &mut sizes[0..c],
+        &mut sent[0..d],
         &mut evs[0..e],
     )
 }

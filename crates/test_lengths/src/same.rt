@@ -15,18 +15,7 @@ fn same_words(a: [u64; 40], b: [u64; 40]) -> bool {
     true
 }
 
-// A slice whose every element is one number, at each width.
-fn all_8(xs: &[u8], fill: u8) -> bool {
-    let mut k = 0;
-    while k < xs.len() {
-        if xs[k] != fill {
-            return false;
-        }
-        k += 1;
-    }
-    true
-}
-
+// A slice whose every element is one number, at both widths.
 fn all_32(xs: &[u32], fill: u32) -> bool {
     let mut k = 0;
     while k < xs.len() {
@@ -51,16 +40,17 @@ fn all_64(xs: &[u64], fill: u64) -> bool {
 
 // All that was lent.
 pub(crate) fn all<'a>(
-    status: &'a [u8],
-    size: &'a [u32],
+    outstanding: &'a [u64],
+    marked: &'a [u64],
+    sizes: &'a [u32],
     sent: &'a [u64],
-    resent: &'a [u8],
     evs: &'a [u64],
-    fill: u8,
+    fill: u32,
 ) -> bool {
-    all_8(status, fill)
-        & all_32(size, fill as u32)
-        & all_64(sent, fill as u64)
-        & all_8(resent, fill)
-        & all_64(evs, fill as u64)
+    let wide = fill as u64;
+    all_64(outstanding, wide)
+        & all_64(marked, wide)
+        & all_32(sizes, fill)
+        & all_64(sent, wide)
+        & all_64(evs, wide)
 }

@@ -1,4 +1,7 @@
 // What the program writes.
+use rules::verdict::number_of;
+use sender::look::Look;
+
 pub(crate) fn text(t: &[u8]) {
     io::write_all(libc::STDOUT_FILENO, t);
 }
@@ -16,4 +19,11 @@ pub(crate) fn verdict(same: bool) {
         return;
     }
     text(b" CHANGED");
+}
+
+// The number that a look answered, and what it found.
+pub(crate) fn look(a: Look) {
+    let verdict = a.verdict;
+    also(number_of(verdict));
+    also(a.found);
 }
