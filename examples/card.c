@@ -11,25 +11,28 @@
 #include <stdlib.h>
 #include <string.h>
 
-/* Powers of two: 64..4096 slots, 256..4096 EVs. */
-enum { SLOTS = 64, EVS = NSCC_EVS_MIN };
+/* Powers of two: 64..4096 slots, 256..4096 EVs. Two of the ring's arrays have a bit for each slot. */
+enum { SLOTS = 64, BIT_WORDS = SLOTS / 64, EVS = NSCC_EVS_MIN };
 
 /* All the memory of one context. It is the card's: the library keeps nothing between calls. */
 struct card {
     uint64_t state[NSCC_STATE_WORDS];
-    uint8_t status[SLOTS];
-    uint32_t size[SLOTS];
+    uint64_t outstanding[BIT_WORDS];
+    uint64_t marked[BIT_WORDS];
+    uint32_t sizes[SLOTS];
     uint64_t sent[SLOTS];
-    uint8_t resent[SLOTS];
     uint64_t evs[EVS];
 };
 
 /* What every call is lent: each array with its length. */
 #define LENT(card)                                                                                                                                           \
-    (card)->state, NSCC_STATE_WORDS, (card)->status, SLOTS, (card)->size, SLOTS, (card)->sent, SLOTS, (card)->resent, SLOTS, (card)->evs, EVS
+    (card)->state, NSCC_STATE_WORDS, (card)->outstanding, BIT_WORDS, (card)->marked, BIT_WORDS, (card)->sizes, SLOTS, (card)->sent, SLOTS, (card)->evs, EVS
 
 /* Settings E of the requirements, in the order of enum nscc_setting. */
 static const uint64_t settings[NSCC_SETTING_WORDS] = {4096, 614400, 96, 72, 4096, 1024, 224, 819, 512, 96, 32768, 288};
+
+/* In the order of enum nscc_status. */
+static const char *const statuses[] = {"none", "flying", "marked", "done"};
 
 static const char *const phases[] = {"IDLE", "PENDING", "READY", "ACTIVE"};
 
@@ -67,9 +70,10 @@ static void refused_send(struct card *card)
 {
     const struct card before = *card;
     show("send-2", nscc_send(LENT(card), 20, 2, 4096, false), card);
-    bool same = memcmp(before.state, card->state, sizeof before.state) == 0 && memcmp(before.status, card->status, sizeof before.status) == 0 &&
-                memcmp(before.size, card->size, sizeof before.size) == 0 && memcmp(before.sent, card->sent, sizeof before.sent) == 0 &&
-                memcmp(before.resent, card->resent, sizeof before.resent) == 0 && memcmp(before.evs, card->evs, sizeof before.evs) == 0;
+    bool same = memcmp(before.state, card->state, sizeof before.state) == 0 &&
+                memcmp(before.outstanding, card->outstanding, sizeof before.outstanding) == 0 &&
+                memcmp(before.marked, card->marked, sizeof before.marked) == 0 && memcmp(before.sizes, card->sizes, sizeof before.sizes) == 0 &&
+                memcmp(before.sent, card->sent, sizeof before.sent) == 0 && memcmp(before.evs, card->evs, sizeof before.evs) == 0;
     if (!same) {
         puts("the refusal changed something");
         exit(EXIT_FAILURE);
@@ -85,6 +89,18 @@ static uint32_t next_path(struct card *card, uint64_t time)
     show("path", (uint32_t)answer, card);
     printf("EV %u\n", (unsigned)ev);
     return ev;
+}
+
+/* What became of a packet, without a look into the ring. */
+static void show_status(const struct card *card, uint32_t psn)
+{
+    printf("PSN %u: %s\n", (unsigned)psn, statuses[nscc_status(LENT(card), psn) >> 32]);
+}
+
+/* The oldest packet that waits to be sent again: next where none does. */
+static uint32_t oldest_marked(const struct card *card)
+{
+    return (uint32_t)(nscc_next_marked(LENT(card), (uint32_t)card->state[NSCC_STATE_LOW]) >> 32);
 }
 
 int main(void)
@@ -105,10 +121,15 @@ int main(void)
     show_sample("nack-1", nscc_nack(LENT(&card), 230, 1, ev, 0, false, false), &card);
     printf("EV %u is avoided until %llu\n", (unsigned)ev, (unsigned long long)card.evs[ev]);
 
-    /* Sent again on another path. Its ACK has the retx flag, so it gives a sample; a copy of that ACK finds the packet gone and moves no average. */
+    /* The marked packet is sent again on another path. Its ACK has the retx flag, so it gives a sample; a copy of that ACK finds the packet gone and moves
+       no average. */
+    uint32_t again = oldest_marked(&card);
+    show_status(&card, again);
     ev = next_path(&card, 235);
-    show("resend-1", nscc_send(LENT(&card), 240, 1, 4096, true), &card);
+    show("resend-1", nscc_send(LENT(&card), 240, again, 4096, true), &card);
+    show_status(&card, again);
     show_sample("ack-1", nscc_ack(LENT(&card), 340, 1, 0, 1, 32, 4, ev, false, true), &card);
+    show_status(&card, again);
     show_sample("copy", nscc_ack(LENT(&card), 341, 1, 0, 1, 32, 4, ev, false, true), &card);
     printf("base %llu, average %llu/1024 ticks\n", (unsigned long long)card.state[NSCC_STATE_BASE], (unsigned long long)card.state[NSCC_STATE_AVG]);
 

@@ -22,11 +22,20 @@
  *   - nscc_send       a new packet, or a marked one once more; 6 says that the window is full;
  *   - nscc_ack, nscc_nack, nscc_loss   what comes back, or does not.
  * After each call state[NSCC_STATE_CWND] is the window and state[NSCC_STATE_PHASE] what to do next.
- * nscc_replay and nscc_chunk do the same for events that were recorded in a log.
+ * nscc_replay and nscc_chunk do the same for events that were recorded in a log. nscc_status says
+ * what became of a packet and nscc_next_marked which one to send again, so that no firmware has to
+ * read the ring itself.
  *
- * The ring has as many slots as its four arrays have elements: a power of two from 64 to 4096, the
- * same for all four. The EVs are as many as setting up was told, a power of two from NSCC_EVS_MIN
- * to NSCC_EVS_MAX, and so many times are lent with every call. Time is in ticks of 128 ns.
+ * The ring's capacity is a power of two from 64 to 4096 slots, of 12.25 bytes a slot:
+ *   - outstanding and marked have a bit for each slot, so capacity / 64 words: slot i is bit i % 64
+ *     of word i / 64;
+ *   - sizes and sent have a number for each slot, so capacity numbers.
+ * PSN p lives in slot p % capacity. Its outstanding bit says that it flies or is marked, its marked
+ * bit that it is marked; where neither is set, it is done. Its sizes number is its size + 2^16 * its
+ * resend count, its sent number when it was last sent. A slot of no packet is all 0.
+ *
+ * The EVs are as many as setting up was told, a power of two from NSCC_EVS_MIN to NSCC_EVS_MAX, and
+ * so many times are lent with every call. Time is in ticks of 128 ns.
  */
 #ifndef NSCC_H
 #define NSCC_H
@@ -145,48 +154,73 @@ enum nscc_state {
  * settings_len is NSCC_SETTING_WORDS, state_len NSCC_STATE_WORDS, evs_len the EV count.
  */
 uint32_t nscc_set_up(const uint64_t *settings, size_t settings_len, uint32_t first_psn, bool quick_adapt_off, uint32_t ev_count,
-                     uint64_t *state, size_t state_len, uint8_t *status, size_t status_len, uint32_t *size, size_t size_len,
-                     uint64_t *sent, size_t sent_len, uint8_t *resent, size_t resent_len, uint64_t *evs, size_t evs_len);
+                     uint64_t *state, size_t state_len, uint64_t *outstanding, size_t outstanding_len, uint64_t *marked, size_t marked_len,
+                     uint32_t *sizes, size_t sizes_len, uint64_t *sent, size_t sent_len, uint64_t *evs, size_t evs_len);
 
 /* New data in the backlog: 2, 3, 20. The ring and the EV times are only read. */
-uint32_t nscc_new_data(uint64_t *state, size_t state_len, const uint8_t *status, size_t status_len, const uint32_t *size, size_t size_len,
-                       const uint64_t *sent, size_t sent_len, const uint8_t *resent, size_t resent_len, const uint64_t *evs, size_t evs_len,
-                       uint64_t time, uint64_t bytes);
+uint32_t nscc_new_data(uint64_t *state, size_t state_len, const uint64_t *outstanding, size_t outstanding_len,
+                       const uint64_t *marked, size_t marked_len, const uint32_t *sizes, size_t sizes_len,
+                       const uint64_t *sent, size_t sent_len, const uint64_t *evs, size_t evs_len, uint64_t time, uint64_t bytes);
 
 /* A new packet of that PSN and size, or a resend: 2, 3, 4, 8, 5, 7, 6. The EV times are only read. */
-uint32_t nscc_send(uint64_t *state, size_t state_len, uint8_t *status, size_t status_len, uint32_t *size, size_t size_len,
-                   uint64_t *sent, size_t sent_len, uint8_t *resent, size_t resent_len, const uint64_t *evs, size_t evs_len,
-                   uint64_t time, uint32_t psn, uint32_t bytes, bool resend);
+uint32_t nscc_send(uint64_t *state, size_t state_len, uint64_t *outstanding, size_t outstanding_len, uint64_t *marked, size_t marked_len,
+                   uint32_t *sizes, size_t sizes_len, uint64_t *sent, size_t sent_len, const uint64_t *evs, size_t evs_len, uint64_t time,
+                   uint32_t psn, uint32_t bytes, bool resend);
 
 /*
  * An ACK: the number (2, 3, 21, 23, 24, 9, 11) in the low 32 bits of the answer; above them what
  * the trigger's sample is (nscc_sample), 0 where it is refused. cum covers every PSN up to itself,
- * bit i of map covers cum + 1 + i; marked is the M flag.
+ * bit i of map covers cum + 1 + i; m_flag is the M flag.
  */
-uint64_t nscc_ack(uint64_t *state, size_t state_len, uint8_t *status, size_t status_len, uint32_t *size, size_t size_len,
-                  uint64_t *sent, size_t sent_len, uint8_t *resent, size_t resent_len, uint64_t *evs, size_t evs_len,
-                  uint64_t time, uint32_t cum, uint64_t map, uint32_t trigger, uint32_t count, uint32_t service, uint32_t ev,
-                  bool marked, bool retx);
+uint64_t nscc_ack(uint64_t *state, size_t state_len, uint64_t *outstanding, size_t outstanding_len, uint64_t *marked, size_t marked_len,
+                  uint32_t *sizes, size_t sizes_len, uint64_t *sent, size_t sent_len, uint64_t *evs, size_t evs_len, uint64_t time,
+                  uint32_t cum, uint64_t map, uint32_t trigger, uint32_t count, uint32_t service, uint32_t ev, bool m_flag, bool retx);
 
 /*
  * A NACK: the number (2, 3, 22, 23, 10, 11) in the low 32 bits of the answer; above them what its
  * packet's sample is (nscc_sample), 0 where it is refused; NSCC_SAMPLE_GONE is not among them,
- * since the packet flies. reason is 0 trimmed, 1 trimmed at the last hop, 2 other. Sizes, send
- * times and resend counts are only read.
+ * since the packet flies. reason is 0 trimmed, 1 trimmed at the last hop, 2 other; m_flag is the M
+ * flag. Of the ring only marked is written.
  */
-uint64_t nscc_nack(uint64_t *state, size_t state_len, uint8_t *status, size_t status_len, const uint32_t *size, size_t size_len,
-                   const uint64_t *sent, size_t sent_len, const uint8_t *resent, size_t resent_len, uint64_t *evs, size_t evs_len,
-                   uint64_t time, uint32_t psn, uint32_t ev, uint32_t reason, bool marked, bool retx);
+uint64_t nscc_nack(uint64_t *state, size_t state_len, const uint64_t *outstanding, size_t outstanding_len,
+                   uint64_t *marked, size_t marked_len, const uint32_t *sizes, size_t sizes_len, const uint64_t *sent, size_t sent_len,
+                   uint64_t *evs, size_t evs_len, uint64_t time, uint32_t psn, uint32_t ev, uint32_t reason, bool m_flag, bool retx);
 
-/* A packet taken for lost: 2, 3, 23, 10, 11. Sizes, send times and resend counts are only read. */
-uint32_t nscc_loss(uint64_t *state, size_t state_len, uint8_t *status, size_t status_len, const uint32_t *size, size_t size_len,
-                   const uint64_t *sent, size_t sent_len, const uint8_t *resent, size_t resent_len, uint64_t *evs, size_t evs_len,
-                   uint64_t time, uint32_t psn, uint32_t ev);
+/* A packet taken for lost: 2, 3, 23, 10, 11. Of the ring only marked is written. */
+uint32_t nscc_loss(uint64_t *state, size_t state_len, const uint64_t *outstanding, size_t outstanding_len,
+                   uint64_t *marked, size_t marked_len, const uint32_t *sizes, size_t sizes_len, const uint64_t *sent, size_t sent_len,
+                   uint64_t *evs, size_t evs_len, uint64_t time, uint32_t psn, uint32_t ev);
 
 /* The next path: the number (2, 3) in the low 32 bits of the answer; above them the EV, 0 where it is refused. The ring and the EV times are only read. */
-uint64_t nscc_path(uint64_t *state, size_t state_len, const uint8_t *status, size_t status_len, const uint32_t *size, size_t size_len,
-                   const uint64_t *sent, size_t sent_len, const uint8_t *resent, size_t resent_len, const uint64_t *evs, size_t evs_len,
-                   uint64_t time);
+uint64_t nscc_path(uint64_t *state, size_t state_len, const uint64_t *outstanding, size_t outstanding_len,
+                   const uint64_t *marked, size_t marked_len, const uint32_t *sizes, size_t sizes_len,
+                   const uint64_t *sent, size_t sent_len, const uint64_t *evs, size_t evs_len, uint64_t time);
+
+/* What the ring shows of a PSN. */
+enum nscc_status {
+    NSCC_STATUS_NONE = 0,   /* it is not one of low..next-1 */
+    NSCC_STATUS_FLYING = 1, /* sent, and neither acknowledged nor taken for lost */
+    NSCC_STATUS_MARKED = 2, /* taken for lost, and waits to be sent again */
+    NSCC_STATUS_DONE = 3    /* acknowledged, while an older packet is not */
+};
+
+/*
+ * What the ring shows of a PSN: the number (2) in the low 32 bits of the answer; above them its
+ * status (nscc_status), 0 where it is refused. Nothing is written.
+ */
+uint64_t nscc_status(const uint64_t *state, size_t state_len, const uint64_t *outstanding, size_t outstanding_len,
+                     const uint64_t *marked, size_t marked_len, const uint32_t *sizes, size_t sizes_len,
+                     const uint64_t *sent, size_t sent_len, const uint64_t *evs, size_t evs_len, uint32_t psn);
+
+/*
+ * The first marked packet from a PSN on, that PSN included: the number (2) in the low 32 bits of the
+ * answer; above them the packet's PSN, 0 where it is refused. Where no packet from there up to
+ * next-1 is marked, or the PSN is not one of low..next-1, it is next. So the marked packets are met
+ * one after the other from low on, each time from the PSN behind the last one. Nothing is written.
+ */
+uint64_t nscc_next_marked(const uint64_t *state, size_t state_len, const uint64_t *outstanding, size_t outstanding_len,
+                          const uint64_t *marked, size_t marked_len, const uint32_t *sizes, size_t sizes_len,
+                          const uint64_t *sent, size_t sent_len, const uint64_t *evs, size_t evs_len, uint32_t psn);
 
 /* The words of a place in a log, all 0 at its start. */
 enum nscc_place {
@@ -210,8 +244,8 @@ enum nscc_place {
  * and stops the replay. A first record that is refused with 1 or 2 leaves the words of a state of
  * zeros.
  */
-uint32_t nscc_replay(uint64_t *place, size_t place_len, uint64_t *state, size_t state_len, uint8_t *status, size_t status_len,
-                     uint32_t *size, size_t size_len, uint64_t *sent, size_t sent_len, uint8_t *resent, size_t resent_len,
+uint32_t nscc_replay(uint64_t *place, size_t place_len, uint64_t *state, size_t state_len, uint64_t *outstanding, size_t outstanding_len,
+                     uint64_t *marked, size_t marked_len, uint32_t *sizes, size_t sizes_len, uint64_t *sent, size_t sent_len,
                      uint64_t *evs, size_t evs_len, const uint8_t *log, size_t log_len, uint64_t *answers, size_t answers_len);
 
 /* The words of a log that comes in chunks, all 0 at its start. */
@@ -249,8 +283,8 @@ enum nscc_part {
  * by nscc_replay.
  */
 uint32_t nscc_chunk(uint64_t *part, size_t part_len, uint8_t *piece, size_t piece_len, uint64_t *state, size_t state_len,
-                    uint8_t *status, size_t status_len, uint32_t *size, size_t size_len, uint64_t *sent, size_t sent_len,
-                    uint8_t *resent, size_t resent_len, uint64_t *evs, size_t evs_len, const uint8_t *chunk, size_t chunk_len, bool ended,
+                    uint64_t *outstanding, size_t outstanding_len, uint64_t *marked, size_t marked_len, uint32_t *sizes, size_t sizes_len,
+                    uint64_t *sent, size_t sent_len, uint64_t *evs, size_t evs_len, const uint8_t *chunk, size_t chunk_len, bool ended,
                     uint64_t *answers, size_t answers_len);
 
 #ifdef __cplusplus

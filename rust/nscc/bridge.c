@@ -10,14 +10,14 @@
 #include <stdlib.h>
 #include <string.h>
 
-enum function { SET_UP, NEW_DATA, SEND, ACK, NACK, LOSS, PATH, REPLAY, CHUNK };
+enum function { SET_UP, NEW_DATA, SEND, ACK, NACK, LOSS, PATH, REPLAY, CHUNK, STATUS, NEXT_MARKED };
 
 /* First are the settings of setting up, the place of a replay, or the part of a log in chunks; the log may be a chunk of one. */
-enum array { FIRST, STATE, STATUS, SIZE, SENT, RESENT, EVS, ANSWERS, PIECE, LOG, ARRAYS };
+enum array { FIRST, STATE, OUTSTANDING, MARKED, SIZES, SENT, EVS, ANSWERS, PIECE, LOG, ARRAYS };
 
 enum { ARGUMENTS = 9, FENCE = 64, ODD = 0xa5 };
 
-static const size_t width[ARRAYS] = {8, 8, 1, 4, 8, 1, 8, 8, 1, 1};
+static const size_t width[ARRAYS] = {8, 8, 8, 8, 4, 8, 8, 8, 1, 1};
 
 struct request {
     uint64_t function;
@@ -64,7 +64,7 @@ static bool whole(size_t array, size_t bytes)
 }
 
 #define LENT(array) (void *)(fenced[array] + FENCE), n[array]
-#define CONTEXT LENT(STATE), LENT(STATUS), LENT(SIZE), LENT(SENT), LENT(RESENT), LENT(EVS)
+#define CONTEXT LENT(STATE), LENT(OUTSTANDING), LENT(MARKED), LENT(SIZES), LENT(SENT), LENT(EVS)
 
 static uint64_t call(const struct request *request)
 {
@@ -88,6 +88,10 @@ static uint64_t call(const struct request *request)
         return nscc_replay(LENT(FIRST), CONTEXT, LENT(LOG), LENT(ANSWERS));
     case CHUNK:
         return nscc_chunk(LENT(FIRST), LENT(PIECE), CONTEXT, LENT(LOG), a[0], LENT(ANSWERS));
+    case STATUS:
+        return nscc_status(CONTEXT, a[0]);
+    case NEXT_MARKED:
+        return nscc_next_marked(CONTEXT, a[0]);
     default:
         exit(1);
     }

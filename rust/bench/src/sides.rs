@@ -45,9 +45,9 @@ pub fn set_up_model(model: &mut Model, settings: &Settings) {
 pub fn assert_alike(context: &Context, model: &Model) {
     let memory = &model.memory;
     assert_eq!(context.words, words_of(&model.state));
-    assert_eq!(context.status, memory.status);
-    assert_eq!(context.size, memory.size);
+    assert_eq!(context.outstanding, memory.outstanding);
+    assert_eq!(context.marked, memory.marked);
+    assert_eq!(context.sizes, memory.sizes);
     assert_eq!(context.sent, memory.sent);
-    assert_eq!(context.resent, memory.resent);
     assert_eq!(context.evs, memory.ev_times);
 }

@@ -31,6 +31,14 @@ pub enum Call {
     Path {
         time: u64,
     },
+    /// What the ring shows of a PSN.
+    Status {
+        psn: u32,
+    },
+    /// The first marked PSN from this one on.
+    NextMarked {
+        psn: u32,
+    },
 }
 
 impl Call {
@@ -43,7 +51,8 @@ impl Call {
         }
     }
 
-    /// Calls the C function: the number in the low 32 bits, an EV or a sample's number above them.
+    /// Calls the C function: the number in the low 32 bits, an EV, a sample's number or what the ring
+    /// shows above them.
     pub fn ask(&self, lent: &mut Lent) -> u64 {
         let number = match self {
             Call::SetUp {
@@ -63,15 +72,17 @@ impl Call {
             Call::Nack(nack) => return lent.nack(nack),
             Call::Loss { time, psn, ev } => lent.loss(*time, *psn, *ev),
             Call::Path { time } => return lent.path(*time),
+            Call::Status { psn } => return lent.show().status(*psn),
+            Call::NextMarked { psn } => return lent.show().next_marked(*psn),
         };
         number.into()
     }
 
-    /// The model's event; `None` for setting up. The model's EVs and reasons are narrower: a wider
-    /// one is handed to it as its widest, which it refuses alike.
+    /// The model's event; `None` for setting up and for readings. The model's EVs and reasons are
+    /// narrower: a wider one is handed to it as its widest, which it refuses alike.
     pub fn event(&self) -> Option<Event> {
         let event = match *self {
-            Call::SetUp { .. } => return None,
+            Call::SetUp { .. } | Call::Status { .. } | Call::NextMarked { .. } => return None,
             Call::NewData { time, bytes } => NewData { time, bytes }.into(),
             Call::Send {
                 time,
@@ -163,13 +174,40 @@ fn narrow_ev(ev: u32) -> u16 {
     ev.try_into().unwrap_or(u16::MAX)
 }
 
+/// What the model answers to a call.
+#[derive(Clone, Copy, Debug, PartialEq, Eq)]
+pub struct Answer {
+    pub outcome: Outcome,
+    /// What a reading shows: a status' number, 0 for none, or a PSN.
+    pub shown: Option<u32>,
+}
+
+impl From<Outcome> for Answer {
+    fn from(outcome: Outcome) -> Answer {
+        Answer {
+            outcome,
+            shown: None,
+        }
+    }
+}
+
+impl Answer {
+    /// As the C functions answer it.
+    pub fn word(self) -> u64 {
+        let Outcome {
+            number,
+            ev,
+            sampling,
+        } = self.outcome;
+        let sample = sampling.map(|sampling| sample_of(sampling).number().into());
+        let above = self.shown.or(ev.map(u32::from)).or(sample).unwrap_or(0);
+        u64::from(number) | u64::from(above) << 32
+    }
+}
+
 /// The model's outcome as the C functions answer it.
 pub fn answer_of(outcome: Outcome) -> u64 {
-    let sample = outcome
-        .sampling
-        .map(|sampling| sample_of(sampling).number().into());
-    let above = outcome.ev.or(sample).unwrap_or(0);
-    u64::from(outcome.number) | u64::from(above) << 32
+    Answer::from(outcome).word()
 }
 
 fn sample_of(sampling: Sampling) -> Sample {

@@ -4,6 +4,7 @@ use crate::call::Call;
 use crate::numbers::{edge, least_base};
 use crate::source::{Source, View};
 use model::bounds::{BACKLOG_MAX, COUNT_END, IN_FLIGHT_MIN, PSN_REACH, TIME_END, UNIT};
+use model::lent::size_of;
 use nscc::{Ack, Nack};
 
 impl Source {
@@ -59,7 +60,7 @@ impl Source {
 
     pub(crate) fn edge_psn(&mut self, view: &View) -> u32 {
         let (low, next) = (view.state.low, view.state.next);
-        let inside = low.wrapping_add(self.rng.below(u64::from(view.outstanding()) + 1) as u32);
+        let inside = low.wrapping_add(self.rng.below(u64::from(view.span()) + 1) as u32);
         self.rng.pick(&[
             low.wrapping_sub(1),
             low,
@@ -93,7 +94,8 @@ impl Source {
         let psn = self.edge_psn(view);
         let next = view.state.next;
         let psn = self.rng.pick(&[psn, psn, next, next]);
-        let held = view.memory.size[view.slot(psn)];
+        let number = view.memory.sizes[view.slot(psn)];
+        let held = size_of(number);
         let sizes = [
             0,
             40,
@@ -105,6 +107,8 @@ impl Source {
             held,
             held,
             held + 1,
+            number,
+            held + (1 << 16),
             u32::MAX,
         ];
         Call::Send {
@@ -116,7 +120,10 @@ impl Source {
     }
 
     fn edge_ack(&mut self, view: &View, time: u64) -> Ack {
-        let cum = self.edge_psn(view);
+        // From below low the map still reaches into the ledger.
+        let below = view.state.low.wrapping_sub(self.rng.below(70) as u32);
+        let edge = self.edge_psn(view);
+        let cum = self.rng.pick(&[edge, edge, below]);
         let map = self.edge_map(view.state.next.wrapping_sub(1).wrapping_sub(cum));
         let any = self.edge_psn(view);
         let trigger = self.rng.pick(&[

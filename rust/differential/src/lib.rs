@@ -18,7 +18,7 @@ mod spoil;
 mod tally;
 mod words;
 
-pub use call::{answer_of, Call};
+pub use call::{answer_of, Answer, Call};
 pub use kinds::text::program;
 pub use kinds::Kind;
 pub use profile::GOOD;

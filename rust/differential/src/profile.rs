@@ -11,6 +11,8 @@ pub struct Profile {
     pub weights: [u64; 7],
     /// One call in so many has fields at and beyond their edges; 0 is none.
     pub edges: u64,
+    /// One call in so many reads the ring; 0 is none.
+    pub reads: u64,
     /// Of eight ACKs so many have the M flag.
     pub marked: u64,
     /// Packets of the smallest size, so that the ring is full before the window.
@@ -25,6 +27,7 @@ const MIXED: Profile = Profile {
     name: "mixed",
     weights: [4, 30, 8, 30, 2, 2, 6],
     edges: 12,
+    reads: 8,
     marked: 3,
     small: false,
     window: 0,
@@ -36,6 +39,7 @@ pub const GOOD: Profile = Profile {
     name: "good",
     weights: [4, 40, 20, 40, 1, 1, 10],
     edges: 0,
+    reads: 0,
     marked: 2,
     window: 30,
     ..MIXED

@@ -1,22 +1,22 @@
 //! A list of calls from a start on, compared after every call.
 
-use crate::call::{answer_of, Call};
+use crate::call::{Answer, Call};
 use crate::shorten::thin;
 use crate::sides::{Model, Ours};
 use crate::tally::Tally;
-use model::Outcome;
+use model::lent::{bit, resends_of, size_of, WORD};
 use std::fmt::Write;
 
 /// Both sides answer the call; then all that was lent is compared.
-fn compare_call(ours: &mut Ours, model: &mut Model, call: &Call) -> Result<Outcome, String> {
+fn compare_call(ours: &mut Ours, model: &mut Model, call: &Call) -> Result<Answer, String> {
     let our_answer = call.ask(&mut ours.lend());
-    let outcome = model.answer(call);
-    let answer = answer_of(outcome);
-    if our_answer != answer {
-        return Err(format!("answered {our_answer:#x}, the model {answer:#x}"));
+    let answer = model.answer(call);
+    let models = answer.word();
+    if our_answer != models {
+        return Err(format!("answered {our_answer:#x}, the model {models:#x}"));
     }
     ours.compare(model)?;
-    Ok(outcome)
+    Ok(answer)
 }
 
 /// Calls made so far from a start.
@@ -38,14 +38,14 @@ impl Session {
     }
 
     /// What both answer, or what differs with the shortest list of calls that shows it.
-    pub fn call(&mut self, call: Call, tally: &mut Tally) -> Result<Outcome, String> {
+    pub fn call(&mut self, call: Call, tally: &mut Tally) -> Result<Answer, String> {
         self.calls.push(call);
         let call = &self.calls[self.calls.len() - 1];
         let before = Tally::before(call, &self.model);
         match compare_call(&mut self.ours, &mut self.model, call) {
-            Ok(outcome) => {
-                tally.note(outcome, &before, &self.model);
-                Ok(outcome)
+            Ok(answer) => {
+                tally.note(call, answer, &before, &self.model);
+                Ok(answer)
             }
             Err(difference) => Err(self.report(&difference)),
         }
@@ -83,10 +83,10 @@ fn first_difference(start: &Model, calls: &[Call]) -> Option<String> {
 fn describe(start: &Model, report: &mut String) {
     let memory = &start.memory;
     let lengths = [
-        memory.status.len(),
-        memory.size.len(),
+        memory.outstanding.len(),
+        memory.marked.len(),
+        memory.sizes.len(),
         memory.sent.len(),
-        memory.resent.len(),
         memory.ev_times.len(),
     ];
     let _ = writeln!(
@@ -94,11 +94,25 @@ fn describe(start: &Model, report: &mut String) {
         "start: words {:?}\nlengths {lengths:?}",
         start.words
     );
-    list("status", &memory.status, report);
-    list("size", &memory.size, report);
+    list_slots("outstanding", &memory.outstanding, report);
+    list_slots("marked", &memory.marked, report);
+    let sizes: Vec<(u32, u32)> = memory
+        .sizes
+        .iter()
+        .map(|&n| (size_of(n), resends_of(n)))
+        .collect();
+    list("sizes and resend counts", &sizes, report);
     list("sent", &memory.sent, report);
-    list("resent", &memory.resent, report);
     list("EV times", &memory.ev_times, report);
+}
+
+/// The slots whose bits are set.
+fn list_slots(name: &str, words: &[u64], report: &mut String) {
+    let all = 0..WORD * words.len();
+    let set: Vec<usize> = all.filter(|&slot| bit(words, slot)).collect();
+    if !set.is_empty() {
+        let _ = writeln!(report, "{name} slots {set:?}");
+    }
 }
 
 fn list<T: Copy + Default + PartialEq + std::fmt::Debug>(

@@ -1,6 +1,6 @@
 //! The two sides of a comparison: the model's, and the memory that the C functions are lent.
 
-use crate::call::Call;
+use crate::call::{Answer, Call};
 use crate::words::{state_of, words_of};
 use model::{Memory, Outcome, Refusal, Settings, State};
 use nscc::raw::Lent;
@@ -43,7 +43,29 @@ impl Model {
         state.is_some_and(|state| model::number_two(&state, &self.memory.lend()))
     }
 
-    pub fn answer(&mut self, call: &Call) -> Outcome {
+    pub fn answer(&mut self, call: &Call) -> Answer {
+        match *call {
+            Call::Status { psn } => self.read(|state, lent| {
+                let status = state.status(lent, psn)?;
+                Ok(status.map_or(0, |status| status.number().into()))
+            }),
+            Call::NextMarked { psn } => self.read(|state, lent| state.next_marked(lent, psn)),
+            _ => self.take(call).into(),
+        }
+    }
+
+    fn read(&mut self, show: impl FnOnce(&State, &model::Lent) -> Result<u32, Refusal>) -> Answer {
+        let state = self.state().ok_or(Refusal::NotTogether);
+        match state.and_then(|state| show(&state, &self.memory.lend())) {
+            Ok(shown) => Answer {
+                outcome: Outcome::default(),
+                shown: Some(shown),
+            },
+            Err(refusal) => Outcome::from(refusal.number()).into(),
+        }
+    }
+
+    fn take(&mut self, call: &Call) -> Outcome {
         let Some(event) = call.event() else {
             return self.set_up(call).into();
         };
@@ -130,10 +152,10 @@ impl<T: Copy + PartialEq> Fenced<T> {
 /// The memory that the C functions are lent.
 pub struct Ours {
     words: Fenced<u64>,
-    status: Fenced<u8>,
-    size: Fenced<u32>,
+    outstanding: Fenced<u64>,
+    marked: Fenced<u64>,
+    sizes: Fenced<u32>,
     sent: Fenced<u64>,
-    resent: Fenced<u8>,
     evs: Fenced<u64>,
 }
 
@@ -142,10 +164,10 @@ impl Ours {
         let memory = &model.memory;
         Ours {
             words: Fenced::new(&model.words, ODD),
-            status: Fenced::new(&memory.status, ODD as u8),
-            size: Fenced::new(&memory.size, ODD as u32),
+            outstanding: Fenced::new(&memory.outstanding, ODD),
+            marked: Fenced::new(&memory.marked, ODD),
+            sizes: Fenced::new(&memory.sizes, ODD as u32),
             sent: Fenced::new(&memory.sent, ODD),
-            resent: Fenced::new(&memory.resent, ODD as u8),
             evs: Fenced::new(&memory.ev_times, ODD),
         }
     }
@@ -153,10 +175,10 @@ impl Ours {
     pub fn lend(&mut self) -> Lent<'_> {
         Lent {
             words: self.words.inner_mut(),
-            status: self.status.inner_mut(),
-            size: self.size.inner_mut(),
+            outstanding: self.outstanding.inner_mut(),
+            marked: self.marked.inner_mut(),
+            sizes: self.sizes.inner_mut(),
             sent: self.sent.inner_mut(),
-            resent: self.resent.inner_mut(),
             evs: self.evs.inner_mut(),
         }
     }
@@ -179,16 +201,16 @@ impl Ours {
     }
 
     fn compare_memory(&self, memory: &Memory) -> Result<(), String> {
-        same("status", self.status.inner(), &memory.status)?;
-        same("size", self.size.inner(), &memory.size)?;
+        same_bits("outstanding", self.outstanding.inner(), &memory.outstanding)?;
+        same_bits("marked", self.marked.inner(), &memory.marked)?;
+        same("sizes", self.sizes.inner(), &memory.sizes)?;
         same("sent", self.sent.inner(), &memory.sent)?;
-        same("resent", self.resent.inner(), &memory.resent)?;
         same("EV time", self.evs.inner(), &memory.ev_times)?;
         let whole = self.words.whole()
-            && self.status.whole()
-            && self.size.whole()
+            && self.outstanding.whole()
+            && self.marked.whole()
+            && self.sizes.whole()
             && self.sent.whole()
-            && self.resent.whole()
             && self.evs.whole();
         if whole {
             Ok(())
@@ -206,6 +228,16 @@ pub fn same<T: Copy + PartialEq + std::fmt::Debug>(
     match difference(ours, model) {
         None => Ok(()),
         Some((i, ours, model)) => Err(format!("{name} {i}: {ours:?}, the model's {model:?}")),
+    }
+}
+
+/// The same, with words of bits as such.
+fn same_bits(name: &str, ours: &[u64], model: &[u64]) -> Result<(), String> {
+    match difference(ours, model) {
+        None => Ok(()),
+        Some((i, ours, model)) => Err(format!(
+            "{name} {i}: {ours:#018x}, the model's {model:#018x}"
+        )),
     }
 }
 

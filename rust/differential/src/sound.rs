@@ -7,8 +7,8 @@ use model::bounds::{
     AVG_MAX, BACKLOG_MAX, COUNT_END, INC_BYTES_MAX, IN_FLIGHT_MIN, LATER_END, SIZE_MIN, TALLY_MAX,
     TIME_END,
 };
-use model::lent::{DONE, FLYING, MARKED};
-use model::{Memory, Name, Rng, State};
+use model::lent::{bit, number_of, set_bit, size_of, WORD};
+use model::{Memory, Name, Rng, State, Status};
 
 /// A state with a ring of this capacity.
 pub fn sound(rng: &mut Rng, capacity: usize) -> Model {
@@ -93,36 +93,68 @@ fn set_times(rng: &mut Rng, state: &mut State) {
     };
 }
 
-/// Fills the ring.
+/// Fills the ring: often all of it, or all but a few slots.
 fn set_ring(rng: &mut Rng, state: &mut State, memory: &mut Memory) {
-    let capacity = memory.status.len() as u64;
-    let many = match rng.below(4) {
+    use Status::{Done, Flying, Marked};
+    let capacity = memory.sizes.len() as u64;
+    let many = match rng.below(6) {
         0 => rng.below(4),
         1 => within(rng, 0, capacity),
+        2 => capacity - rng.pick(&[0, 0, 1, 2]),
+        3 => capacity - rng.below(capacity.min(70)),
         _ => rng.below(capacity.min(100)),
     };
-    state.low = first_psn(rng);
+    state.low = low(rng, capacity);
     state.next = state.low.wrapping_add(many as u32);
-    let mixes: [&[u8]; 4] = [
-        &[FLYING],
-        &[FLYING, FLYING, MARKED, DONE],
-        &[FLYING, DONE, DONE, DONE],
-        &[MARKED, MARKED, FLYING, DONE],
+    let mixes: [&[Status]; 4] = [
+        &[Flying],
+        &[Flying, Flying, Marked, Done],
+        &[Flying, Done, Done, Done],
+        &[Marked, Marked, Flying, Done],
     ];
     let mix = rng.pick(&mixes);
+    // Where a mix is seldom, low passes whole words, and the next marked packet is words away.
+    let (seldom, mostly) = (rng.pick(&[1, 1, 8, 100]), rng.pick(&[Flying, Done]));
     for i in 0..many {
-        let slot = (u64::from(state.low) + i) as usize % memory.status.len();
-        let status = rng.pick(mix);
-        let status = if i == 0 && status == DONE {
-            FLYING
+        let slot = (u64::from(state.low) + i) as usize % memory.sizes.len();
+        let mixed = rng.pick(mix);
+        let status = if rng.one_in(seldom) { mixed } else { mostly };
+        // Low is not done.
+        let status = if i == 0 && status == Done {
+            Flying
         } else {
             status
         };
+        put_marks(memory, slot, status);
         let size = within(rng, SIZE_MIN.into(), state.settings.mtu);
-        memory.status[slot] = status;
-        memory.size[slot] = size as u32;
+        memory.sizes[slot] = number_of(size as u32, rng.pick(&[0, 0, 0, 1, 1, 2]));
         memory.sent[slot] = sent(rng, state);
-        memory.resent[slot] = rng.pick(&[0, 0, 0, 1, 1, 2]);
+    }
+}
+
+/// The marks of an empty slot.
+fn put_marks(memory: &mut Memory, slot: usize, status: Status) {
+    if status != Status::Done {
+        set_bit(&mut memory.outstanding, slot);
+    }
+    if status == Status::Marked {
+        set_bit(&mut memory.marked, slot);
+    }
+}
+
+/// Any PSN, one at or beside a word's start, one from which packets go around the ring's end, or one
+/// from which they go around 2^32 too.
+fn low(rng: &mut Rng, capacity: u64) -> u32 {
+    let any = first_psn(rng);
+    let back = rng.below(capacity.min(130)) as u32;
+    match rng.below(5) {
+        0 => (any & !63)
+            .wrapping_sub(1)
+            .wrapping_add(rng.below(3) as u32),
+        1 => (any & !(capacity as u32 - 1)).wrapping_sub(back),
+        2 => 0u32.wrapping_sub(back),
+        3 => 0u32.wrapping_sub(rng.below(capacity) as u32),
+        _ => any,
     }
 }
 
@@ -187,13 +219,17 @@ fn set_ev_times(rng: &mut Rng, state: &State, memory: &mut Memory) {
 
 /// Makes totals and name those that number 2 asks for.
 pub fn settle(state: &mut State, memory: &Memory) {
-    let with = |status: u8| {
-        let slots = memory.status.iter().zip(&memory.size);
-        slots.filter(move |(&held, _)| held == status)
-    };
-    state.flying = with(FLYING).count() as u64;
-    state.marked = with(MARKED).count() as u64;
-    state.marked_bytes = with(MARKED).map(|(_, &size)| u64::from(size)).sum();
+    let words = memory.outstanding.iter().zip(&memory.marked);
+    let flying = words.map(|(outstanding, marked)| (outstanding & !marked).count_ones());
+    state.flying = flying.map(u64::from).sum();
+    let marked = memory.marked.iter().map(|word| word.count_ones());
+    state.marked = marked.map(u64::from).sum();
+    // A length may be spoilt.
+    let slots = 0..memory.sizes.len().min(WORD * memory.marked.len());
+    let marked = slots.filter(|&slot| bit(&memory.marked, slot));
+    state.marked_bytes = marked
+        .map(|slot| u64::from(size_of(memory.sizes[slot])))
+        .sum();
     let nothing_to_send = state.backlog == 0 && state.marked == 0;
     let needed = i128::from(state.in_flight) + i128::from(state.settings.mtu);
     state.name = match state.flying {

@@ -5,8 +5,8 @@ use crate::numbers::{beside, least_base};
 use crate::profile::Profile;
 use crate::sides::Model;
 use model::bounds::{COUNT_END, SIZE_MIN, TIME_END, UNIT};
-use model::lent::{FLYING, MARKED};
-use model::{Memory, Rng, State};
+use model::lent::{bit, resends_of, size_of};
+use model::{Memory, Rng, State, Status};
 use nscc::{Ack, Nack};
 
 /// A sound state and its ring, to choose fields by.
@@ -17,10 +17,11 @@ pub struct View<'a> {
 
 impl View<'_> {
     pub fn capacity(&self) -> usize {
-        self.memory.status.len()
+        self.memory.sizes.len()
     }
 
-    pub fn outstanding(&self) -> u32 {
+    /// How many PSNs low..next-1 has.
+    pub fn span(&self) -> u32 {
         self.state.next.wrapping_sub(self.state.low)
     }
 
@@ -32,28 +33,45 @@ impl View<'_> {
         psn as usize % self.capacity()
     }
 
+    /// The status of a PSN of low..next-1.
+    fn status(&self, psn: u32) -> Status {
+        let slot = self.slot(psn);
+        let Memory {
+            outstanding,
+            marked,
+            ..
+        } = self.memory;
+        Status::of(bit(outstanding, slot), bit(marked, slot))
+    }
+
+    fn size(&self, psn: u32) -> u32 {
+        size_of(self.memory.sizes[self.slot(psn)])
+    }
+
+    fn resends(&self, psn: u32) -> u32 {
+        resends_of(self.memory.sizes[self.slot(psn)])
+    }
+
     /// Bytes of the flying packets that an ACK does not cover.
     fn flying_behind(&self, cum: u32, map: u64) -> i64 {
         let from = cum.wrapping_add(1);
-        let many = self.state.next.wrapping_sub(from).min(self.outstanding());
+        let many = self.state.next.wrapping_sub(from).min(self.span());
         let after = (0..many).map(|i| self.state.next.wrapping_sub(many - i));
         let flying = after.filter(|&psn| {
             let bit = psn.wrapping_sub(from);
             let covered = bit < u64::BITS && map >> bit & 1 == 1;
-            !covered && self.memory.status[self.slot(psn)] == FLYING
+            !covered && self.status(psn) == Status::Flying
         });
-        flying
-            .map(|psn| i64::from(self.memory.size[self.slot(psn)]))
-            .sum()
+        flying.map(|psn| i64::from(self.size(psn))).sum()
     }
 
     /// A packet of one of these statuses, from a random one on.
-    fn packet(&self, rng: &mut Rng, statuses: &[u8]) -> Option<u32> {
-        let many = self.outstanding();
+    fn packet(&self, rng: &mut Rng, statuses: &[Status]) -> Option<u32> {
+        let many = self.span();
         let from = rng.below(many.into()) as u32;
         (0..many)
             .map(|i| self.state.low.wrapping_add((from + i) % many))
-            .find(|&psn| statuses.contains(&self.memory.status[self.slot(psn)]))
+            .find(|&psn| statuses.contains(&self.status(psn)))
     }
 }
 
@@ -71,7 +89,9 @@ impl Source {
         };
         let memory = &model.memory;
         let view = View { state, memory };
-        if self.profile.edges > 0 && self.rng.one_in(self.profile.edges) {
+        if self.profile.reads > 0 && self.rng.one_in(self.profile.reads) {
+            self.reading(&view)
+        } else if self.profile.edges > 0 && self.rng.one_in(self.profile.edges) {
             self.edge_call(&view)
         } else {
             self.good_call(&view)
@@ -88,6 +108,19 @@ impl Source {
             4 => self.nack(view, time),
             5 => self.loss(view, time),
             _ => Call::Path { time },
+        }
+    }
+
+    /// What the ring shows of a packet, or of a PSN at or beyond its edges.
+    fn reading(&mut self, view: &View) -> Call {
+        let edge = self.edge_psn(view);
+        let inside = self.rng.below(view.span().into()) as u32;
+        let inside = view.state.low.wrapping_add(inside);
+        let psn = self.rng.pick(&[edge, inside, inside]);
+        if self.rng.one_in(2) {
+            Call::Status { psn }
+        } else {
+            Call::NextMarked { psn }
         }
     }
 
@@ -154,38 +187,36 @@ impl Source {
     }
 
     fn resend(&mut self, view: &View, time: u64) -> Call {
-        let Some(psn) = view.packet(&mut self.rng, &[MARKED]) else {
+        let Some(psn) = view.packet(&mut self.rng, &[Status::Marked]) else {
             return self.new_packet(view, time);
         };
         Call::Send {
             time,
             psn,
-            bytes: view.memory.size[view.slot(psn)],
+            bytes: view.size(psn),
             resend: true,
         }
     }
 
     fn nack(&mut self, view: &View, time: u64) -> Call {
-        let Some(psn) = view.packet(&mut self.rng, &[FLYING]) else {
+        let Some(psn) = view.packet(&mut self.rng, &[Status::Flying]) else {
             return self.new_packet(view, time);
         };
-        let slot = view.slot(psn);
-        let resent = view.memory.resent[slot];
         // Seldom sooner than a round trip: the base never rises again, and the window needs it.
         let soon = self.rng.one_in(8);
-        let due = view.memory.sent[slot] + if soon { 0 } else { self.trip(view) };
+        let due = view.memory.sent[view.slot(psn)] + if soon { 0 } else { self.trip(view) };
         Call::Nack(Nack {
             time: time.max(due).min(TIME_END - 1),
             psn,
             ev: self.ev(view),
             reason: self.rng.below(3) as u32,
             marked: self.rng.below(8) < self.profile.marked,
-            retx: (resent == 1) != self.rng.one_in(8),
+            retx: (view.resends(psn) == 1) != self.rng.one_in(8),
         })
     }
 
     fn loss(&mut self, view: &View, time: u64) -> Call {
-        let Some(psn) = view.packet(&mut self.rng, &[FLYING]) else {
+        let Some(psn) = view.packet(&mut self.rng, &[Status::Flying]) else {
             return self.new_packet(view, time);
         };
         let ev = self.ev(view);
@@ -199,11 +230,10 @@ impl Source {
     /// An ACK whose delay lies at one of the places where the rules change: the time is late enough
     /// for it, and the service takes up the rest.
     pub fn ack(&mut self, view: &View, time: u64) -> Ack {
-        let trigger = view.packet(&mut self.rng, &[FLYING, MARKED]);
+        let trigger = view.packet(&mut self.rng, &[Status::Flying, Status::Marked]);
         let trigger = trigger.unwrap_or(view.state.low.wrapping_sub(1));
-        let slot = view.slot(trigger);
         let trip = self.trip(view);
-        let due = view.memory.sent[slot] + trip;
+        let due = view.memory.sent[view.slot(trigger)] + trip;
         let time = time.max(due).min(TIME_END - 1);
         let (cum, map) = self.cover(view, trigger);
         Ack {
@@ -215,7 +245,7 @@ impl Source {
             service: time.saturating_sub(due).try_into().unwrap_or(0),
             ev: self.ev(view),
             marked: self.rng.below(8) < self.profile.marked,
-            retx: (view.memory.resent[slot] == 1) != self.rng.one_in(16),
+            retx: (view.resends(trigger) == 1) != self.rng.one_in(16),
         }
     }
 
@@ -259,9 +289,13 @@ impl Source {
         let behind = trigger.wrapping_sub(view.state.low).min(63);
         let up = self.rng.below(u64::from(ahead) + 1) as u32;
         let down = 1 + self.rng.below(u64::from(behind) + 1) as u32;
-        let cum = match self.rng.below(4) {
-            0 => trigger,
-            1 => trigger.wrapping_add(up.min(8)),
+        let further = 1 + self.rng.below(64) as u32;
+        let cum = match self.rng.below(8) {
+            0 | 1 => trigger,
+            2 => trigger.wrapping_add(up.min(8)),
+            3 => trigger.wrapping_add(up),
+            // Often below low.
+            4 => trigger.wrapping_sub(further),
             _ => trigger.wrapping_sub(down),
         };
         let back = last.wrapping_sub(cum);

@@ -4,11 +4,11 @@ use crate::numbers::{any_ev_count, instead_of, least_base, lent_evs};
 use crate::sides::Model;
 use crate::sound::settle;
 use model::bounds::{
-    AVG_MAX, BACKLOG_MAX, COUNT_END, EVS_MAX, EVS_MIN, INC_BYTES_MAX, LATER_END, RESENT_MAX,
+    AVG_MAX, BACKLOG_MAX, COUNT_END, EVS_MAX, EVS_MIN, INC_BYTES_MAX, LATER_END, RESENDS_MAX,
     SIZE_MIN, TALLY_MAX, TIME_END,
 };
-use model::lent::{DONE, FLYING, MARKED};
-use model::{Rng, Settings, State};
+use model::lent::{clear_bit, number_of, resends_of, set_bit, size_of, WORD};
+use model::{Memory, Rng, Settings, State};
 use nscc::{Word, IN_FLIGHT_ADDED, WORDS};
 
 /// A word, an element or a length. Often totals and name are then made to agree with it, so that
@@ -84,41 +84,67 @@ fn most_cwnd(state: &State) -> u64 {
     }
 }
 
-/// An element of the ring or an EV time. Most are in the part of the ring that is used.
+/// An element of the ring or an EV time. Most are in the part of the ring that is used, or beside it.
 fn spoil_element(rng: &mut Rng, model: &mut Model, state: &State) {
     let memory = &mut model.memory;
+    let (low, next) = (u64::from(state.low), u64::from(state.next));
     let used = u64::from(state.next.wrapping_sub(state.low)) + 2;
     let near = u64::from(state.low.wrapping_sub(1)) + rng.below(used);
     let any = rng.next_u64();
-    let at = rng.pick(&[near, near, state.low.into(), any]);
+    let [before, last] = [low, next].map(|psn| psn.wrapping_sub(1));
+    let at = rng.pick(&[near, near, near, low, before, last, next, any]);
     let strange = |rng: &mut Rng, number: u64, edges: [u64; 4]| {
         let any = instead_of(rng, number);
         let edge = rng.pick(&edges);
         rng.pick(&[any, edge])
     };
-    let (flying, marked, done) = (FLYING.into(), MARKED.into(), DONE.into());
     let (most, clock) = (state.settings.mtu, state.clock);
     // Something may be spoilt already.
     let (over, later) = (most.wrapping_add(1), clock.wrapping_add(1));
     let least = u64::from(SIZE_MIN);
-    let again = u64::from(RESENT_MAX);
+    let again = u64::from(RESENDS_MAX);
     let late = LATER_END;
-    match rng.below(6) {
-        0 | 1 => change(&mut memory.status, at, |n| {
-            strange(rng, n.into(), [flying, marked, done, done + 1]) as u8
+    match rng.below(8) {
+        0..=2 => spoil_marks(rng, memory, at),
+        3 => change(&mut memory.sizes, at, |n| {
+            let size = strange(rng, size_of(n).into(), [least - 1, least, most, over]);
+            number_of((size as u16).into(), resends_of(n))
         }),
-        2 => change(&mut memory.size, at, |n| {
-            strange(rng, n.into(), [least - 1, least, most, over]) as u32
+        4 => change(&mut memory.sizes, at, |n| {
+            let resends = strange(rng, resends_of(n).into(), [0, again, again + 1, 65_535]);
+            number_of(size_of(n), (resends as u16).into())
         }),
-        3 => change(&mut memory.sent, at, |n| {
+        5 => change(&mut memory.sizes, at, |n| {
+            strange(rng, n.into(), [0, 1, 1 << 16, u32::MAX.into()]) as u32
+        }),
+        6 => change(&mut memory.sent, at, |n| {
             strange(rng, n, [0, clock, later, TIME_END])
-        }),
-        4 => change(&mut memory.resent, at, |n| {
-            strange(rng, n.into(), [0, again, again + 1, 255]) as u8
         }),
         _ => change(&mut memory.ev_times, any, |n| {
             strange(rng, n, [0, late - 1, late, u64::MAX])
         }),
+    }
+}
+
+/// A single bit flipped, or a slot marked that is not outstanding, or that holds no packet.
+fn spoil_marks(rng: &mut Rng, memory: &mut Memory, at: u64) {
+    let words = memory.outstanding.len().min(memory.marked.len());
+    if words == 0 {
+        return;
+    }
+    let slot = (at % (WORD * words) as u64) as usize;
+    let (word, bit) = (slot / WORD, 1 << (slot % WORD));
+    match rng.below(4) {
+        0 => memory.outstanding[word] ^= bit,
+        1 => memory.marked[word] ^= bit,
+        2 => {
+            clear_bit(&mut memory.outstanding, slot);
+            set_bit(&mut memory.marked, slot);
+        }
+        _ => {
+            set_bit(&mut memory.outstanding, slot);
+            set_bit(&mut memory.marked, slot);
+        }
     }
 }
 
@@ -146,36 +172,55 @@ fn spoil_evs(rng: &mut Rng, model: &mut Model) {
 /// One slice longer or shorter, or the whole ring of a capacity that none has.
 pub fn spoil_length(rng: &mut Rng, model: &mut Model) {
     let memory = &mut model.memory;
-    let capacity = memory.status.len();
-    let lengths = [
-        0,
-        1,
-        capacity / 2,
-        capacity.saturating_sub(1),
-        capacity + 1,
-        2 * capacity,
-    ];
-    let length = rng.pick(&lengths);
-    match rng.below(7) {
-        0 => memory.status.resize(length, 0),
-        1 => memory.size.resize(length, 0),
-        2 => memory.sent.resize(length, 0),
-        3 => memory.resent.resize(length, 0),
+    let (words, numbers) = (memory.outstanding.len(), memory.sizes.len());
+    match rng.below(9) {
+        0 => memory.outstanding.resize(other_length(rng, words), 0),
+        1 => memory.marked.resize(other_length(rng, words), 0),
+        2 => memory.sizes.resize(other_length(rng, numbers), 0),
+        3 => memory.sent.resize(other_length(rng, numbers), 0),
         4 => {
+            // The bits of another ring than the numbers.
+            let words = other_length(rng, words);
+            memory.outstanding.resize(words, 0);
+            memory.marked.resize(words, 0);
+        }
+        5 => {
+            let numbers = other_length(rng, numbers);
+            memory.sizes.resize(numbers, 0);
+            memory.sent.resize(numbers, 0);
+        }
+        6 => {
             let evs = memory.ev_times.len();
             let lengths = [0, 1, 256, evs / 2, evs.saturating_sub(1), evs + 1, 2 * evs];
             memory.ev_times.resize(rng.pick(&lengths), 0);
         }
-        5 => {
+        7 => {
             let length = rng.pick(&[0, 1, WORDS - 1, WORDS + 1, 2 * WORDS]);
             model.words.resize(length, 0);
         }
         _ => {
-            let length = rng.pick(&[0, 1, 32, 63, 65, 96, 1000, 4095, 8192]);
-            memory.status.resize(length, 0);
-            memory.size.resize(length, 0);
-            memory.sent.resize(length, 0);
-            memory.resent.resize(length, 0);
+            let capacity = rng.pick(&[0, 1, 32, 63, 65, 96, 192, 1000, 4095, 4160, 8192]);
+            let words = rng.pick(&[capacity / WORD, capacity.div_ceil(WORD)]);
+            memory.outstanding.resize(words, 0);
+            memory.marked.resize(words, 0);
+            memory.sizes.resize(capacity, 0);
+            memory.sent.resize(capacity, 0);
         }
     }
+}
+
+/// Wrong by one, by 64 or by a factor of 2 or 64, which is where bits are taken for slots.
+fn other_length(rng: &mut Rng, length: usize) -> usize {
+    rng.pick(&[
+        0,
+        1,
+        length / 2,
+        2 * length,
+        length.saturating_sub(1),
+        length + 1,
+        length.saturating_sub(WORD),
+        length + WORD,
+        length / WORD,
+        length.min(64) * WORD,
+    ])
 }

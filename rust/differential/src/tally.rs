@@ -1,6 +1,6 @@
 //! What was compared, so that one can see that it was worth something.
 
-use crate::call::Call;
+use crate::call::{Answer, Call};
 use crate::sides::Model;
 use crate::words::state_of;
 use model::{Outcome, Sampling};
@@ -21,6 +21,8 @@ pub struct Tally {
     pub answers: [u64; NUMBERS],
     /// What accepted ACKs and NACKs said of their samples, in the order of [`LETTERS`].
     pub samples: [u64; LETTERS.len()],
+    /// What the ring showed of a PSN: none, flying, marked, done.
+    pub statuses: [u64; 4],
     pub seen: Seen,
 }
 
@@ -41,6 +43,10 @@ pub struct Seen {
     pub cursor_wraps: u64,
     /// inc_bytes or a tally has come to its stop.
     pub stops: u64,
+    /// Calls on a full ring.
+    pub full_rings: u64,
+    /// The next marked packet was another one than was asked about.
+    pub marked_ahead: u64,
 }
 
 /// The words before a call other than setting up, if they are as many as a state has.
@@ -54,12 +60,21 @@ impl Tally {
         }
     }
 
-    pub fn note(&mut self, outcome: Outcome, before: &Before, after: &Model) {
-        self.count(outcome);
-        if outcome.number == 0 {
-            if let Some(before) = before {
-                self.seen.note(before, &after.words);
+    pub fn note(&mut self, call: &Call, answer: Answer, before: &Before, after: &Model) {
+        self.count(answer.outcome);
+        let Some(before) = before.filter(|_| answer.outcome.number == 0) else {
+            return;
+        };
+        let [low, next] = [Word::Low, Word::Next].map(|word| before[word as usize] as u32);
+        let full = next.wrapping_sub(low) as usize == after.memory.sizes.len();
+        self.seen.full_rings += u64::from(full);
+        match (call, answer.shown) {
+            (Call::Status { .. }, Some(status)) => self.statuses[status as usize] += 1,
+            (Call::NextMarked { psn }, Some(marked)) => {
+                let ahead = marked != *psn && marked != next;
+                self.seen.marked_ahead += u64::from(ahead);
             }
+            _ => self.seen.note(&before, &after.words),
         }
     }
 
@@ -117,12 +132,16 @@ impl fmt::Display for Tally {
                 write!(f, " {letter}:{times}")?;
             }
         }
+        if self.statuses.iter().any(|&times| times > 0) {
+            write!(f, "; statuses {:?}", self.statuses)?;
+        }
         let seen = &self.seen;
         if seen.cuts > 0 {
             write!(
                 f,
                 "; cuts {}, quick adapts {}, fast modes {}, clamps {}, PSN wraps {}, \
-                 count wraps {}, below zero {}, EVs over 255 {}, cursor wraps {}, stops {}",
+                 count wraps {}, below zero {}, EVs over 255 {}, cursor wraps {}, stops {}, \
+                 full rings {}, marked ahead {}",
                 seen.cuts,
                 seen.quick_adapts,
                 seen.fast_modes,
@@ -132,7 +151,9 @@ impl fmt::Display for Tally {
                 seen.below_zero,
                 seen.far_paths,
                 seen.cursor_wraps,
-                seen.stops
+                seen.stops,
+                seen.full_rings,
+                seen.marked_ahead
             )?;
         }
         Ok(())

@@ -3,7 +3,7 @@
 use differential::{answer_of, Call, Model};
 use model::gen::E;
 use model::{Outcome, Settings};
-use nscc::{sampled, Ack, Nack, Sample};
+use nscc::{sampled, Ack, Nack, Sample, Status};
 use std::fmt::Write;
 
 struct Card {
@@ -14,7 +14,7 @@ struct Card {
 
 impl Card {
     fn show(&mut self, name: &str, call: Call) -> Outcome {
-        let outcome = self.model.answer(&call);
+        let outcome = self.model.answer(&call).outcome;
         let state = self.model.state().expect("words of a state");
         self.line(&format!(
             "{name} {} {} {} {} {} {} {}",
@@ -69,6 +69,20 @@ impl Card {
         self.show_sample(name, Call::Ack(ack));
     }
 
+    /// What the ring shows of a packet.
+    fn status(&mut self, psn: u32) {
+        let shown = self.model.answer(&Call::Status { psn }).shown;
+        let status = Status::of(shown.expect("a sound state"));
+        let status = status.map_or("none".to_string(), |status| status.to_string());
+        self.line(&format!("PSN {psn}: {status}"));
+    }
+
+    fn oldest_marked(&mut self) -> u32 {
+        let psn = self.model.state().expect("words of a state").low;
+        let shown = self.model.answer(&Call::NextMarked { psn }).shown;
+        shown.expect("a sound state")
+    }
+
     fn path(&mut self, time: u64) -> u32 {
         let outcome = self.show("path", Call::Path { time });
         let ev = outcome.ev.expect("accepted");
@@ -106,9 +120,13 @@ fn trimmed(card: &mut Card) {
     card.show_sample("nack-1", Call::Nack(nack));
     let until = card.model.memory.ev_times[ev as usize];
     card.line(&format!("EV {ev} is avoided until {until}"));
+    let again = card.oldest_marked();
+    card.status(again);
     let ev = card.path(235);
-    card.send("resend-1", 240, 1, true);
+    card.send("resend-1", 240, again, true);
+    card.status(again);
     card.ack("ack-1", 340, 1, 32, ev, true);
+    card.status(again);
     card.ack("copy", 341, 1, 32, ev, true);
 }
 
@@ -139,7 +157,7 @@ fn card() {
     card.model.set_state(&state);
     let (time, bytes) = (341, 1);
     let refused = card.model.answer(&Call::NewData { time, bytes });
-    card.line(&format!("a window of 0: {}", refused.number));
+    card.line(&format!("a window of 0: {}", refused.outcome.number));
 
     let file = concat!(env!("CARGO_MANIFEST_DIR"), "/../../examples/card.out");
     let expected = std::fs::read_to_string(file).expect("examples/card.out");

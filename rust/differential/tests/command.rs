@@ -90,7 +90,11 @@ fn help_and_version() {
 fn an_unknown_option_is_told_with_the_usage() {
     for option in ["-x", "--reports", "-pr", "---"] {
         let output = run(&[option, &worked()]);
-        told(&output, 2, &[&format!("nscc: {option}: no such option"), USAGE]);
+        told(
+            &output,
+            2,
+            &[&format!("nscc: {option}: no such option"), USAGE],
+        );
         assert!(output.stdout.is_empty());
     }
 }
@@ -130,7 +134,11 @@ fn progress_beside_lines() {
 #[test]
 fn a_missing_log() {
     let output = run(&["no-such.log"]);
-    told(&output, 1, &["nscc: no-such.log: No such file or directory"]);
+    told(
+        &output,
+        1,
+        &["nscc: no-such.log: No such file or directory"],
+    );
     assert!(output.stdout.is_empty());
 }
 
@@ -147,7 +155,7 @@ fn unreadable() -> (PathBuf, &'static str) {
     use std::os::unix::fs::PermissionsExt;
     let path = Path::new(env!("CARGO_TARGET_TMPDIR")).join("unreadable.log");
     fs::write(&path, b"").expect("a file");
-    fs::set_permissions(&path, fs::Permissions::from_mode(0)).expect("a mode");
+    fs::set_permissions(&path, fs::Permissions::from_mode(0o0)).expect("a mode");
     if fs::File::open(&path).is_ok() {
         return ("/proc/self/mem".into(), "Input/output error");
     }
@@ -175,7 +183,11 @@ fn a_closed_standard_output() {
 fn a_full_standard_output() {
     for option in ["", "-r", "--help", "--version"] {
         let output = redirected(&format!("{option} {}", worked()), ">/dev/full");
-        told(&output, 1, &["nscc: standard output: No space left on device"]);
+        told(
+            &output,
+            1,
+            &["nscc: standard output: No space left on device"],
+        );
     }
 }
 

@@ -52,6 +52,8 @@ fn streams() {
     let rare = [seen.psn_wraps, seen.below_zero, seen.far_paths];
     often(&tally, &rare, 10);
     often(&tally, &tally.samples, 100);
+    often(&tally, &tally.statuses, 300);
+    often(&tally, &[seen.full_rings, seen.marked_ahead], 300);
 }
 
 #[test]
@@ -73,6 +75,8 @@ fn states() {
     let paths = [seen.far_paths, seen.cursor_wraps];
     often(&tally, &paths, 100);
     often(&tally, &tally.samples, 100);
+    often(&tally, &tally.statuses, 1_000);
+    often(&tally, &[seen.full_rings, seen.marked_ahead], 1_000);
 }
 
 #[test]

@@ -21,7 +21,7 @@ pub const PSN_REACH: u32 = 1 << 30;
 pub const IN_FLIGHT_MIN: i64 = -(1 << 24);
 pub const BACKLOG_MAX: u64 = 1 << 40;
 pub const SIZE_MIN: u32 = 41;
-pub const RESENT_MAX: u8 = 2;
+pub const RESENDS_MAX: u32 = 2;
 
 pub const CAPACITY_MIN: usize = 64;
 pub const CAPACITY_MAX: usize = 4096;

@@ -2,11 +2,12 @@
 //! may rely on those before it, so that none can overflow or leave a slice.
 
 use crate::bounds::{
-    AVG_MAX, BACKLOG_MAX, COUNT_END, INC_BYTES_MAX, IN_FLIGHT_MIN, LATER_END, RESENT_MAX, SIZE_MIN,
-    TALLY_MAX, TIME_END,
+    AVG_MAX, BACKLOG_MAX, COUNT_END, INC_BYTES_MAX, IN_FLIGHT_MIN, LATER_END, RESENDS_MAX,
+    SIZE_MIN, TALLY_MAX, TIME_END,
 };
-use crate::lent::{Lent, DONE, FLYING, MARKED};
+use crate::lent::{bit, ones, resends_of, size_of, Lent, WORD};
 use crate::state::State;
+use std::ops::Range;
 
 /// True when nothing that number 2 names is wrong.
 pub fn number_two(state: &State, lent: &Lent) -> bool {
@@ -43,49 +44,78 @@ fn times_good(state: &State, lent: &Lent) -> bool {
         && state.last_adjust <= state.clock
         && state.last_dec <= state.clock
         && state.qa_end < LATER_END
-        && lent.ev_times.iter().all(|&time| time < LATER_END)
+        && every(lent.ev_times, |time| time < LATER_END)
 }
 
 fn ring_good(state: &State, lent: &Lent) -> bool {
-    let outstanding = state.outstanding();
-    outstanding as usize <= lent.capacity()
-        && live_slots_good(state, lent, outstanding)
-        && other_slots_zero(state, lent, outstanding)
+    let span = state.span();
+    if span as usize > lent.capacity() {
+        return false;
+    }
+    let used = lent.slots(state.low, span);
+    let others = lent.slots(state.next, lent.capacity() as u32 - span);
+    marks_good(lent, &used)
+        && used
+            .into_iter()
+            .all(|slots| numbers_of_packets(state, lent, slots))
+        && others.into_iter().all(|slots| numbers_zero(lent, slots))
         && low_not_done(state, lent)
-        && totals_good(state, lent, outstanding)
+        && totals_good(state, lent)
 }
 
-fn live_slots_good(state: &State, lent: &Lent, outstanding: u32) -> bool {
-    let sizes = u64::from(SIZE_MIN)..=state.settings.mtu;
-    (0..outstanding).all(|i| {
-        let slot = lent.slot(state.low.wrapping_add(i));
-        matches!(lent.status[slot], FLYING | MARKED | DONE)
-            && sizes.contains(&u64::from(lent.size[slot]))
-            && lent.sent[slot] <= state.clock
-            && lent.resent[slot] <= RESENT_MAX
-    })
+/// A marked slot is outstanding, and an outstanding one is used.
+fn marks_good(lent: &Lent, used: &[Range<usize>; 2]) -> bool {
+    let words = lent.outstanding.iter().zip(&*lent.marked).enumerate();
+    let mut stray = words.map(|(word, (&outstanding, &marked))| {
+        let used = used.iter().map(|slots| bits_within(slots, word));
+        let used = used.fold(0, |all, bits| all | bits);
+        marked & !outstanding | outstanding & !used
+    });
+    stray.all(|bits| bits == 0)
 }
 
-fn other_slots_zero(state: &State, lent: &Lent, outstanding: u32) -> bool {
-    (outstanding..lent.capacity() as u32)
-        .all(|i| lent.slot_is_zero(lent.slot(state.low.wrapping_add(i))))
+/// The bits of a word whose slots are among these.
+fn bits_within(slots: &Range<usize>, word: usize) -> u64 {
+    let first = word * WORD;
+    ones(slots.end.saturating_sub(first)) & !ones(slots.start.saturating_sub(first))
+}
+
+fn numbers_of_packets(state: &State, lent: &Lent, slots: Range<usize>) -> bool {
+    let most = state.settings.mtu as u32;
+    let number_good = |number| {
+        let size = size_of(number);
+        (size >= SIZE_MIN) & (size <= most) & (resends_of(number) <= RESENDS_MAX)
+    };
+    every(&lent.sizes[slots.clone()], number_good)
+        && every(&lent.sent[slots], |time| time <= state.clock)
+}
+
+fn numbers_zero(lent: &Lent, slots: Range<usize>) -> bool {
+    let numbers = lent.sizes[slots.clone()].iter();
+    let times = lent.sent[slots].iter();
+    numbers.fold(0, |all, number| all | number) == 0 && times.fold(0, |all, time| all | time) == 0
+}
+
+/// Are all of them good? There is no early end: the compiler can then take several at a time.
+fn every<T: Copy>(numbers: &[T], good: impl Fn(T) -> bool) -> bool {
+    numbers.iter().fold(true, |all, &number| all & good(number))
 }
 
 fn low_not_done(state: &State, lent: &Lent) -> bool {
-    state.low == state.next || lent.status[lent.slot(state.low)] != DONE
+    state.low == state.next || bit(lent.outstanding, lent.slot(state.low))
 }
 
-fn totals_good(state: &State, lent: &Lent, outstanding: u32) -> bool {
+/// Every mark must be of a slot in use.
+fn totals_good(state: &State, lent: &Lent) -> bool {
     let (mut flying, mut marked, mut marked_bytes) = (0, 0, 0);
-    for i in 0..outstanding {
-        let slot = lent.slot(state.low.wrapping_add(i));
-        match lent.status[slot] {
-            FLYING => flying += 1,
-            MARKED => {
-                marked += 1;
-                marked_bytes += u64::from(lent.size[slot]);
-            }
-            _ => {}
+    for (word, &bits) in lent.marked.iter().enumerate() {
+        flying += u64::from((lent.outstanding[word] & !bits).count_ones());
+        marked += u64::from(bits.count_ones());
+        let mut rest = bits;
+        while rest != 0 {
+            let slot = word * WORD + rest.trailing_zeros() as usize;
+            marked_bytes += u64::from(lent.size(slot));
+            rest &= rest - 1;
         }
     }
     (state.flying, state.marked, state.marked_bytes) == (flying, marked, marked_bytes)

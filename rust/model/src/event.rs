@@ -7,7 +7,7 @@
 use crate::bounds::{BACKLOG_MAX, COUNT_END, SIZE_MIN, TIME_END, UNIT};
 use crate::check::number_two;
 use crate::ledger::covers;
-use crate::lent::{Lent, FLYING, MARKED};
+use crate::lent::{Lent, Status};
 use crate::refusal::{number, Refusal};
 use crate::sampling::Sampling;
 use crate::settings::Settings;
@@ -227,6 +227,27 @@ impl State {
     }
 }
 
+/// What the ring shows. Number 2 is tested in full, and nothing changes.
+impl State {
+    /// The status of `psn`; `None` where it is not one of low..next-1.
+    pub fn status(&self, lent: &Lent, psn: u32) -> Result<Option<Status>, Refusal> {
+        self.together(lent)?;
+        Ok(self.slot_of(lent, psn).map(|slot| lent.status(slot)))
+    }
+
+    /// The first marked PSN from `psn` on; next where there is none, or where `psn` is not one of
+    /// low..next-1.
+    pub fn next_marked(&self, lent: &Lent, psn: u32) -> Result<u32, Refusal> {
+        self.together(lent)?;
+        let in_ledger = self.slot_of(lent, psn).is_some();
+        Ok(if in_ledger {
+            self.first_marked(lent, psn)
+        } else {
+            self.next
+        })
+    }
+}
+
 fn path_outcome(answer: Result<u16, Refusal>) -> Outcome {
     match answer {
         Ok(ev) => Outcome {
@@ -275,7 +296,7 @@ impl State {
     fn send_new(&mut self, lent: &mut Lent, event: &Send) -> Result<(), Refusal> {
         Refusal::WrongPacket.unless(event.psn == self.next)?;
         Refusal::Backlog.unless(u64::from(event.size) <= self.backlog)?;
-        Refusal::RingFull.unless(self.outstanding() as usize != lent.capacity())?;
+        Refusal::RingFull.unless(self.span() as usize != lent.capacity())?;
         Refusal::Window.unless(self.window_open())?;
 
         self.add_packet(lent, event.time, event.size);
@@ -284,8 +305,8 @@ impl State {
 
     fn resend(&mut self, lent: &mut Lent, event: &Send) -> Result<(), Refusal> {
         let slot = self
-            .slot_with(lent, event.psn, MARKED)
-            .filter(|&slot| lent.size[slot] == event.size)
+            .slot_with(lent, event.psn, Status::Marked)
+            .filter(|&slot| lent.size(slot) == event.size)
             .ok_or(Refusal::WrongPacket)?;
         Refusal::Window.unless(self.window_open())?;
 
@@ -380,9 +401,9 @@ impl State {
     /// The slot of a flying packet that in-flight allows to be taken out as lost.
     fn lost_slot(&self, lent: &Lent, psn: u32) -> Result<usize, Refusal> {
         let slot = self
-            .slot_with(lent, psn, FLYING)
+            .slot_with(lent, psn, Status::Flying)
             .ok_or(Refusal::NotFlying)?;
-        Refusal::InFlight.unless(self.may_fall_by(u64::from(lent.size[slot])))?;
+        Refusal::InFlight.unless(self.may_fall_by(u64::from(lent.size(slot))))?;
         Ok(slot)
     }
 

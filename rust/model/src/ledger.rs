@@ -1,7 +1,7 @@
 //! The ledger of 01: the ring, low, next, the totals, backlog, in-flight and the held count.
 
-use crate::bounds::{COUNT_END, COUNT_OLD, IN_FLIGHT_MIN, PSN_REACH, RESENT_MAX, UNIT};
-use crate::lent::{Lent, DONE, FLYING, MARKED};
+use crate::bounds::{COUNT_END, COUNT_OLD, IN_FLIGHT_MIN, PSN_REACH, RESENDS_MAX, UNIT};
+use crate::lent::{clear_bit, number_of, ones, set_bit, Lent, Status, WORD};
 use crate::state::State;
 
 /// Does an ACK with this `cum` and `map` cover `psn`?
@@ -12,27 +12,42 @@ pub(crate) fn covers(cum: u32, map: u64, psn: u32) -> bool {
 
 impl State {
     /// How many PSNs low..next-1 has.
-    pub(crate) fn outstanding(&self) -> u32 {
+    pub(crate) fn span(&self) -> u32 {
         self.next.wrapping_sub(self.low)
     }
 
     /// The slot of `psn` if it is one of low..next-1.
     pub(crate) fn slot_of(&self, lent: &Lent, psn: u32) -> Option<usize> {
-        let in_ledger = psn.wrapping_sub(self.low) < self.outstanding();
+        let in_ledger = psn.wrapping_sub(self.low) < self.span();
         in_ledger.then(|| lent.slot(psn))
     }
 
     /// The slot of `psn` if it is one of low..next-1 and has this status.
-    pub(crate) fn slot_with(&self, lent: &Lent, psn: u32, status: u8) -> Option<usize> {
+    pub(crate) fn slot_with(&self, lent: &Lent, psn: u32, status: Status) -> Option<usize> {
         self.slot_of(lent, psn)
-            .filter(|&slot| lent.status[slot] == status)
+            .filter(|&slot| lent.status(slot) == status)
+    }
+
+    /// The first marked PSN from `psn` on, which is one of low..next-1; next where there is none.
+    pub(crate) fn first_marked(&self, lent: &Lent, psn: u32) -> u32 {
+        let mut from = psn;
+        while from != self.next {
+            // Bits from next on are those of PSNs before `psn`, where the ring is nearly full.
+            let many = self.next.wrapping_sub(from).min(u64::BITS);
+            let marked = lent.marked_from(from) & ones(many as usize);
+            if marked != 0 {
+                return from.wrapping_add(marked.trailing_zeros());
+            }
+            from = from.wrapping_add(many);
+        }
+        self.next
     }
 
     /// The new packet, of PSN `next`, flies. Its slot was all zero.
     pub(crate) fn add_packet(&mut self, lent: &mut Lent, now: u64, size: u32) {
         let slot = lent.slot(self.next);
-        lent.status[slot] = FLYING;
-        lent.size[slot] = size;
+        set_bit(lent.outstanding, slot);
+        lent.sizes[slot] = number_of(size, 0);
         lent.sent[slot] = now;
         self.next = self.next.wrapping_add(1);
         self.flying += 1;
@@ -42,10 +57,11 @@ impl State {
 
     /// The marked packet in `slot` flies again.
     pub(crate) fn fly_again(&mut self, lent: &mut Lent, now: u64, slot: usize) {
-        let size = lent.size[slot];
-        lent.status[slot] = FLYING;
+        let size = lent.size(slot);
+        let resends = (lent.resends(slot) + 1).min(RESENDS_MAX);
+        clear_bit(lent.marked, slot);
+        lent.sizes[slot] = number_of(size, resends);
         lent.sent[slot] = now;
-        lent.resent[slot] = (lent.resent[slot] + 1).min(RESENT_MAX);
         self.flying += 1;
         self.marked -= 1;
         self.marked_bytes -= u64::from(size);
@@ -54,8 +70,8 @@ impl State {
 
     /// The flying packet in `slot` is taken out as lost; its size is returned.
     pub(crate) fn mark(&mut self, lent: &mut Lent, slot: usize) -> u32 {
-        let size = lent.size[slot];
-        lent.status[slot] = MARKED;
+        let size = lent.size(slot);
+        set_bit(lent.marked, slot);
         self.flying -= 1;
         self.marked += 1;
         self.marked_bytes += u64::from(size);
@@ -92,48 +108,51 @@ impl State {
     /// What an ACK covers becomes done, and low moves past done slots. The ACK must name sent
     /// packets only.
     pub(crate) fn deliver_covered(&mut self, lent: &mut Lent, cum: u32, map: u64) {
-        self.deliver_up_to(lent, cum);
-        self.deliver_map(lent, cum, map);
-        while self.slot_with(lent, self.low, DONE).is_some() {
-            self.pass_low(lent);
-        }
-    }
-
-    /// Every packet up to `cum` is delivered; low passes each at once.
-    fn deliver_up_to(&mut self, lent: &mut Lent, cum: u32) {
         let back = self.next.wrapping_sub(1).wrapping_sub(cum);
-        while self.outstanding() > back {
-            self.deliver(lent, lent.slot(self.low));
-            self.pass_low(lent);
+        let span = self.span();
+        // PSNs of low..next-1 up to `cum`; or the map's PSNs that low has passed already.
+        let covered = span.saturating_sub(back);
+        let passed = back.saturating_sub(span);
+        for from in (0..covered).step_by(WORD) {
+            let bits = ones((covered - from) as usize);
+            self.deliver(lent, self.low.wrapping_add(from), bits);
         }
+        let bits = map.checked_shr(passed).unwrap_or(0);
+        self.deliver(lent, self.low.wrapping_add(covered), bits);
+        self.pass_done(lent);
     }
 
-    fn deliver_map(&mut self, lent: &mut Lent, cum: u32, map: u64) {
-        let mut rest = map;
+    /// Packet `psn` + i becomes done where bit i is set and it flies or is marked. Each set bit must
+    /// be of a PSN of low..next-1.
+    fn deliver(&mut self, lent: &mut Lent, psn: u32, bits: u64) {
+        let outstanding = lent.outstanding_from(psn) & bits;
+        if outstanding == 0 {
+            return;
+        }
+        let marked = lent.marked_from(psn) & bits;
+        self.flying -= u64::from((outstanding & !marked).count_ones());
+        self.marked -= u64::from(marked.count_ones());
+        let mut rest = marked;
         while rest != 0 {
-            let psn = cum.wrapping_add(1).wrapping_add(rest.trailing_zeros());
-            if let Some(slot) = self.slot_of(lent, psn) {
-                self.deliver(lent, slot);
-            }
+            let slot = lent.slot(psn.wrapping_add(rest.trailing_zeros()));
+            self.marked_bytes -= u64::from(lent.size(slot));
             rest &= rest - 1;
         }
+        lent.clear_marks(psn, outstanding);
     }
 
-    /// A flying or marked packet becomes done; a done one stays as it is.
-    fn deliver(&mut self, lent: &mut Lent, slot: usize) {
-        match lent.status[slot] {
-            FLYING => self.flying -= 1,
-            MARKED => {
-                self.marked -= 1;
-                self.marked_bytes -= u64::from(lent.size[slot]);
+    /// Low moves past done slots, which become zero.
+    fn pass_done(&mut self, lent: &mut Lent) {
+        loop {
+            // From next on no slot is outstanding either.
+            let done = lent.outstanding_from(self.low).trailing_zeros();
+            let done = done.min(self.span());
+            lent.clear_numbers(self.low, done);
+            self.low = self.low.wrapping_add(done);
+            // Behind fewer comes a packet that is not done, or next.
+            if done < u64::BITS {
+                return;
             }
-            _ => return,
         }
-        lent.status[slot] = DONE;
-    }
-
-    fn pass_low(&mut self, lent: &mut Lent) {
-        lent.clear_slot(lent.slot(self.low));
-        self.low = self.low.wrapping_add(1);
     }
 }

@@ -30,7 +30,7 @@ mod window;
 pub use check::number_two;
 pub use chunks::{Chunk, Part};
 pub use event::{Ack, Event, Loss, Nack, NewData, Outcome, Send};
-pub use lent::{Lent, Memory};
+pub use lent::{Lent, Memory, Status};
 pub use log::{parse, write, Reader, Record};
 pub use refusal::Refusal;
 pub use replay::replay;

@@ -1,7 +1,7 @@
 //! The sample step of 01, "Samples and delay", which says why where there is no sample (M-103).
 
 use crate::bounds::SAMPLE_MAX;
-use crate::lent::{Lent, FLYING, MARKED};
+use crate::lent::{bit, Lent};
 use crate::state::State;
 
 /// What the sample step says of a report on a packet.
@@ -53,11 +53,10 @@ impl State {
         retx: bool,
     ) -> Sampling {
         let in_ledger = self.slot_of(lent, psn);
-        let Some(slot) = in_ledger.filter(|&slot| matches!(lent.status[slot], FLYING | MARKED))
-        else {
+        let Some(slot) = in_ledger.filter(|&slot| bit(lent.outstanding, slot)) else {
             return Sampling::Gone;
         };
-        if lent.resent[slot] != u8::from(retx) {
+        if lent.resends(slot) != u32::from(retx) {
             return Sampling::Ambiguous;
         }
         // A service longer than the round trip leaves 0, which is no sample either.

@@ -1,7 +1,8 @@
 use crate::event::{Ack, Nack, Settings};
-use crate::raw::Lent;
+use crate::raw::{Lent, Shown};
 use crate::refusal::{answer, Refusal};
 use crate::sample::{sampled, Sample};
+use crate::status::Status;
 use crate::word::{
     PartWord, Phase, PlaceWord, Word, EVS_MAX, EVS_MIN, IN_FLIGHT_ADDED, PART, PIECE, PLACE, WORDS,
 };
@@ -13,10 +14,13 @@ use crate::word::{
 #[derive(Clone, Debug, PartialEq, Eq)]
 pub struct Context {
     pub words: Vec<u64>,
-    pub status: Vec<u8>,
-    pub size: Vec<u32>,
+    /// A bit a slot, bit i % 64 of word i / 64: the packet flies or is marked.
+    pub outstanding: Vec<u64>,
+    /// A bit a slot.
+    pub marked: Vec<u64>,
+    /// A packet's size + 2^16 * its resend count.
+    pub sizes: Vec<u32>,
     pub sent: Vec<u64>,
-    pub resent: Vec<u8>,
     pub evs: Vec<u64>,
 }
 
@@ -79,10 +83,10 @@ impl Context {
     pub fn with_evs(capacity: usize, evs: usize) -> Context {
         Context {
             words: vec![0; WORDS],
-            status: vec![0; capacity],
-            size: vec![0; capacity],
+            outstanding: vec![0; capacity / 64],
+            marked: vec![0; capacity / 64],
+            sizes: vec![0; capacity],
             sent: vec![0; capacity],
-            resent: vec![0; capacity],
             evs: vec![0; evs],
         }
     }
@@ -105,11 +109,23 @@ impl Context {
     pub fn lend(&mut self) -> Lent<'_> {
         Lent {
             words: &mut self.words,
-            status: &mut self.status,
-            size: &mut self.size,
+            outstanding: &mut self.outstanding,
+            marked: &mut self.marked,
+            sizes: &mut self.sizes,
             sent: &mut self.sent,
-            resent: &mut self.resent,
             evs: &mut self.evs,
+        }
+    }
+
+    /// Shows all the memory, for calls of [`crate::raw`] that only read.
+    pub fn show(&self) -> Shown<'_> {
+        Shown {
+            words: &self.words,
+            outstanding: &self.outstanding,
+            marked: &self.marked,
+            sizes: &self.sizes,
+            sent: &self.sent,
+            evs: &self.evs,
         }
     }
 
@@ -138,6 +154,20 @@ impl Context {
     /// The EV of the next path.
     pub fn path(&mut self, time: u64) -> Result<u32, Refusal> {
         answer(self.lend().path(time))
+    }
+
+    /// What the ring shows of a packet; `None` where its PSN is not one of low..next-1.
+    pub fn status(&self, psn: u32) -> Result<Option<Status>, Refusal> {
+        answer(self.show().status(psn)).map(Status::of)
+    }
+
+    /// The first marked packet from `psn` on; `None` where no packet from there up to next-1 is
+    /// marked, or `psn` is not one of low..next-1.
+    pub fn next_marked(&self, psn: u32) -> Result<Option<u32>, Refusal> {
+        let first = answer(self.show().next_marked(psn))?;
+        // The library then answers with next.
+        let none = u64::from(first) == self.word(Word::Next);
+        Ok((!none).then_some(first))
     }
 
     /// Replays the log from `place` on; how many answers were given. Go on until that is 0.

@@ -8,12 +8,14 @@ mod event;
 pub mod raw;
 mod refusal;
 mod sample;
+mod status;
 mod word;
 
 pub use context::{Context, Part, Place};
 pub use event::{Ack, Nack, Settings};
 pub use refusal::{answer, Refusal};
 pub use sample::{sampled, Sample};
+pub use status::Status;
 pub use word::{
     PartWord, Phase, PlaceWord, Word, EVS_MAX, EVS_MIN, IN_FLIGHT_ADDED, PART, PIECE, PLACE,
     SETTINGS, WORDS,

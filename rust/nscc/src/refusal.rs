@@ -83,8 +83,8 @@ impl fmt::Display for Refusal {
 impl Error for Refusal {}
 
 /// What an answer says that has the number in its low 32 bits, and above them the EV of an accepted
-/// path choice or the number of an accepted ACK's or NACK's [`Sample`](crate::Sample) (0 in all
-/// others).
+/// path choice, the number of an accepted ACK's or NACK's [`Sample`](crate::Sample), or what the
+/// ring shows (0 in all others).
 pub fn answer(word: u64) -> Result<u32, Refusal> {
     match word as u32 {
         0 => Ok((word >> 32) as u32),

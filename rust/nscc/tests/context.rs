@@ -2,7 +2,7 @@
 
 use nscc::{
     answer, sampled, Ack, Context, Nack, Part, PartWord, Phase, Place, PlaceWord, Refusal, Sample,
-    Settings, Word,
+    Settings, Status, Word,
 };
 
 /// The settings E of 01.
@@ -85,6 +85,80 @@ fn paths_and_losses() {
     assert_eq!(context.in_flight(), 100);
 }
 
+/// PSNs across 2^32, in slots across the ring's end.
+#[test]
+fn what_the_ring_shows() {
+    let settings = Settings {
+        first_psn: u32::MAX - 1,
+        ..e()
+    };
+    let mut context = Context::set_up(&settings, 64).expect("good settings");
+    assert_eq!(context.status(u32::MAX - 1), Ok(None));
+    assert_eq!(context.next_marked(u32::MAX - 1), Ok(None));
+    assert_eq!(context.new_data(0, 500), Ok(()));
+    let psns = [u32::MAX - 1, u32::MAX, 0, 1, 2];
+    for psn in psns {
+        assert_eq!(context.send(0, psn, 100, false), Ok(()));
+    }
+    assert_eq!(context.loss(1, u32::MAX, 0), Ok(()));
+    assert_eq!(context.loss(1, 1, 0), Ok(()));
+    let ack = Ack {
+        time: 1,
+        cum: u32::MAX - 2,
+        map: 0b100,
+        trigger: 0,
+        count: 0,
+        ..worked_ack()
+    };
+    assert_eq!(context.ack(&ack), Ok(Sample::NotPositive));
+    let shown = psns.map(|psn| context.status(psn).expect("a sound context"));
+    let [flying, marked, done] = Status::ALL.map(Some);
+    assert_eq!(shown, [flying, marked, done, marked, flying]);
+    for psn in [u32::MAX - 2, 3, 62, 1 << 31] {
+        assert_eq!(context.status(psn), Ok(None));
+        assert_eq!(context.next_marked(psn), Ok(None));
+    }
+    let next = psns.map(|psn| context.next_marked(psn).expect("a sound context"));
+    let (first, second) = (Some(u32::MAX), Some(1));
+    assert_eq!(next, [first, first, second, second, None]);
+    // The layout of the header: slots 62, 63, 0, 1 and 2.
+    assert_eq!(context.outstanding, [0b11 << 62 | 0b110]);
+    assert_eq!(context.marked, [1 << 63 | 0b10]);
+    assert_eq!(context.send(2, 1, 100, true), Ok(()));
+    assert_eq!(context.sizes[1], 100 + (1 << 16));
+    assert_eq!(context.next_marked(0), Ok(None));
+    context.words[Word::Cwnd as usize] = 0;
+    assert_eq!(context.status(0), Err(Refusal::Unsound));
+    assert_eq!(context.next_marked(0), Err(Refusal::Unsound));
+}
+
+/// A marked bit without an outstanding one, a bit outside low..next-1, and each length.
+#[test]
+fn unsound_rings() {
+    let context = Context::set_up(&e(), 128).expect("good settings");
+    let spoilers: [fn(&mut Context); 11] = [
+        |context| context.marked[0] = 1,
+        |context| context.outstanding[1] = 1 << 63,
+        |context| context.sizes[127] = 1,
+        |context| context.sizes[0] = 1 << 16,
+        |context| context.sent[64] = 1,
+        |context| context.outstanding.truncate(1),
+        |context| context.outstanding.push(0),
+        |context| context.marked.truncate(1),
+        |context| context.marked.push(0),
+        |context| context.sizes.truncate(64),
+        |context| context.sent.truncate(127),
+    ];
+    for spoil in spoilers {
+        let mut context = context.clone();
+        spoil(&mut context);
+        let before = context.clone();
+        assert_eq!(context.path(0), Err(Refusal::Unsound));
+        assert_eq!(context.status(0), Err(Refusal::Unsound));
+        assert_eq!(context, before);
+    }
+}
+
 /// 96 ticks, 2^20 + 1 of them, and each way to have no sample.
 #[test]
 fn samples() {
@@ -132,6 +206,10 @@ fn answers() {
     }
     assert_eq!(sampled(9), Err(Refusal::UnsentOrOld));
     assert_eq!((Sample::of(0), Sample::of(6)), (None, None));
+    for status in Status::ALL {
+        assert_eq!(Status::of(status.number().into()), Some(status));
+    }
+    assert_eq!((Status::of(0), Status::of(4)), (None, None));
 }
 
 #[test]

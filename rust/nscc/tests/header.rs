@@ -1,8 +1,8 @@
 //! The names and numbers of the wrapper are those of `include/nscc.h`.
 
 use nscc::{
-    PartWord, PlaceWord, Refusal, Sample, Word, EVS_MAX, EVS_MIN, IN_FLIGHT_ADDED, PART, PIECE,
-    PLACE, SETTINGS, WORDS,
+    PartWord, PlaceWord, Refusal, Sample, Status, Word, EVS_MAX, EVS_MIN, IN_FLIGHT_ADDED, PART,
+    PIECE, PLACE, SETTINGS, WORDS,
 };
 use std::fmt::Debug;
 
@@ -102,6 +102,17 @@ fn samples() {
     for ((name, number), sample) in header[1..].iter().zip(Sample::ALL) {
         assert_eq!(*number, Some(sample.number().into()));
         assert_eq!(letters(sample), letters(name));
+    }
+}
+
+#[test]
+fn statuses() {
+    let header = names("nscc_status", "NSCC_STATUS_");
+    assert_eq!(header[0], ("NONE".to_string(), Some(0)));
+    assert_eq!(header.len(), 1 + Status::ALL.len());
+    for ((name, number), status) in header[1..].iter().zip(Status::ALL) {
+        assert_eq!(*number, Some(status.number().into()));
+        assert_eq!(letters(status), letters(name));
     }
 }
 

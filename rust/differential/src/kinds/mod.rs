@@ -84,7 +84,8 @@ impl Kind {
     }
 }
 
-/// The smallest ring is the fastest to compare and the first to wrap.
+/// The smallest rings are the fastest to compare and the first to wrap: those of one and of two words
+/// of bits.
 fn capacity(rng: &mut Rng) -> usize {
-    rng.pick(&[64, 64, 64, 64, 1_024, 1_024, 4_096])
+    rng.pick(&[64, 64, 64, 128, 128, 256, 1_024, 4_096])
 }

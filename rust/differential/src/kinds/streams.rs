@@ -5,17 +5,19 @@ use crate::session::Session;
 use crate::sides::Model;
 use crate::source::Source;
 use crate::tally::Tally;
+use model::lent::WORD;
 use model::Rng;
 
 /// Capacity, and calls of a stream: enough to fill the ring.
-const SIZES: [(usize, usize); 3] = [(64, 2_000), (1_024, 3_000), (4_096, 6_000)];
+const SIZES: [(usize, usize); 4] = [(64, 2_000), (128, 2_000), (1_024, 3_000), (4_096, 6_000)];
 
 /// Seeds go through the profiles and the capacities.
 pub fn run(seed: u64, tally: &mut Tally) -> Result<(), String> {
     let mut rng = Rng::new(seed);
-    let turn = seed as usize;
-    let profile = PROFILES[turn % PROFILES.len()];
-    let (capacity, calls) = SIZES[(turn + turn / PROFILES.len()) % SIZES.len()];
+    let seed = seed as usize;
+    let (round, turn) = (seed / PROFILES.len(), seed % PROFILES.len());
+    let profile = PROFILES[turn];
+    let (capacity, calls) = SIZES[(turn + round) % SIZES.len()];
     let settings = profile.settings(&mut rng);
     let evs = settings.ev_count as usize;
     let mut session = Session::new(used(&mut rng, capacity, evs));
@@ -37,10 +39,10 @@ pub fn used(rng: &mut Rng, capacity: usize, evs: usize) -> Model {
     let memory = &mut model.memory;
     for _ in 0..16 {
         let slot = rng.below(capacity as u64) as usize;
-        memory.status[slot] = edge(rng) as u8;
-        memory.size[slot] = edge(rng) as u32;
+        memory.outstanding[slot / WORD] = edge(rng);
+        memory.marked[slot / WORD] = edge(rng);
+        memory.sizes[slot] = edge(rng) as u32;
         memory.sent[slot] = edge(rng);
-        memory.resent[slot] = edge(rng) as u8;
         let ev = rng.below(evs as u64) as usize;
         if let Some(time) = memory.ev_times.get_mut(ev) {
             *time = edge(rng);

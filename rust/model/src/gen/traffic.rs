@@ -4,7 +4,7 @@
 use super::{first_psn, settings_record, E};
 use crate::bounds::{COUNT_END, EVS_USUAL, SIZE_MIN, TIME_END, UNIT};
 use crate::event::{Outcome, OTHER, TRIMMED, TRIMMED_LAST_HOP};
-use crate::lent::{Memory, FLYING, MARKED};
+use crate::lent::{Memory, Status};
 use crate::log::{append, Record, M, RETX};
 use crate::replay::CAPACITY;
 use crate::rng::Rng;
@@ -265,7 +265,7 @@ impl Sim {
     }
 
     fn ring_room(&self) -> bool {
-        (self.state.outstanding() as usize) < self.memory.status.len()
+        (self.state.span() as usize) < self.memory.sizes.len()
     }
 
     fn may_send(&self) -> bool {
@@ -320,7 +320,7 @@ impl Sim {
     /// A marked packet, else a new one if backlog and ring allow it.
     fn next_packet(&mut self) -> Option<(u32, u32, bool)> {
         while let Some(psn) = self.to_resend.pop_front() {
-            if let Some(size) = self.size_if(psn, MARKED) {
+            if let Some(size) = self.size_if(psn, Status::Marked) {
                 return Some((psn, size, true));
             }
         }
@@ -337,10 +337,10 @@ impl Sim {
         Some((self.state.next, size as u32, false))
     }
 
-    fn size_if(&mut self, psn: u32, status: u8) -> Option<u32> {
+    fn size_if(&mut self, psn: u32, status: Status) -> Option<u32> {
         let lent = self.memory.lend();
         let slot = self.state.slot_with(&lent, psn, status)?;
-        Some(lent.size[slot])
+        Some(lent.size(slot))
     }
 
     fn launch(&mut self, psn: u32, size: u32, resend: bool) {
@@ -406,7 +406,7 @@ impl Sim {
 
     fn lose(&mut self, packet: &Packet, reason: Option<u8>) {
         let Packet { psn, ev, flags, .. } = *packet;
-        if self.size_if(psn, FLYING).is_none() {
+        if self.size_if(psn, Status::Flying).is_none() {
             return;
         }
         let time = self.now;

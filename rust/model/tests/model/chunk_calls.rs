@@ -219,7 +219,7 @@ fn refused_settings_are_done() {
     // A state of zeros comes in the place of what stood there; lent memory stays.
     let mut fresh = Side::new();
     fresh.state = Side::set_up().state;
-    fresh.memory.size[3] = 9;
+    fresh.memory.sizes[3] = 9;
     let mut settings = settings_e();
     settings[4..8].fill(0);
     let bytes = [settings, vec![1; 300]].concat();
@@ -247,7 +247,7 @@ fn after_a_stop_nothing_changes() {
     side.stop(12, &[1; 4], false);
     // Neither state nor lent memory is looked at, nor the piece within its room.
     side.state.cwnd = 0;
-    side.memory.status.clear();
+    side.memory.outstanding.clear();
     side.part.piece = [9; PIECE];
     side.part.held = PIECE as u64;
     for offset in [side.part.offset, LOG_END - 1] {

@@ -152,8 +152,8 @@ fn ledger(rig: &Rig) -> impl PartialEq + std::fmt::Debug {
     let state = &rig.state;
     let memory = &rig.memory;
     (
-        (memory.status.clone(), memory.size.clone()),
-        (memory.sent.clone(), memory.resent.clone()),
+        (memory.outstanding.clone(), memory.marked.clone()),
+        (memory.sizes.clone(), memory.sent.clone()),
         (state.low, state.next, state.flying),
         (state.marked, state.marked_bytes),
         (state.backlog, state.in_flight, state.held),

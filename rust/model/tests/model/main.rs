@@ -10,6 +10,7 @@ mod evs;
 mod example;
 mod ledger;
 mod log;
+mod marks;
 mod number_two;
 mod p_cases;
 mod random;

@@ -1,7 +1,7 @@
 //! Each clause of number 2, spoilt one at a time, and the last good value before it.
 
 use crate::rig::*;
-use model::Name;
+use model::{Name, Refusal};
 
 const NOW: u64 = 10_050;
 
@@ -46,6 +46,9 @@ const THIRD: usize = 0;
 const BEFORE_LOW: usize = 61;
 const NEXT: usize = 2;
 
+/// One resend in a slot's number.
+const RESEND: u32 = 65_536;
+
 fn every_event() -> Vec<model::Event> {
     vec![
         new_data(NOW, 1),
@@ -78,6 +81,9 @@ fn all_spoilt(changes: &[(&str, Change)]) {
         for event in every_event() {
             rig.refuse(2, event);
         }
+        let lent = rig.memory.lend();
+        assert_eq!(rig.state.status(&lent, 0), Err(Refusal::NotTogether));
+        assert_eq!(rig.state.next_marked(&lent, 0), Err(Refusal::NotTogether));
     }
 }
 
@@ -93,20 +99,30 @@ fn lengths() {
     all_spoilt(&[
         ("all empty", |r| r.memory = model::Memory::new(0)),
         ("ring of 63", |r| r.memory = model::Memory::new(63)),
-        ("status shorter", |r| r.memory.status.truncate(63)),
-        ("size shorter", |r| r.memory.size.truncate(63)),
+        ("outstanding longer", |r| r.memory.outstanding.push(0)),
+        ("marked longer", |r| r.memory.marked.push(0)),
+        ("sizes shorter", |r| r.memory.sizes.truncate(63)),
         ("sent shorter", |r| r.memory.sent.truncate(63)),
-        ("resent shorter", |r| r.memory.resent.truncate(63)),
         ("EV times shorter", |r| r.memory.ev_times.truncate(255)),
-        ("size longer", |r| r.memory.size.push(0)),
+        ("sizes longer", |r| r.memory.sizes.push(0)),
         ("sent longer", |r| r.memory.sent.push(0)),
-        ("resent longer", |r| r.memory.resent.push(0)),
+        ("sizes of 128", |r| r.memory.sizes.resize(128, 0)),
+        ("sizes and sent of 128", |r| {
+            r.memory.sizes.resize(128, 0);
+            r.memory.sent.resize(128, 0);
+        }),
+        ("bits of 128", |r| {
+            r.memory.outstanding.push(0);
+            r.memory.marked.push(0);
+        }),
         ("EV times longer", |r| r.memory.ev_times.push(0)),
-        ("status empty", |r| r.memory.status.clear()),
-        ("size empty", |r| r.memory.size.clear()),
+        ("outstanding empty", |r| r.memory.outstanding.clear()),
+        ("marked empty", |r| r.memory.marked.clear()),
+        ("sizes empty", |r| r.memory.sizes.clear()),
+        ("sent empty", |r| r.memory.sent.clear()),
         ("EV times empty", |r| r.memory.ev_times.clear()),
     ]);
-    for capacity in [32, 96, 8_192] {
+    for capacity in [32, 96, 192, 4_160, 8_192] {
         let mut rig = Rig::e();
         rig.memory = model::Memory::new(capacity);
         assert!(!rig.holds());
@@ -297,25 +313,81 @@ fn times() {
 #[test]
 fn slots_of_packets() {
     all_good(&[
-        ("size 41", |r| r.memory.size[LOW] = 41),
-        ("size MTU", |r| r.memory.size[LOW] = 4_096),
-        ("resend count 2", |r| r.memory.resent[LOW] = 2),
+        ("size 41", |r| r.memory.sizes[LOW] = 41),
+        ("size MTU", |r| r.memory.sizes[LOW] = 4_096),
+        ("resend count 2", |r| r.memory.sizes[LOW] = 41 + 2 * RESEND),
+        ("done as a flying one", |r| {
+            r.mark(THIRD, FLYING);
+            r.state.flying = 3;
+        }),
     ]);
     all_spoilt(&[
         ("an empty slot", |r| {
-            r.memory.status[LOW] = EMPTY;
+            r.put(4_294_967_294, (EMPTY, 0, 0, 0));
             r.state.flying = 1;
         }),
-        ("a status of 4", |r| {
-            r.memory.status[LOW] = 4;
-            r.state.flying = 1;
+        ("an empty slot in the middle", |r| {
+            r.put(0, (EMPTY, 0, 0, 0))
         }),
-        ("size 40", |r| r.memory.size[LOW] = 40),
-        ("size over MTU", |r| r.memory.size[LOW] = 4_097),
-        ("size 40 of a done one", |r| r.memory.size[THIRD] = 40),
-        ("resend count 3", |r| r.memory.resent[LOW] = 3),
+        ("size 0", |r| r.memory.sizes[LOW] = 0),
+        ("size 40", |r| r.memory.sizes[LOW] = 40),
+        ("size over MTU", |r| r.memory.sizes[LOW] = 4_097),
+        ("size at its widest", |r| r.memory.sizes[LOW] = 65_535),
+        ("size 40 of a done one", |r| r.memory.sizes[THIRD] = 40),
+        ("resend count 3", |r| r.memory.sizes[LOW] = 41 + 3 * RESEND),
+        ("resend count at its widest", |r| {
+            r.memory.sizes[LOW] = 41 + 65_535 * RESEND
+        }),
+        ("resend count alone", |r| r.memory.sizes[LOW] = RESEND),
         ("resend count 3 of a done one", |r| {
-            r.memory.resent[THIRD] = 3
+            r.memory.sizes[THIRD] = 41 + 3 * RESEND
+        }),
+    ]);
+}
+
+/// Each bit, with totals as they were and with such as the bits would have.
+#[test]
+fn bits() {
+    all_spoilt(&[
+        ("low marked, not outstanding", |r| {
+            set(&mut r.memory.outstanding, LOW, false);
+            set(&mut r.memory.marked, LOW, true);
+        }),
+        ("marked, no longer outstanding", |r| {
+            set(&mut r.memory.outstanding, SECOND, false)
+        }),
+        ("the same, with totals without it", |r| {
+            set(&mut r.memory.outstanding, SECOND, false);
+            r.state.marked = 0;
+            r.state.marked_bytes = 0;
+        }),
+        ("a done one marked", |r| {
+            set(&mut r.memory.marked, THIRD, true)
+        }),
+        ("the same, with totals that have it", |r| {
+            set(&mut r.memory.marked, THIRD, true);
+            r.state.marked = 2;
+            r.state.marked_bytes = 5_096;
+        }),
+        ("outstanding at next", |r| {
+            set(&mut r.memory.outstanding, NEXT, true)
+        }),
+        ("outstanding at next, with a total that has it", |r| {
+            set(&mut r.memory.outstanding, NEXT, true);
+            r.state.flying = 3;
+        }),
+        ("outstanding before low", |r| {
+            set(&mut r.memory.outstanding, BEFORE_LOW, true);
+            r.state.flying = 3;
+        }),
+        ("marked at next", |r| set(&mut r.memory.marked, NEXT, true)),
+        ("marked and outstanding at next", |r| {
+            r.mark(NEXT, MARKED);
+            r.state.marked = 2;
+        }),
+        ("marked before low", |r| {
+            r.mark(BEFORE_LOW, MARKED);
+            r.state.marked = 2;
         }),
     ]);
 }
@@ -323,14 +395,18 @@ fn slots_of_packets() {
 #[test]
 fn other_slots() {
     all_spoilt(&[
-        ("done at next", |r| r.memory.status[NEXT] = DONE),
-        ("size at next", |r| r.memory.size[NEXT] = 1),
+        ("a packet at next", |r| r.put(2, (DONE, 100, 9_000, 0))),
+        ("size at next", |r| r.memory.sizes[NEXT] = 1),
         ("sent at next", |r| r.memory.sent[NEXT] = 1),
-        ("resent at next", |r| r.memory.resent[NEXT] = 1),
-        ("done before low", |r| r.memory.status[BEFORE_LOW] = DONE),
-        ("size before low", |r| r.memory.size[BEFORE_LOW] = 1),
+        ("resend count at next", |r| r.memory.sizes[NEXT] = RESEND),
+        ("a packet before low", |r| {
+            r.put(4_294_967_293, (DONE, 100, 9_000, 0))
+        }),
+        ("size before low", |r| r.memory.sizes[BEFORE_LOW] = 1),
         ("sent before low", |r| r.memory.sent[BEFORE_LOW] = 1),
-        ("resent before low", |r| r.memory.resent[BEFORE_LOW] = 1),
+        ("resend count before low", |r| {
+            r.memory.sizes[BEFORE_LOW] = RESEND
+        }),
     ]);
 }
 
@@ -351,7 +427,7 @@ fn distance_of_low_and_next() {
 #[test]
 fn low_done() {
     all_spoilt(&[("low done", |r| {
-        r.memory.status[LOW] = DONE;
+        r.mark(LOW, DONE);
         r.state.flying = 1;
     })]);
     // An empty ledger has no low packet.

@@ -100,7 +100,8 @@ impl Naive {
         self.lost += packet.1;
     }
 
-    fn check(&self, state: &State, memory: &Memory) {
+    fn check(&self, rig: &Rig) {
+        let state = &rig.state;
         assert_eq!(state.in_flight, self.sent - 256 * self.units - self.lost);
         assert_eq!(state.backlog as i64, self.added - self.taken);
         assert_eq!(i64::from(state.held), self.units % (1 << 24));
@@ -115,12 +116,8 @@ impl Naive {
         let low = low.map_or(self.next(), |(&psn, _)| psn);
         assert_eq!(state.low, low as u32);
         for psn in low..self.next() {
-            let slot = psn as usize % memory.status.len();
-            let (status, size) = self.packets[&psn];
-            assert_eq!(
-                (memory.status[slot], i64::from(memory.size[slot])),
-                (status, size)
-            );
+            let (status, size, _, _) = rig.slot(psn as u32);
+            assert_eq!((status, i64::from(size)), self.packets[&psn]);
         }
     }
 }
@@ -230,7 +227,7 @@ fn follow(log: &[u8], seen: &mut Seen) {
         } else {
             assert_eq!(rig, before);
         }
-        naive.check(&rig.state, &rig.memory);
+        naive.check(&rig);
         check_window(&rig.state);
         seen.note(&event, outcome, &before.state, &rig.state);
     }
@@ -389,15 +386,15 @@ fn spoil_memory(rng: &mut Rng, memory: &mut Memory) {
     let i = rng.below(64) as usize;
     let length = rng.pick(&[0, 1, 32, 63, 65, 128, 255, 257]);
     match rng.below(10) {
-        0 => memory.status[i] = number as u8,
-        1 => memory.size[i] = number as u32,
-        2 => memory.sent[i] = number,
-        3 => memory.resent[i] = number as u8,
+        0 => memory.outstanding[0] ^= 1 << i,
+        1 => memory.marked[0] ^= 1 << i,
+        2 => memory.sizes[i] = number as u32,
+        3 => memory.sent[i] = number,
         4 => memory.ev_times[i] = number,
-        5 => memory.status.resize(length, 0),
-        6 => memory.size.resize(length, 0),
-        7 => memory.sent.resize(length, 0),
-        8 => memory.resent.resize(length, 0),
+        5 => memory.outstanding.resize(length / 32, 0),
+        6 => memory.marked.resize(length / 32, 0),
+        7 => memory.sizes.resize(length, 0),
+        8 => memory.sent.resize(length, 0),
         _ => memory.ev_times.resize(length, 0),
     }
 }
@@ -463,12 +460,10 @@ fn a_state_of_nothing_but_garbage_is_answered() {
     let mut rng = Rng::new(6);
     for _ in 0..20_000 {
         let mut memory = Memory::new(rng.pick(&[0, 1, 63, 64, 65, 128]));
-        for slot in 0..memory.status.len() {
-            memory.status[slot] = edge(&mut rng) as u8;
-            memory.size[slot] = edge(&mut rng) as u32;
-            memory.sent[slot] = edge(&mut rng);
-            memory.resent[slot] = edge(&mut rng) as u8;
-        }
+        memory.outstanding.fill_with(|| edge(&mut rng));
+        memory.marked.fill_with(|| edge(&mut rng));
+        memory.sizes.fill_with(|| edge(&mut rng) as u32);
+        memory.sent.fill_with(|| edge(&mut rng));
         let mut state = State::default();
         for _ in 0..60 {
             spoil_state(&mut rng, &mut state);
@@ -488,7 +483,7 @@ fn any_settings_are_answered() {
         let settings = Settings::from_numbers(numbers, 0, false).with_evs(evs);
         let lent = rng.pick(&[256, 512, evs as usize]);
         let mut memory = Memory::with_evs(rng.pick(&[0, 63, 64]), lent);
-        let good_lengths = memory.status.len() == 64 && lent == evs as usize;
+        let good_lengths = memory.sizes.len() == 64 && lent == evs as usize;
         let (answer, state) = State::set_up(&settings, &mut memory.lend());
         match answer {
             0 => assert!(good_lengths),

@@ -36,10 +36,10 @@ fn one_of_each(time: u64) -> Vec<model::Event> {
 
 /// Setting up on memory of ones: the answer, the state, and whether the memory was left alone.
 fn set_up(settings: &Settings, mut memory: Memory) -> (u8, State, bool) {
-    memory.status.fill(1);
-    memory.size.fill(1);
+    memory.outstanding.fill(1);
+    memory.marked.fill(1);
+    memory.sizes.fill(1);
     memory.sent.fill(1);
-    memory.resent.fill(1);
     memory.ev_times.fill(1);
     let before = memory.clone();
     let (answer, state) = State::set_up(settings, &mut memory.lend());
@@ -108,14 +108,14 @@ fn number_2_on_setting_up_is_of_lengths_only() {
         assert!(left_alone);
     }
     let one_short: [fn(&mut Memory); 5] = [
-        |memory| memory.status.truncate(63),
-        |memory| memory.size.truncate(63),
-        |memory| memory.sent.truncate(63),
-        |memory| memory.resent.truncate(63),
+        |memory| memory.outstanding.truncate(1),
+        |memory| memory.marked.truncate(1),
+        |memory| memory.sizes.truncate(127),
+        |memory| memory.sent.truncate(127),
         |memory| memory.ev_times.truncate(255),
     ];
     for shorten in one_short {
-        let mut memory = Memory::new(64);
+        let mut memory = Memory::new(128);
         shorten(&mut memory);
         let (answer, _, left_alone) = set_up(&e(), memory);
         assert_eq!((answer, left_alone), (2, true));
@@ -132,7 +132,7 @@ fn number_1_comes_before_2() {
 #[test]
 fn a_fresh_state() {
     let mut memory = Memory::new(64);
-    memory.status.fill(3);
+    memory.outstanding.fill(3);
     memory.ev_times.fill(9);
     let mut settings = e();
     settings.first_psn = 77;
@@ -374,7 +374,8 @@ fn an_ack_of_an_empty_ledger_and_one_below_low_are_accepted() {
     rig.refuse(9, ack(NOW, 0, 0));
     let rig = self::rig();
     let after = rig.after(ack(NOW, 50, 0));
-    assert_eq!(after.memory.status, rig.memory.status);
+    assert_eq!(after.memory.outstanding, rig.memory.outstanding);
+    assert_eq!(after.memory.marked, rig.memory.marked);
     assert_eq!((after.state.low, after.state.flying), (100, 2));
 }
 

@@ -68,39 +68,68 @@ impl Rig {
         self
     }
 
+    pub fn capacity(&self) -> usize {
+        self.memory.sizes.len()
+    }
+
     pub fn put(&mut self, psn: u32, (status, size, sent, resent): Slot) {
-        let slot = psn as usize % self.memory.status.len();
-        self.memory.status[slot] = status;
-        self.memory.size[slot] = size;
+        let slot = psn as usize % self.capacity();
+        self.mark(slot, status);
+        self.memory.sizes[slot] = size + 65_536 * u32::from(resent);
         self.memory.sent[slot] = sent;
-        self.memory.resent[slot] = resent;
+    }
+
+    /// Sets the two bits of a slot: done and empty have neither.
+    pub fn mark(&mut self, slot: usize, status: u8) {
+        let memory = &mut self.memory;
+        set(
+            &mut memory.outstanding,
+            slot,
+            matches!(status, FLYING | MARKED),
+        );
+        set(&mut memory.marked, slot, status == MARKED);
     }
 
     pub fn slot(&self, psn: u32) -> Slot {
-        let slot = psn as usize % self.memory.status.len();
+        let slot = psn as usize % self.capacity();
+        let number = self.memory.sizes[slot];
         (
-            self.memory.status[slot],
-            self.memory.size[slot],
+            self.status(psn),
+            number % 65_536,
             self.memory.sent[slot],
-            self.memory.resent[slot],
+            (number / 65_536) as u8,
         )
     }
 
+    /// What the bits show; without any, a slot of low..next-1 is done.
     pub fn status(&self, psn: u32) -> u8 {
-        self.slot(psn).0
+        let slot = psn as usize % self.capacity();
+        let (low, next) = (self.state.low, self.state.next);
+        let in_ledger = psn.wrapping_sub(low) < next.wrapping_sub(low);
+        let outstanding = is_set(&self.memory.outstanding, slot);
+        match (outstanding, is_set(&self.memory.marked, slot)) {
+            (true, false) => FLYING,
+            (true, true) => MARKED,
+            (false, false) if in_ledger => DONE,
+            (false, false) => EMPTY,
+            (false, true) => panic!("PSN {psn} is marked and not outstanding"),
+        }
     }
 
-    /// Counts the totals in the ring and names the state.
+    /// Counts the totals in low..next-1 and names the state.
     pub fn settle(&mut self) {
-        let statuses = &self.memory.status;
-        self.state.flying = statuses.iter().filter(|&&s| s == FLYING).count() as u64;
-        self.state.marked = statuses.iter().filter(|&&s| s == MARKED).count() as u64;
-        self.state.marked_bytes = statuses
-            .iter()
-            .zip(&self.memory.size)
-            .filter(|(&status, _)| status == MARKED)
-            .map(|(_, &size)| u64::from(size))
-            .sum();
+        let low = self.state.low;
+        let psns = 0..self.state.next.wrapping_sub(low);
+        let slots: Vec<Slot> = psns.map(|i| self.slot(low.wrapping_add(i))).collect();
+        let marked = || slots.iter().filter(|slot| slot.0 == MARKED);
+        self.state.flying = slots.iter().filter(|slot| slot.0 == FLYING).count() as u64;
+        self.state.marked = marked().count() as u64;
+        self.state.marked_bytes = marked().map(|slot| u64::from(slot.1)).sum();
+        self.rename();
+    }
+
+    /// Names the state by its numbers.
+    pub fn rename(&mut self) {
         let state = &mut self.state;
         let room = i128::from(state.in_flight) + i128::from(state.settings.mtu);
         state.name = match (state.backlog, state.marked, state.flying) {
@@ -151,6 +180,17 @@ impl Rig {
         rig.accept(event);
         rig
     }
+}
+
+/// Slot i is bit i mod 64 of word i / 64.
+pub fn is_set(words: &[u64], slot: usize) -> bool {
+    words[slot / 64] & 1 << (slot % 64) != 0
+}
+
+pub fn set(words: &mut [u64], slot: usize, on: bool) {
+    let bit = 1 << (slot % 64);
+    let word = &mut words[slot / 64];
+    *word = if on { *word | bit } else { *word & !bit };
 }
 
 pub fn time_of(event: &Event) -> u64 {

@@ -1,7 +1,7 @@
 //! The library over a bridge: `bridge.c`, a program for x86-64 under an emulator. What is lent goes
 //! there and back with every call.
 
-use super::Lent;
+use super::{Lent, Shown};
 use crate::event::{Ack, Nack};
 use std::cell::RefCell;
 use std::io::{self, BufWriter, Read, Write};
@@ -19,6 +19,8 @@ enum Function {
     Path,
     Replay,
     Chunk,
+    Status,
+    NextMarked,
 }
 
 const ARGUMENTS: usize = 9;
@@ -141,6 +143,36 @@ impl Lent<'_> {
     }
 }
 
+impl Shown<'_> {
+    /// The number in the low 32 bits, and where it is 0 the status above them.
+    pub fn status(&self, psn: u32) -> u64 {
+        self.read(Function::Status, psn)
+    }
+
+    /// The number in the low 32 bits, and where it is 0 the PSN above them.
+    pub fn next_marked(&self, psn: u32) -> u64 {
+        self.read(Function::NextMarked, psn)
+    }
+
+    /// A copy goes over the bridge, and must come back as it was.
+    fn read(&self, function: Function, psn: u32) -> u64 {
+        let (words, evs) = (&mut self.words.to_vec(), &mut self.evs.to_vec());
+        let (outstanding, marked) = (&mut self.outstanding.to_vec(), &mut self.marked.to_vec());
+        let (sizes, sent) = (&mut self.sizes.to_vec(), &mut self.sent.to_vec());
+        let mut lent = Lent {
+            words,
+            outstanding,
+            marked,
+            sizes,
+            sent,
+            evs,
+        };
+        let answer = lent.event(function, &[psn.into()]);
+        assert_eq!(lent.show(), *self, "memory that is only read was written");
+        answer
+    }
+}
+
 /// The program with its two ends.
 struct Bridge {
     child: Child,
@@ -185,10 +217,10 @@ impl Bridge {
         let lengths = [
             beside.first.len(),
             lent.words.len(),
-            lent.status.len(),
-            lent.size.len(),
+            lent.outstanding.len(),
+            lent.marked.len(),
+            lent.sizes.len(),
             lent.sent.len(),
-            lent.resent.len(),
             lent.evs.len(),
             beside.answers.len(),
             beside.piece.len(),
@@ -197,10 +229,10 @@ impl Bridge {
         put_u64s(&mut self.to, &lengths.map(|length| length as u64))?;
         put_u64s(&mut self.to, beside.first)?;
         put_u64s(&mut self.to, lent.words)?;
-        self.to.write_all(lent.status)?;
-        put_u32s(&mut self.to, lent.size)?;
+        put_u64s(&mut self.to, lent.outstanding)?;
+        put_u64s(&mut self.to, lent.marked)?;
+        put_u32s(&mut self.to, lent.sizes)?;
         put_u64s(&mut self.to, lent.sent)?;
-        self.to.write_all(lent.resent)?;
         put_u64s(&mut self.to, lent.evs)?;
         put_u64s(&mut self.to, beside.answers)?;
         self.to.write_all(beside.piece)?;
@@ -213,10 +245,10 @@ impl Bridge {
         get_u64s(&mut self.from, &mut answer)?;
         get_u64s(&mut self.from, beside.first)?;
         get_u64s(&mut self.from, lent.words)?;
-        self.from.read_exact(lent.status)?;
-        get_u32s(&mut self.from, lent.size)?;
+        get_u64s(&mut self.from, lent.outstanding)?;
+        get_u64s(&mut self.from, lent.marked)?;
+        get_u32s(&mut self.from, lent.sizes)?;
         get_u64s(&mut self.from, lent.sent)?;
-        self.from.read_exact(lent.resent)?;
         get_u64s(&mut self.from, lent.evs)?;
         get_u64s(&mut self.from, beside.answers)?;
         self.from.read_exact(beside.piece)?;

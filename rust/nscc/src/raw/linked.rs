@@ -4,7 +4,7 @@
 //! lent ones overlap. All else is the library's to answer, so every function here is safe.
 #![allow(unsafe_code)]
 
-use super::Lent;
+use super::{Lent, Shown};
 use crate::event::{Ack, Nack};
 
 mod c {
@@ -18,14 +18,14 @@ mod c {
             ev_count: u32,
             state: *mut u64,
             state_len: usize,
-            status: *mut u8,
-            status_len: usize,
-            size: *mut u32,
-            size_len: usize,
+            outstanding: *mut u64,
+            outstanding_len: usize,
+            marked: *mut u64,
+            marked_len: usize,
+            sizes: *mut u32,
+            sizes_len: usize,
             sent: *mut u64,
             sent_len: usize,
-            resent: *mut u8,
-            resent_len: usize,
             evs: *mut u64,
             evs_len: usize,
         ) -> u32;
@@ -33,14 +33,14 @@ mod c {
         pub fn nscc_new_data(
             state: *mut u64,
             state_len: usize,
-            status: *const u8,
-            status_len: usize,
-            size: *const u32,
-            size_len: usize,
+            outstanding: *const u64,
+            outstanding_len: usize,
+            marked: *const u64,
+            marked_len: usize,
+            sizes: *const u32,
+            sizes_len: usize,
             sent: *const u64,
             sent_len: usize,
-            resent: *const u8,
-            resent_len: usize,
             evs: *const u64,
             evs_len: usize,
             time: u64,
@@ -50,14 +50,14 @@ mod c {
         pub fn nscc_send(
             state: *mut u64,
             state_len: usize,
-            status: *mut u8,
-            status_len: usize,
-            size: *mut u32,
-            size_len: usize,
+            outstanding: *mut u64,
+            outstanding_len: usize,
+            marked: *mut u64,
+            marked_len: usize,
+            sizes: *mut u32,
+            sizes_len: usize,
             sent: *mut u64,
             sent_len: usize,
-            resent: *mut u8,
-            resent_len: usize,
             evs: *const u64,
             evs_len: usize,
             time: u64,
@@ -69,14 +69,14 @@ mod c {
         pub fn nscc_ack(
             state: *mut u64,
             state_len: usize,
-            status: *mut u8,
-            status_len: usize,
-            size: *mut u32,
-            size_len: usize,
+            outstanding: *mut u64,
+            outstanding_len: usize,
+            marked: *mut u64,
+            marked_len: usize,
+            sizes: *mut u32,
+            sizes_len: usize,
             sent: *mut u64,
             sent_len: usize,
-            resent: *mut u8,
-            resent_len: usize,
             evs: *mut u64,
             evs_len: usize,
             time: u64,
@@ -86,42 +86,42 @@ mod c {
             count: u32,
             service: u32,
             ev: u32,
-            marked: bool,
+            m_flag: bool,
             retx: bool,
         ) -> u64;
 
         pub fn nscc_nack(
             state: *mut u64,
             state_len: usize,
-            status: *mut u8,
-            status_len: usize,
-            size: *const u32,
-            size_len: usize,
+            outstanding: *const u64,
+            outstanding_len: usize,
+            marked: *mut u64,
+            marked_len: usize,
+            sizes: *const u32,
+            sizes_len: usize,
             sent: *const u64,
             sent_len: usize,
-            resent: *const u8,
-            resent_len: usize,
             evs: *mut u64,
             evs_len: usize,
             time: u64,
             psn: u32,
             ev: u32,
             reason: u32,
-            marked: bool,
+            m_flag: bool,
             retx: bool,
         ) -> u64;
 
         pub fn nscc_loss(
             state: *mut u64,
             state_len: usize,
-            status: *mut u8,
-            status_len: usize,
-            size: *const u32,
-            size_len: usize,
+            outstanding: *const u64,
+            outstanding_len: usize,
+            marked: *mut u64,
+            marked_len: usize,
+            sizes: *const u32,
+            sizes_len: usize,
             sent: *const u64,
             sent_len: usize,
-            resent: *const u8,
-            resent_len: usize,
             evs: *mut u64,
             evs_len: usize,
             time: u64,
@@ -132,14 +132,14 @@ mod c {
         pub fn nscc_path(
             state: *mut u64,
             state_len: usize,
-            status: *const u8,
-            status_len: usize,
-            size: *const u32,
-            size_len: usize,
+            outstanding: *const u64,
+            outstanding_len: usize,
+            marked: *const u64,
+            marked_len: usize,
+            sizes: *const u32,
+            sizes_len: usize,
             sent: *const u64,
             sent_len: usize,
-            resent: *const u8,
-            resent_len: usize,
             evs: *const u64,
             evs_len: usize,
             time: u64,
@@ -150,14 +150,14 @@ mod c {
             place_len: usize,
             state: *mut u64,
             state_len: usize,
-            status: *mut u8,
-            status_len: usize,
-            size: *mut u32,
-            size_len: usize,
+            outstanding: *mut u64,
+            outstanding_len: usize,
+            marked: *mut u64,
+            marked_len: usize,
+            sizes: *mut u32,
+            sizes_len: usize,
             sent: *mut u64,
             sent_len: usize,
-            resent: *mut u8,
-            resent_len: usize,
             evs: *mut u64,
             evs_len: usize,
             log: *const u8,
@@ -173,14 +173,14 @@ mod c {
             piece_len: usize,
             state: *mut u64,
             state_len: usize,
-            status: *mut u8,
-            status_len: usize,
-            size: *mut u32,
-            size_len: usize,
+            outstanding: *mut u64,
+            outstanding_len: usize,
+            marked: *mut u64,
+            marked_len: usize,
+            sizes: *mut u32,
+            sizes_len: usize,
             sent: *mut u64,
             sent_len: usize,
-            resent: *mut u8,
-            resent_len: usize,
             evs: *mut u64,
             evs_len: usize,
             chunk: *const u8,
@@ -189,6 +189,38 @@ mod c {
             answers: *mut u64,
             answers_len: usize,
         ) -> u32;
+
+        pub fn nscc_status(
+            state: *const u64,
+            state_len: usize,
+            outstanding: *const u64,
+            outstanding_len: usize,
+            marked: *const u64,
+            marked_len: usize,
+            sizes: *const u32,
+            sizes_len: usize,
+            sent: *const u64,
+            sent_len: usize,
+            evs: *const u64,
+            evs_len: usize,
+            psn: u32,
+        ) -> u64;
+
+        pub fn nscc_next_marked(
+            state: *const u64,
+            state_len: usize,
+            outstanding: *const u64,
+            outstanding_len: usize,
+            marked: *const u64,
+            marked_len: usize,
+            sizes: *const u32,
+            sizes_len: usize,
+            sent: *const u64,
+            sent_len: usize,
+            evs: *const u64,
+            evs_len: usize,
+            psn: u32,
+        ) -> u64;
     }
 }
 
@@ -201,20 +233,56 @@ macro_rules! call {
                 $($before,)*
                 $lent.words.as_mut_ptr(),
                 $lent.words.len(),
-                $lent.status.as_mut_ptr(),
-                $lent.status.len(),
-                $lent.size.as_mut_ptr(),
-                $lent.size.len(),
+                $lent.outstanding.as_mut_ptr(),
+                $lent.outstanding.len(),
+                $lent.marked.as_mut_ptr(),
+                $lent.marked.len(),
+                $lent.sizes.as_mut_ptr(),
+                $lent.sizes.len(),
                 $lent.sent.as_mut_ptr(),
                 $lent.sent.len(),
-                $lent.resent.as_mut_ptr(),
-                $lent.resent.len(),
                 $lent.evs.as_mut_ptr(),
                 $lent.evs.len(),
                 $($after),*
             )
         }
     };
+}
+
+/// Calls a C function that only reads, of a PSN.
+macro_rules! read {
+    ($function:ident, $shown:expr, $psn:expr) => {
+        // SAFETY: the pointers and lengths are those of slices, and nothing is written.
+        unsafe {
+            c::$function(
+                $shown.words.as_ptr(),
+                $shown.words.len(),
+                $shown.outstanding.as_ptr(),
+                $shown.outstanding.len(),
+                $shown.marked.as_ptr(),
+                $shown.marked.len(),
+                $shown.sizes.as_ptr(),
+                $shown.sizes.len(),
+                $shown.sent.as_ptr(),
+                $shown.sent.len(),
+                $shown.evs.as_ptr(),
+                $shown.evs.len(),
+                $psn,
+            )
+        }
+    };
+}
+
+impl Shown<'_> {
+    /// The number in the low 32 bits, and where it is 0 the status above them.
+    pub fn status(&self, psn: u32) -> u64 {
+        read!(nscc_status, self, psn)
+    }
+
+    /// The number in the low 32 bits, and where it is 0 the PSN above them.
+    pub fn next_marked(&self, psn: u32) -> u64 {
+        read!(nscc_next_marked, self, psn)
+    }
 }
 
 impl Lent<'_> {

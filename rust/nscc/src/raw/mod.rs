@@ -9,11 +9,35 @@ mod linked;
 #[derive(Debug)]
 pub struct Lent<'a> {
     pub words: &'a mut [u64],
-    pub status: &'a mut [u8],
-    pub size: &'a mut [u32],
+    pub outstanding: &'a mut [u64],
+    pub marked: &'a mut [u64],
+    pub sizes: &'a mut [u32],
     pub sent: &'a mut [u64],
-    pub resent: &'a mut [u8],
     pub evs: &'a mut [u64],
+}
+
+/// The same for calls that only read.
+#[derive(Clone, Copy, Debug, PartialEq, Eq)]
+pub struct Shown<'a> {
+    pub words: &'a [u64],
+    pub outstanding: &'a [u64],
+    pub marked: &'a [u64],
+    pub sizes: &'a [u32],
+    pub sent: &'a [u64],
+    pub evs: &'a [u64],
+}
+
+impl Lent<'_> {
+    pub fn show(&self) -> Shown<'_> {
+        Shown {
+            words: self.words,
+            outstanding: self.outstanding,
+            marked: self.marked,
+            sizes: self.sizes,
+            sent: self.sent,
+            evs: self.evs,
+        }
+    }
 }
 
 /// The library is reached over a bridge, under an emulator: slow, and no time says anything.
