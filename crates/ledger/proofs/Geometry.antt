@@ -5,13 +5,13 @@ use mathlib.Core.Path.{_≡_, refl, sym, ap, _∙_, subst}
 use mathlib.Core.Bool.{Bool, true, false, _||_}
 use mathlib.Core.Logic.{_⊎_, inl, inr, ⊎-elim, by-cases}
 use mathlib.Core.List.{List, [], _∷_, _++_}
-use Prim.Native.Nat.{ℕ, suc, _+_, _-_, _*_, _/_, _^_, _%_, _≤_, _<_}
-use native.Mathlib.Nat.{mod-eq-of-lt, mod-eq-sub-mod, mod-lt, mod-mod, mod-add-mod, mod-mod-of-dvd, dvd-of-mod-eq-zero, add-mod-right}
+use Prim.Native.Nat.{ℕ, _+_, _-_, _*_, _/_, _^_, _%_, _≤_, _<_}
+use native.Mathlib.Nat.{mod-eq-of-lt, mod-eq-sub-mod, mod-lt, mod-add-mod, mod-mod-of-dvd, dvd-of-mod-eq-zero, add-mod-right}
 use native.Mathlib.Nat.{add-zero, add-assoc}
 use native.Mathlib.Decide.{decLe}
 use native.Mathlib.Omega.{arith}
 use lib.ListN.{length, getD, set, length-set, length-append, List·getD-append, List·getD-eq-default}
-use lib.Seq.{ext-getD, getD-set-same, getD-set-other, set-getD, getD-append-seam}
+use lib.Seq.{ext-getD, getD-set-same, getD-set-other, getD-append-seam}
 use lib.Dec.{eqb}
 use lib.Bits.{bitAnd, and-mask}
 use borrow.Author.Tests.{eqb-true}
@@ -19,13 +19,13 @@ use Rattle.bits.specs.Bits.{wordBits}
 use Rattle.serial.specs.Wrap.{minus}
 use Rattle.serial.specs.Psn.{psns, plus}
 use Rattle.serial.proofs.Cover.{plus-plus, plus-minus}
-use Rattle.ledger.specs.Packets.{noPacket, withStatus}
+use Rattle.ledger.specs.Packets.{noPacket}
 use Rattle.ledger.specs.Ring.{Ring, ring, packetAt, putAt, placeOf, ageOf, lay, laid, queueOf, capOf, longOf, packets, offsetOf}
 use Rattle.ledger.specs.Ring.{packetOf}
 use Rattle.ledger.specs.Sound.{isCapacity, Even}
 use Rattle.ledger.specs.declared.Packet.{Packet}
 use Rattle.ledger.specs.declared.Flow.{Flow}
-use Rattle.ledger.proofs.Walks.{length-tabulate, getD-tabulate, tabulate-more, tabulate-join}
+use Rattle.ledger.proofs.Walks.{length-tabulate, getD-tabulate}
 
 -- ---- capacities
 
@@ -103,19 +103,6 @@ module _ (cap : ℕ) (C : Cap cap) (low : ℕ) where
   unfolding placeOf
   place-lt k = mod-lt (plus low k) pos
 
-  -- one packet on is one slot on, round the ring
-  pub place-next : (k : ℕ) → placeOf cap low (k + 1) ≡ (placeOf cap low k + 1) % cap
-  place-next k =
-      place-flat (k + 1)
-      ∙ ap (λ (x : ℕ). x % cap) (sym (add-assoc (low % cap) k 1))
-      ∙ sym (mod-add-mod (low % cap + k) cap 1)
-      ∙ ap (λ (x : ℕ). (x + 1) % cap) (sym (place-flat k))
-
-  -- once round the ring
-  place-round : placeOf cap low cap ≡ placeOf cap low 0
-  place-round =
-      place-flat cap ∙ add-mod-right (low % cap) cap ∙ ap (λ (x : ℕ). x % cap) (sym (add-zero (low % cap))) ∙ sym (place-flat 0)
-
   pub age-lt : (i : ℕ) → ageOf cap low i < cap
   unfolding ageOf
   age-lt i = mod-lt (i + (cap - low % cap)) pos
@@ -155,9 +142,6 @@ module _ (cap : ℕ) (C : Cap cap) (low : ℕ) where
 
 -- A slot's number is a PSN that lives in it.
 module _ (cap : ℕ) (C : Cap cap) (low : ℕ) where
-  pub place-low : (k : ℕ) → placeOf cap (low % cap) k ≡ placeOf cap low k
-  place-low k = place-flat cap C (low % cap) k ∙ ap (λ (x : ℕ). (x + k) % cap) (mod-mod low cap) ∙ sym (place-flat cap C low k)
-
   -- slot a lies j after that of low, or j less once round the ring: the packets from a on are those from j after low on
   place-same : (a j : ℕ) → a % cap ≡ (low % cap + j) % cap → (k : ℕ) → placeOf cap a k ≡ placeOf cap low (j + k)
   place-same a j e k =
@@ -173,13 +157,6 @@ module _ (cap : ℕ) (C : Cap cap) (low : ℕ) where
   pub place-over : (a j : ℕ) → a + cap ≡ low % cap + j → (k : ℕ) → placeOf cap a k ≡ placeOf cap low (j + k)
   place-over a j e = place-same a j (sym (add-mod-right a cap) ∙ ap (λ (x : ℕ). x % cap) e)
 
--- within the ring, slot i is that of the packet i - from after slot from
-pub place-in : (cap from i : ℕ) → from ≤ i → i < cap → cap ≤ 4096 → placeOf cap from (i - from) ≡ i
-unfolding placeOf plus
-place-in cap from i h l s =
-    let e : from + (i - from) ≡ i = omega arith in
-    rw e (ap (λ (x : ℕ). x % cap) (mod-eq-of-lt {m = psns} (omega arith)) ∙ mod-eq-of-lt l)
-
 -- ---- the queue that a ring holds
 
 pub queue-long : (r : Ring) (low n : ℕ) → length (queueOf r low n) ≡ n
@@ -189,17 +166,6 @@ queue-long r low n = length-tabulate (λ k. packetAt r (placeOf (length (r .stat
 pub queue-at : (r : Ring) (low n k : ℕ) → k < n → getD (queueOf r low n) k noPacket ≡ packetAt r (placeOf (capOf r) low k)
 unfolding queueOf
 queue-at r low n k h = getD-tabulate (λ k. packetAt r (placeOf (length (r .status)) low k)) noPacket n k h
-
--- one packet more
-pub queue-more : (r : Ring) (low n : ℕ) → queueOf r low (n + 1) ≡ queueOf r low n ++ (packetAt r (placeOf (capOf r) low n) ∷ [])
-unfolding queueOf
-queue-more r low n = tabulate-more (λ k. packetAt r (placeOf (length (r .status)) low k)) n
-
--- two stretches, the second of which begins where the first ends
-pub queue-join : (r : Ring) (low a j m : ℕ) → ((k : ℕ) → placeOf (capOf r) a k ≡ placeOf (capOf r) low (j + k))
-    → queueOf r low (j + m) ≡ queueOf r low j ++ queueOf r a m
-unfolding queueOf
-queue-join r low a j m on = tabulate-join _ _ j m (λ k. ap (packetAt r) (sym (on k)))
 
 -- behind the n packets there is none
 pub queue-past : (r : Ring) (low n k : ℕ) → n ≤ k → getD (queueOf r low n) k noPacket ≡ noPacket
@@ -259,25 +225,6 @@ module _ (field : Packet → ℕ) where
             (λ q. n (place-inj cap C low j k l h q))
             ∙ lay-at low xs j l
             ∙ ap field (o j l n)
-
-    -- no packet in front: the queue is laid from the next PSN on
-    lay-shift : (low : ℕ) (xs : List Packet) → suc (length xs) ≤ cap → lay field cap low (noPacket ∷ xs) ≡ lay field cap (plus low 1) xs
-    lay-shift low xs h =
-        lay-of (plus low 1) (lay field cap low (noPacket ∷ xs)) xs (length-lay cap low (noPacket ∷ xs))
-        (λ k l. by-cases (decLe cap (suc k)) (λ p. last k l p) (λ p. early k (omega arith)))
-      where
-        early : (k : ℕ) → suc k < cap → getD (lay field cap low (noPacket ∷ xs)) (placeOf cap (plus low 1) k) 0 ≡ field (getD xs k noPacket)
-        early k l =
-            ap (λ (i : ℕ). getD (lay field cap low (noPacket ∷ xs)) i 0) (place-plus cap low 1 k ∙ ap (placeOf cap low) (omega arith))
-            ∙ lay-at low (noPacket ∷ xs) (suc k) l
-
-        last : (k : ℕ) → k < cap → cap ≤ suc k → getD (lay field cap low (noPacket ∷ xs)) (placeOf cap (plus low 1) k) 0
-            ≡ field (getD xs k noPacket)
-        last k l p =
-            ap (λ (i : ℕ). getD (lay field cap low (noPacket ∷ xs)) i 0)
-            (place-plus cap low 1 k ∙ ap (placeOf cap low) (omega arith) ∙ place-round cap C low)
-            ∙ lay-at low (noPacket ∷ xs) 0 (omega arith)
-            ∙ ap field (sym (List·getD-eq-default xs noPacket (omega arith)))
 
 -- ---- a queue laid over the ring
 
@@ -371,17 +318,3 @@ module _ (cap : ℕ) (C : Cap cap) (low : ℕ) where
     where
       beyond : (j : ℕ) → (j ≡ length xs → ⊥) → length xs ≤ j → length xs < j
       beyond j n p = by-cases (decLe j (length xs)) (λ q. absurd (n (omega arith))) (λ q. omega arith)
-
-  -- the first packet leaves: its slot is cleared, and the others are laid from the next PSN on
-  pub laid-tail : (x : Packet) (xs : List Packet) → suc (length xs) ≤ cap
-      → putAt (laid cap low (x ∷ xs)) (placeOf cap low 0) noPacket ≡ laid cap (plus low 1) xs
-  unfolding laid
-  laid-tail x xs h = laid-put (x ∷ xs) 0 noPacket (omega arith) h ∙ shift
-    where
-      shift : laid cap low (noPacket ∷ xs) ≡ laid cap (plus low 1) xs
-      shift =
-          rings
-          (lay-shift (λ x. x .status) cap C low xs h)
-          (lay-shift (λ x. x .size) cap C low xs h)
-          (lay-shift (λ x. x .sent) cap C low xs h)
-          (lay-shift (λ x. x .resent) cap C low xs h)

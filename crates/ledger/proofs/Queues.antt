@@ -1,7 +1,7 @@
 -- What covering does to a queue of packets, and what the done ones at its front are: by induction over the queue. No ring here.
 -- Assumes nothing.
 use mathlib.Core.Path.{_≡_, refl, sym, ap, ap₂, _∙_, subst}
-use mathlib.Core.Bool.{Bool, true, false, _&&_, _||_, false≢true}
+use mathlib.Core.Bool.{Bool, true, false, _||_, false≢true}
 use mathlib.Core.List.{List, [], _∷_}
 use Prim.Native.Nat.{ℕ, zero, suc, _+_, _%_, _≤_, _<_, zero-le, suc-le-suc}
 use native.Mathlib.Nat.{le-of-suc-le-suc, not-suc-le-zero, mod-eq-of-lt, add-comm, add-zero, zero-add, suc-add}
@@ -9,7 +9,7 @@ use native.Mathlib.Omega.{arith}
 use native.Mathlib.Numerals.{add-one}
 use borrow.Author.Tests.{eqb-true, eq-eqb, ne-eqb}
 use lib.Dec.{eqb}
-use lib.ListN.{length, getD, set, take, drop, drop-of-length-le}
+use lib.ListN.{length, getD, take, drop, drop-of-length-le}
 use lib.Seq.{drop-cons}
 use Rattle.rules.specs.Branch.{ifSo, ifEq, so-both, eq-both}
 use Rattle.serial.specs.Psn.{psns, plus}
@@ -53,15 +53,6 @@ pub now-done : (x : Packet) → isDone (withStatus doneStatus x) ≡ true
 unfolding isDone
 now-done x = refl
 
--- a packet that an ACK does not deliver, be it not out or not covered, stays as it is
-spared-in : (o : Bool) → (o && true) ≡ false → o ≡ false
-spared-in true e = e
-spared-in false e = refl
-
-pub spared : (hit : Bool) (x : Packet) → (isOut x && hit) ≡ false → coverOne hit x ≡ x
-spared true x e = cover-stays true x (spared-in (isOut x) e)
-spared false x e = cover-no x
-
 -- covered by one ACK and then by another is covered by either
 pub cover-again : (a b : Bool) (x : Packet) → coverOne b (coverOne a x) ≡ coverOne (a || b) x
 cover-again false b x = ap (coverOne b) (cover-no x)
@@ -101,39 +92,6 @@ module _ (cov : ℕ → Bool) where
   cover-each P f p zero (x ∷ xs) h = f (cov p) x h
   cover-each P f p (suc k) (x ∷ xs) h = cover-each P f (plus p 1) k xs h
 
-  -- the first k packets covered, and the others as they are
-  unfoldable pub coverTo : ℕ → ℕ → List Packet → List Packet
-  coverTo p zero xs = xs
-  coverTo p (suc k) [] = []
-  coverTo p (suc k) (x ∷ xs) = coverOne (cov p) x ∷ coverTo (plus p 1) k xs
-
-  pub to-long : (p k : ℕ) (xs : List Packet) → length (coverTo p k xs) ≡ length xs
-  unfolding coverTo
-  to-long p zero xs = refl
-  to-long p (suc k) [] = refl
-  to-long p (suc k) (x ∷ xs) = ap suc (to-long (plus p 1) k xs)
-
-  -- packet k is not covered yet ..
-  pub to-at : (p k : ℕ) (xs : List Packet) → getD (coverTo p k xs) k noPacket ≡ getD xs k noPacket
-  unfolding coverTo
-  to-at p zero xs = refl
-  to-at p (suc k) [] = refl
-  to-at p (suc k) (x ∷ xs) = to-at (plus p 1) k xs
-
-  -- .. and is the next to be
-  pub to-more : (p k : ℕ) (xs : List Packet) → p < psns → k < length xs
-      → set (coverTo p k xs) k (coverOne (cov (plus p k)) (getD xs k noPacket)) ≡ coverTo p (k + 1) xs
-  unfolding coverTo
-  to-more p k xs b h = go p k xs b h ∙ ap (λ (j : ℕ). coverTo p j xs) (sym (add-one k))
-    where
-      go : (p k : ℕ) (xs : List Packet) → p < psns → k < length xs
-          → set (coverTo p k xs) k (coverOne (cov (plus p k)) (getD xs k noPacket)) ≡ coverTo p (suc k) xs
-      go p k [] b h = absurd (not-suc-le-zero h)
-      go p zero (x ∷ xs) b h = ap (λ (q : ℕ). coverOne (cov q) x ∷ xs) (plus-none p b)
-      go p (suc k) (x ∷ xs) b h =
-          ap (λ (q : ℕ). coverOne (cov p) x ∷ set (coverTo (plus p 1) k xs) k (coverOne (cov q) (getD xs k noPacket))) (sym (plus-next p k))
-          ∙ ap (λ (ys : List Packet). coverOne (cov p) x ∷ ys) (go (plus p 1) k xs (plus-lt p 1) (le-of-suc-le-suc h))
-
   -- no packet from k on is covered
   abbrev pub Beyond : ℕ → ℕ → ℕ → Type 0
   Beyond p k n = (j : ℕ) → k ≤ j → j < n → cov (plus p j) ≡ false
@@ -146,18 +104,6 @@ module _ (cov : ℕ → Bool) where
 
   beyond-here : (p n : ℕ) → p < psns → Beyond p 0 (suc n) → cov p ≡ false
   beyond-here p n b h = subst (λ (q : ℕ). cov q ≡ false) (plus-none p b) (h 0 zero-le (suc-le-suc zero-le))
-
-  -- then the queue is covered whole
-  pub to-whole : (p k : ℕ) (xs : List Packet) → p < psns → Beyond p k (length xs) → coverTo p k xs ≡ coverAll cov p xs
-  unfolding coverTo coverAll
-  to-whole p zero [] b h = refl
-  to-whole p zero (x ∷ xs) b h =
-      ap₂ (λ (y : Packet) (ys : List Packet). y ∷ ys)
-      (sym (ap (λ (t : Bool). coverOne t x) (beyond-here p (length xs) b h) ∙ cover-no x))
-      (to-whole (plus p 1) zero xs (plus-lt p 1) (beyond-none p (length xs) h))
-  to-whole p (suc k) [] b h = refl
-  to-whole p (suc k) (x ∷ xs) b h =
-      ap (λ (ys : List Packet). coverOne (cov p) x ∷ ys) (to-whole (plus p 1) k xs (plus-lt p 1) (beyond-next p k (length xs) h))
 
 -- ---- what a queue adds up to: of the flying packets, the marked packets, the marked bytes,
 -- and anything that only packets that are out add to
@@ -185,12 +131,6 @@ module _ (adds : Packet → ℕ) (z : OfOut adds) where
   pub done-adds : (x : Packet) → x .status ≡ doneStatus → adds x ≡ 0
   unfolding isDone
   done-adds x e = z x (done-in x (eq-eqb (x .status) doneStatus e))
-
-  -- nothing of a packet that is not delivered leaves
-  pub spared-adds : (hit : Bool) (x : Packet) → (isOut x && hit) ≡ false → 0 ≡ ifSo hit (adds x) 0
-  unfolding ifSo
-  spared-adds true x e = sym (z x (spared-in (isOut x) e))
-  spared-adds false x e = refl
 
   -- what a covered packet adds leaves
   pub cover-adds : (hit : Bool) (x : Packet) → adds (coverOne hit x) + ifSo hit (adds x) 0 ≡ adds x
@@ -234,13 +174,6 @@ module _ (adds : Packet → ℕ) (cov : ℕ → Bool) where
       go p zero (x ∷ xs) b h = rw (plus-none p b) (add-comm (ifSo (cov p) (adds x) 0) 0)
       go p (suc k) (x ∷ xs) b h = rw (← (plus-next p k)) (omega (arith, go (plus p 1) k xs (plus-lt p 1) (le-of-suc-le-suc h)))
 
-  -- it is no more than the whole queue has, and as much where no packet from k on is covered
-  pub taken-le : (p k : ℕ) (xs : List Packet) → coveredSum adds cov p (take k xs) ≤ coveredSum adds cov p xs
-  unfolding coveredSum
-  taken-le p zero xs = zero-le
-  taken-le p (suc k) [] = zero-le
-  taken-le p (suc k) (x ∷ xs) = omega (arith, taken-le (plus p 1) k xs)
-
   pub taken-whole : (p k : ℕ) (xs : List Packet) → p < psns → Beyond cov p k (length xs)
       → coveredSum adds cov p (take k xs) ≡ coveredSum adds cov p xs
   unfolding coveredSum
@@ -273,10 +206,6 @@ run-next (x ∷ xs) h =
 
 -- it goes on behind a done packet, and ends before one that is not and at the queue's end
 module _ (xs : List Packet) (k : ℕ) where
-  pub run-more : k < length xs → getD xs k noPacket .status ≡ doneStatus → doneRun (drop k xs) ≡ suc (doneRun (drop (k + 1) xs))
-  unfolding doneRun ifEq
-  run-more h e = rw (drop-cons xs k noPacket h) (rw add-one (simp (eq-eqb _ _ e)))
-
   pub run-stop : k < length xs → (getD xs k noPacket .status ≡ doneStatus → ⊥) → doneRun (drop k xs) ≡ 0
   unfolding doneRun ifEq
   run-stop h n = rw (drop-cons xs k noPacket h) (simp (ne-eqb _ _ n))

@@ -3,7 +3,7 @@
 use mathlib.Core.Path.{_≡_, refl, sym, ap, subst}
 use mathlib.Core.Bool.{Bool, true, _&&_, and-true, and-assoc}
 use mathlib.Core.Logic.{⊎-elim}
-use mathlib.Core.List.{List, [], _∷_, _++_, append-nil, append-assoc}
+use mathlib.Core.List.{List, [], _∷_, _++_}
 use Prim.Native.Nat.{ℕ, zero, suc, _+_, _*_, _≤_, _<_, zero-le}
 use native.Mathlib.Nat.{add-zero, add-suc, le-refl, le-of-suc-le-suc, not-suc-le-zero, eq-or-lt-of-le, suc-mul}
 use native.Mathlib.Omega.{arith}
@@ -100,19 +100,3 @@ module _ {A : Type 0} where
   getD-tabulate f d zero k h = absurd (not-suc-le-zero h)
   getD-tabulate f d (suc n) zero h = refl
   getD-tabulate f d (suc n) (suc k) h = getD-tabulate (λ k. f (suc k)) d n k (le-of-suc-le-suc h)
-
-  -- a table of one value more
-  table-suc : (f : ℕ → A) (n : ℕ) → tabulate f (suc n) ≡ tabulate f n ++ (f n ∷ [])
-  unfolding tabulate
-  table-suc f zero = refl
-  table-suc f (suc n) = ap (λ (l : List A). f 0 ∷ l) (table-suc (λ k. f (suc k)) n)
-
-  pub tabulate-more : (f : ℕ → A) (n : ℕ) → tabulate f (n + 1) ≡ tabulate f n ++ (f n ∷ [])
-  tabulate-more f n = rw (add-one n) (table-suc f n)
-
-  -- a table of j + m values is one of the first j and one of the m behind them
-  pub tabulate-join : (f g : ℕ → A) (j m : ℕ) → ((k : ℕ) → f (j + k) ≡ g k) → tabulate f (j + m) ≡ tabulate f j ++ tabulate g m
-  unfolding tabulate
-  tabulate-join f g j zero h = rw (add-zero, append-nil) refl
-  tabulate-join f g j (suc m) h =
-      rw (add-suc, table-suc f (j + m), table-suc g m, tabulate-join f g j m h, h m) (append-assoc (tabulate f j) (tabulate g m) (g m ∷ []))
