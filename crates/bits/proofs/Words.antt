@@ -11,13 +11,14 @@ use native.Mathlib.Decide.{decLt}
 use native.Mathlib.Omega.{arith}
 use borrow.Author.Tests.{lt-ltb, ltb-true}
 use lib.Arith.{lt-one}
-use lib.Bits.{bitAnd, and-lt}
+use lib.Bits.{bitAnd, bitOr, and-lt, and-le-l, and-le-r, or-lt, or-add-and}
 use lib.Count.{ones, ones-step}
-use lib.Dec.{eqb}
+use lib.Dec.{eqb, ltb}
 use lib.ListN.{length, getD, set, length-set}
 use lib.Pow.{pow-pos}
 use lib.Seq.{getD-set-same, getD-set-other, set-out}
 use Rattle.rules.specs.Branch.{ifSo, ifEq, eq-yes, eq-no}
+use Rattle.rules.specs.Test.{both, whole}
 use Rattle.bits.specs.Bits.{bit, isWord, bitAt, one, valueOf, wordOf, wordsOf, withBit, putBit, without, lowest, sumTo, countIn}
 use Rattle.bits.proofs.Digits.{odd, bit-and, bit-low, bit-half, bit-zero, half-below}
 
@@ -330,3 +331,22 @@ unfolding countIn
 count-both w m hw hm =
     ones-sum 64 (bitAnd w m) (and-lt 64 w m hw hm)
     ∙ sum-same (λ j. one (bit (bitAnd w m) j)) (λ j. one (bit w j && bit m j)) 64 (λ j h. ap one (bit-and w m j))
+
+-- ---- two numbers together
+
+same-truth : (a b : Bool) → (a ≡ true → b ≡ true) → (b ≡ true → a ≡ true) → a ≡ b
+same-truth true b f g = sym (f refl)
+same-truth false true f g = g refl
+same-truth false false f g = refl
+
+-- two numbers together have k bits exactly if each has
+pub or-below : (k a b : ℕ) → ltb (bitOr a b) (2 ^ k) ≡ (ltb a (2 ^ k) && ltb b (2 ^ k))
+or-below k a b =
+    same-truth (ltb (bitOr a b) (2 ^ k)) (ltb a (2 ^ k) && ltb b (2 ^ k))
+    (λ t.
+    let l = ltb-true (bitOr a b) (2 ^ k) t in
+    let e = or-add-and a b in
+    whole (lt-ltb a (2 ^ k) (omega (arith, l, e, and-le-r a b))) (lt-ltb b (2 ^ k) (omega (arith, l, e, and-le-l a b))))
+    (λ t.
+    let p = both (ltb a (2 ^ k)) (ltb b (2 ^ k)) t in
+    lt-ltb (bitOr a b) (2 ^ k) (or-lt k a b (ltb-true a (2 ^ k) (p .0)) (ltb-true b (2 ^ k) (p .1))))

@@ -8,7 +8,7 @@ use Prim.Native.Nat.{ℕ, zero, suc, _+_, _-_, _*_, _/_, _%_, _^_, _≤_, _<_, z
 use native.Mathlib.Nat.{add-zero, not-suc-le-zero, pow-suc, eq-or-lt-of-le}
 use native.Mathlib.Decide.{decLt}
 use native.Mathlib.Omega.{arith}
-use lib.Bits.{bitAnd, bitOr, and-lt, and-le-l, and-le-r, or-lt, or-add-and}
+use lib.Bits.{bitAnd, bitOr, and-lt}
 use lib.Dec.{leb, ltb, eqb, lit<}
 use lib.ListN.{getD}
 use lib.Pow.{pow-pos, pow-mono, ones-lt, shl-exact}
@@ -17,7 +17,7 @@ use Rattle.rules.specs.Branch.{ifSo, so-both}
 use Rattle.rules.specs.Test.{inside, both, whole}
 use Rattle.bits.specs.Bits.{bit, bitAt, one, wordOf, without, lowest, sumTo, countIn}
 use Rattle.bits.proofs.Digits.{bit-and, bit-ones, bit-above, bit-shl-above, bit-shl-below}
-use Rattle.bits.proofs.Words.{zero-bit, value-lt, value-bit, word-is, word-true, without-bit, without-word}
+use Rattle.bits.proofs.Words.{zero-bit, or-below, value-lt, value-bit, word-is, word-true, without-bit, without-word}
 use Rattle.bits.proofs.Words.{sum-none as sum-zero}
 use Rattle.bits.proofs.Words.{lowest-before, lowest-at, sum-same, sum-join, sum-le}
 use Rattle.ledger.specs.Memory.{sizeIn, resentIn}
@@ -102,22 +102,10 @@ pub no-sum : (a b : ℕ) → eqb (a + b) 0 ≡ (eqb a 0 && eqb b 0)
 no-sum zero b = let e : 0 + b ≡ b = omega arith in rw e refl
 no-sum (suc a) b = rw (ne-eqb (suc a + b) 0 (λ e. omega arith), ne-eqb (suc a) 0 (λ e. omega arith)) refl
 
--- neither of two numbers has the top bit where both together have not
-top-or : (a b : ℕ) → ltb (bitOr a b) (2 ^ 63) ≡ (ltb a (2 ^ 63) && ltb b (2 ^ 63))
-top-or a b =
-    same-truth (ltb (bitOr a b) (2 ^ 63)) (ltb a (2 ^ 63) && ltb b (2 ^ 63))
-    (λ t.
-    let l = ltb-true (bitOr a b) (2 ^ 63) t in
-    let e = or-add-and a b in
-    whole (lt-ltb a (2 ^ 63) (omega (arith, l, e, and-le-r a b))) (lt-ltb b (2 ^ 63) (omega (arith, l, e, and-le-l a b))))
-    (λ t.
-    let p = both (ltb a (2 ^ 63)) (ltb b (2 ^ 63)) t in
-    lt-ltb (bitOr a b) (2 ^ 63) (or-lt 63 a b (ltb-true a (2 ^ 63) (p .0)) (ltb-true b (2 ^ 63) (p .1))))
-
 -- a time is past `most` where it has the top bit or `most` less it has, d
 pub top-late : (x d most : ℕ) → x < 2 ^ 64 → d < 2 ^ 64 → most < 2 ^ 63 → (d + x) % 2 ^ 64 ≡ most → ltb (bitOr x d) (2 ^ 63) ≡ leb x most
 top-late x d most hx hd hm e =
-    top-or x d
+    or-below 63 x d
     ∙ same-truth (ltb x (2 ^ 63) && ltb d (2 ^ 63)) (leb x most)
     (λ t.
     let p = both (ltb x (2 ^ 63)) (ltb d (2 ^ 63)) t in
@@ -129,7 +117,7 @@ top-late x d most hx hd hm e =
 -- a time more
 pub top-more : (late x d most : ℕ) (s : Bool) → x < 2 ^ 64 → d < 2 ^ 64 → most < 2 ^ 63 → (d + x) % 2 ^ 64 ≡ most → ltb late (2 ^ 63) ≡ s
     → ltb (bitOr late (bitOr x d)) (2 ^ 63) ≡ (s && leb x most)
-top-more late x d most s hx hd hm e h = top-or late (bitOr x d) ∙ ap₂ (λ (a b : Bool). a && b) h (top-late x d most hx hd hm e)
+top-more late x d most s hx hd hm e h = or-below 63 late (bitOr x d) ∙ ap₂ (λ (a b : Bool). a && b) h (top-late x d most hx hd hm e)
 
 -- ---- word by word
 
