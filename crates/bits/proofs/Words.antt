@@ -334,7 +334,8 @@ count-both w m hw hm =
 
 -- ---- two numbers together
 
-same-truth : (a b : Bool) → (a ≡ true → b ≡ true) → (b ≡ true → a ≡ true) → a ≡ b
+-- tests that hold together are one
+pub same-truth : (a b : Bool) → (a ≡ true → b ≡ true) → (b ≡ true → a ≡ true) → a ≡ b
 same-truth true b f g = sym (f refl)
 same-truth false true f g = g refl
 same-truth false false f g = refl

@@ -17,7 +17,7 @@ use Rattle.rules.specs.Branch.{ifSo, so-both}
 use Rattle.rules.specs.Test.{inside, both, whole}
 use Rattle.bits.specs.Bits.{bit, bitAt, one, wordOf, without, lowest, sumTo, countIn}
 use Rattle.bits.proofs.Digits.{bit-and, bit-ones, bit-above, bit-shl-above, bit-shl-below}
-use Rattle.bits.proofs.Words.{zero-bit, or-below, value-lt, value-bit, word-is, word-true, without-bit, without-word}
+use Rattle.bits.proofs.Words.{same-truth, zero-bit, or-below, value-lt, value-bit, word-is, word-true, without-bit, without-word}
 use Rattle.bits.proofs.Words.{sum-none as sum-zero}
 use Rattle.bits.proofs.Words.{lowest-before, lowest-at, sum-same, sum-join, sum-le}
 use Rattle.ledger.specs.Memory.{sizeIn, resentIn}
@@ -25,12 +25,6 @@ use Rattle.ledger.specs.Sound.{allTo}
 use Rattle.ledger.specs.Delivery.{sizesOf}
 use Rattle.ledger.specs.Stretch.{allIn, sizedIn, clearAt, markOk, oneAt, sizeAt}
 use Rattle.ledger.proofs.Walks.{all-none, all-more, all-at, all-of, all-same, all-join}
-
--- two tests that hold together are the same
-pub same-truth : (a b : Bool) → (a ≡ true → b ≡ true) → (b ≡ true → a ≡ true) → a ≡ b
-same-truth true b f g = sym (f refl)
-same-truth false true f g = g refl
-same-truth false false f g = refl
 
 -- ---- slot by slot
 

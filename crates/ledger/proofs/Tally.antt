@@ -15,7 +15,7 @@ use borrow.Author.Tests.{leb-true, eqb-true, le-leb, lt-leb, lt-ltb, le-ltb, eq-
 use Rattle.rules.specs.Branch.{ifSo, ifLt, ifEq}
 use Rattle.rules.specs.Test.{inside, both, whole}
 use Rattle.bits.specs.Bits.{bitAt, one, sumTo}
-use Rattle.bits.proofs.Words.{sum-same, sum-join, sum-none}
+use Rattle.bits.proofs.Words.{same-truth, sum-same, sum-join, sum-none}
 use Rattle.serial.specs.Psn.{psns}
 use Rattle.serial.specs.Count.{counts}
 use Rattle.ledger.specs.Packets.{flyingStatus, doneStatus, isDone, flyingOne, markedOne, markedSize, sumOf}
@@ -32,7 +32,7 @@ use Rattle.ledger.specs.declared.Packet.{Packet}
 use Rattle.ledger.proofs.Walks.{all-at, all-of, all-same}
 use Rattle.ledger.proofs.Geometry.{Cap, cap-facts, place-first, place-flat, place-lt, age-lt, age-place, place-age}
 use Rattle.ledger.proofs.Shows.{slots-even, shown-cap, shown-at, status-is, shown-ring, even-lengths}
-use Rattle.ledger.proofs.Stretches.{same-truth, three}
+use Rattle.ledger.proofs.Stretches.{three}
 
 -- ---- lengths
 
