@@ -1,5 +1,5 @@
--- "Prove that no two outcomes satisfy one promise": `calls-unique`, `ack-unique`, `nack-unique` and `path-unique`, for the sender's entry
--- points. Every promise is one equation, "what is made from the outcome ≡ what 01 says", and what is made tells the outcome.
+-- "Prove that no two outcomes satisfy one promise": `calls-unique`, `ack-unique`, `nack-unique`, `path-unique` and `look-unique`, for the
+-- sender's entry points. Every promise is one equation, "what is made from the outcome ≡ what 01 says", and what is made tells the outcome.
 -- Assumes nothing.
 use mathlib.Core.Path.{_≡_, refl, sym, ap, ap₂}
 use mathlib.Core.List.{List}
@@ -14,6 +14,7 @@ use Rattle.ledger.specs.Memory.{Memory}
 use Rattle.sender.specs.World.{World, Answered, answered, Routing, routed}
 use Rattle.sender.specs.Start.{onSetUp}
 use Rattle.sender.specs.Events.{saysOf, onNewData, onSend, onAck, ackSays, onNack, nackSays, onLoss, onPath}
+use Rattle.sender.specs.Look.{Looked, looked, onStatus, onNextMarked}
 use Rattle.sender.specs.declared.Feedback.{Feedback}
 use Rattle.sender.specs.declared.Feedback.the-variants as feedback
 use Rattle.sender.specs.declared.Heard.{Heard}
@@ -23,6 +24,7 @@ use Rattle.sender.specs.declared.Send.{Send}
 use Rattle.sender.specs.declared.Ack.{Ack}
 use Rattle.sender.specs.declared.Nack.{Nack}
 use Rattle.sender.specs.declared.Loss.{Loss}
+use Rattle.sender.specs.declared.look.Look.{Look}
 use Rattle.sender.proofs.Refusals.{one-outcome, one-route}
 
 -- the whole outcome of a call: its answer, and the final contents of the ring's memory and of the EV times
@@ -75,6 +77,15 @@ heard-tells x y e =
     record { answer = record { state = w .state; verdict = h .0; feedback = h .1 }; slots = w .slots; times = w .times })
     (ap₂ (λ (v : Verdict) (f : Feedback). (v, f)) v f) (ap (λ (z : Answered). z .after) a)
 
+-- a look at the ring, which is lent nothing to change (request M-109)
+abbrev pub madeLook : Look → Looked
+madeLook x = looked (numberOf (x .verdict)) (x .found)
+
+look-tells : Tells madeLook
+look-tells x y e =
+    ap₂ (λ (v : Verdict) (n : ℕ). record { verdict = v; found = n })
+    (number-tells (x .verdict) (y .verdict) (ap (λ (z : Looked). z .number) e)) (ap (λ (z : Looked). z .found) e)
+
 -- a call of an entry point that answers state and outcome: what it was handed
 pub data Call : Type 0 where
   setUp : Settings → Memory → List ℕ → Call
@@ -100,6 +111,10 @@ ack-unique w time a = unique madeHeard heard-tells (onAck time a w, ackSays time
 pub nack-unique : (w : World) (time : ℕ) (a : Nack) → OneOutcome madeHeard (onNack time a w, nackSays time a w)
 nack-unique w time a = unique madeHeard heard-tells (onNack time a w, nackSays time a w)
 
--- .. and no two of `path`
+-- .. no two of `path` ..
 pub path-unique : (w : World) (time : ℕ) → OneOutcome madeRoute (onPath time w)
 path-unique w time = unique madeRoute route-tells (onPath time w)
+
+-- .. and no two of `status` or of `next_marked`
+pub look-unique : (w : World) (psn : ℕ) → OneOutcome madeLook (onStatus psn w) × OneOutcome madeLook (onNextMarked psn w)
+look-unique w psn = (unique madeLook look-tells (onStatus psn w), unique madeLook look-tells (onNextMarked psn w))
