@@ -9,7 +9,7 @@ use native.Mathlib.Nat.{pow-suc, mod-lt, add-suc, add-zero, suc-mul, not-suc-le-
 use native.Mathlib.Numerals.{add-one}
 use native.Mathlib.Decide.{decLt}
 use native.Mathlib.Omega.{arith}
-use borrow.Author.Tests.{lt-ltb, ltb-true}
+use borrow.Author.Tests.{lt-ltb, ltb-true, eq-eqb, eqb-true}
 use lib.Arith.{lt-one}
 use lib.Bits.{bitAnd, bitOr, and-lt, and-le-l, and-le-r, or-lt, or-add-and}
 use lib.Count.{ones, ones-step}
@@ -351,3 +351,10 @@ or-below k a b =
     (λ t.
     let p = both (ltb a (2 ^ k)) (ltb b (2 ^ k)) t in
     lt-ltb (bitOr a b) (2 ^ k) (or-lt k a b (ltb-true a (2 ^ k) (p .0)) (ltb-true b (2 ^ k) (p .1))))
+
+-- and they are 0 exactly if each is
+pub or-zero : (a b : ℕ) → eqb (bitOr a b) 0 ≡ (eqb a 0 && eqb b 0)
+or-zero a b = none (bitOr a b) ∙ or-below 0 a b ∙ ap₂ (λ (x y : Bool). x && y) (sym (none a)) (sym (none b))
+  where
+    none : (x : ℕ) → eqb x 0 ≡ ltb x (2 ^ 0)
+    none x = same-truth (eqb x 0) (ltb x 1) (λ t. lt-ltb x 1 (omega (arith, eqb-true x 0 t))) (λ t. eq-eqb x 0 (omega (arith, ltb-true x 1 t)))

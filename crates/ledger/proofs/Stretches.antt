@@ -91,6 +91,21 @@ top-sized low high top most w h e = ap (λ (b : Bool). (leb low (sizeIn w) && b)
     go true q = le-leb (sizeIn w) top (omega (arith, leb-true (sizeIn w) high q))
     go false q = lt-leb (sizeIn w) top (omega (arith, leb-false (sizeIn w) high q))
 
+-- a slot's number is 0 where its size and its resend count are
+pub none-sized : (w : ℕ) → sizedIn 0 0 0 w ≡ eqb w 0
+unfolding sizedIn inside sizeIn resentIn
+none-sized w =
+    same-truth (sizedIn 0 0 0 w) (eqb w 0)
+    (λ t.
+    let p = both (inside 0 (sizeIn w) 0) (leb (resentIn w) 0) t in
+    eq-eqb w 0 (omega (arith, leb-true (sizeIn w) 0 (both (leb 0 (sizeIn w)) _ (p .0) .1), leb-true (resentIn w) 0 (p .1))))
+    (λ t. ap (sizedIn 0 0 0) (eqb-true w 0 t))
+
+-- and a time where it is not past 0
+pub none-timed : (x : ℕ) → leb x 0 ≡ eqb x 0
+none-timed x =
+    same-truth (leb x 0) (eqb x 0) (λ t. eq-eqb x 0 (omega (arith, leb-true x 0 t))) (λ t. le-leb x 0 (omega (arith, eqb-true x 0 t)))
+
 -- none of two numbers
 pub no-sum : (a b : ℕ) → eqb (a + b) 0 ≡ (eqb a 0 && eqb b 0)
 no-sum zero b = let e : 0 + b ≡ b = omega arith in rw e refl

@@ -8,7 +8,9 @@ use crate::stretch::marks_within;
 use crate::stretch::none_set;
 use crate::stretch::ones;
 use crate::stretch::sizes_within;
+use crate::stretch::sizes_zero;
 use crate::stretch::times_until;
+use crate::stretch::times_zero;
 ghost use mathlib.Core.Path.{_≡_};
 ghost use mathlib.Core.Bool.{true, _||_};
 ghost use Prim.Native.Nat.{_*_, _%_, _≤_};
@@ -70,9 +72,7 @@ fn zero_run<'a>(
     requires { ⌜ (to ≤ length (now sizes)) × (to ≤ length (now sent)) ⌝ }
     ensures { λ r. ⌜ r ≡ allIn (zeroAt (now (outstanding .entry)) (now (sizes .entry)) (now (sent .entry))) from to ⌝ }
 {
-    none_set(outstanding, from, to)
-        & sizes_within(sizes, 0, 0, 0, from, to)
-        & times_until(sent, 0, from, to)
+    none_set(outstanding, from, to) & sizes_zero(sizes, from, to) & times_zero(sent, from, to)
 }
 
 // Every slot, but for the marked bits: those of the n packets from low on are one run, or one up to the ring's end and one from its start

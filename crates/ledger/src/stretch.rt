@@ -54,6 +54,34 @@ pub(crate) fn sizes_within(
     all
 }
 
+// Whether every slot's number is 0: all of them together are.
+pub(crate) fn sizes_zero(sizes: &[u32], from: usize, to: usize) -> bool
+    requires { ⌜ (from ≤ to) × (to ≤ length (now sizes)) ⌝ }
+    ensures { λ r. ⌜ r ≡ allIn (sizedAt 0 0 0 (now (sizes .entry))) from to ⌝ }
+{
+    let mut any: u32 = 0;
+    let mut i = from;
+    while i < to {
+        any = any | sizes[i];
+        i += 1;
+    }
+    any == 0
+}
+
+// Whether every time is 0.
+pub(crate) fn times_zero(sent: &[u64], from: usize, to: usize) -> bool
+    requires { ⌜ (from ≤ to) × (to ≤ length (now sent)) ⌝ }
+    ensures { λ r. ⌜ r ≡ allIn (timedAt 0 (now (sent .entry))) from to ⌝ }
+{
+    let mut any: u64 = 0;
+    let mut i = from;
+    while i < to {
+        any = any | sent[i];
+        i += 1;
+    }
+    any == 0
+}
+
 // 1 for a time past `most`.
 fn one_late(x: u64, most: u64) -> u64
     ensures { λ r. ⌜ (eqb r 0 ≡ leb x most) × (r ≤ 1) ⌝ }

@@ -10,11 +10,11 @@ use Rattle.ledger.proofs.sound.zero_run.Tie as tie
 none-set-requires : tie.Need-none-set-requires
 none-set-requires c κs = search needs
 
-sizes-within-requires : tie.Need-sizes-within-requires
-sizes-within-requires c κs = search needs
+sizes-zero-requires : tie.Need-sizes-zero-requires
+sizes-zero-requires c κs = search needs
 
-times-until-requires : tie.Need-times-until-requires
-times-until-requires c κs = search needs
+times-zero-requires : tie.Need-times-zero-requires
+times-zero-requires c κs = search needs
 
 returns : tie.Need-returns
 unfolding zeroAt
@@ -24,11 +24,11 @@ returns c =
     let g = sizedAt 0 0 0 (a .sizes .now) in
     let h = timedAt 0 (a .sent .now) in
     ap₂ (λ (x y : Bool). x && y)
-    (ap₂ (λ (x y : Bool). x && y) (c .before .before .none-set .ensures) (c .before .sizes-within .ensures)
+    (ap₂ (λ (x y : Bool). x && y) (c .before .before .none-set .ensures) (c .before .sizes-zero .ensures)
     ∙ in-and f g (λ i. f i && g i) (a .from) (a .to) (λ i. refl))
-    (c .times-until .ensures)
+    (c .times-zero .ensures)
     ∙ in-and (λ i. f i && g i) h (zeroAt (a .outstanding .now) (a .sizes .now) (a .sent .now)) (a .from) (a .to) (λ i. refl)
 
 pub zero-run-spec : {M : Type 1} → statement M
 zero-run-spec =
-    tie.close (tie.spec none-set-requires sizes-within-requires times-until-requires returns)
+    tie.close (tie.spec none-set-requires sizes-zero-requires times-zero-requires returns)
