@@ -85,7 +85,7 @@ module _ (ws : List ℕ) (given : Unpacked) (given-is : given ≡ unpacked ws) w
 
 -- ---- setting up, by the tests in their order
 
-module _ (ns : List ℕ) (psn : ℕ) (off : Bool) (evs : ℕ) (ws : List ℕ) (r : Memory) (t : List ℕ) where
+module _ (ns : List ℕ) (psn off : ℕ) (evs : ℕ) (ws : List ℕ) (r : Memory) (t : List ℕ) where
   pub few-settings : (length ns ≡ settingsCount → ⊥) → called 2 ws r t ≡ onSetUpWords ns psn off evs ws r t
   unfolding onSetUpWords
   few-settings h = so-no _ _ _ _ (ne-eqb (length ns) settingsCount h) refl

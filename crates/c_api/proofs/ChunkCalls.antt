@@ -17,7 +17,8 @@ use Rattle.replay_chunks.specs.declared.Carry.{Carry}
 use Rattle.replay_chunks.proofs.Calls.{One, one, left-out, taken-in, either-way}
 use Rattle.replay_chunks.proofs.Joined.{calls-joined}
 use Rattle.replay_chunks.proofs.Tests.{chunk-place}
-use Rattle.c_state.specs.Layout.{wordCount, flag, unpacked}
+use Rattle.c_state.specs.Layout.{wordCount, unpacked}
+use Rattle.c_api.specs.Flags.{flag}
 use Rattle.c_state.specs.Statements.{Machine}
 use Rattle.c_api.specs.Batch.{wordsThen}
 use Rattle.c_api.specs.Parts.{partWords, carryFrom, partOk, Chunked, chunkCalled, partThen, handedPart, onChunkWords}

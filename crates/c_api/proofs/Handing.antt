@@ -17,7 +17,8 @@ use Rattle.sender.specs.World.{world}
 use Rattle.replay.specs.Places.{logged}
 use Rattle.replay.specs.Batches.{Batching, batchOf}
 use Rattle.replay.specs.declared.Place.{Place}
-use Rattle.c_state.specs.Layout.{wordCount, bit, word, unpacked}
+use Rattle.c_state.specs.Layout.{wordCount, word, unpacked}
+use Rattle.c_api.specs.Flags.{bit}
 use Rattle.c_state.specs.declared.Unpacked.{Unpacked}
 use Rattle.c_api.specs.Batch.{placeCount, placeWords, placeFrom, lentOk, placeThen, wordsThen, replayCalled, handed, onReplayWords}
 

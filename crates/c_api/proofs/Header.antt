@@ -21,7 +21,8 @@ use Rattle.replay_chunks.proofs.Calls.{left-out, taken-in, either-way}
 use Rattle.replay_chunks.proofs.Joined.{log-begun, log-joined}
 use Rattle.replay_chunks.proofs.Joins.{words-long}
 use Rattle.replay_chunks.proofs.Tests.{chunk-yes}
-use Rattle.c_state.specs.Layout.{wordCount, bit}
+use Rattle.c_state.specs.Layout.{wordCount}
+use Rattle.c_api.specs.Flags.{bit}
 use Rattle.c_api.specs.Batch.{lentOk, wordsThen}
 use Rattle.c_api.specs.Parts.{partOk}
 use Rattle.c_api.specs.Statements.{Lent, chunkStart, chunkLog, chunkAll, chunkLast, ChunkFinished, Placed, replayStart, roomsLong}

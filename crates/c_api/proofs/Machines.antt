@@ -11,6 +11,7 @@ use mathlib.Core.Logic.{by-cases}
 use borrow.Author.Tests.{ne-eqb}
 use Rattle.rules.specs.Branch.{ifEq, so-both, eq-yes, eq-both}
 use Rattle.rules.specs.Rows.{firstOf}
+use Rattle.window.specs.Sound.{freshOf}
 use Rattle.window.specs.declared.Settings.{Settings}
 use Rattle.ledger.specs.Memory.{Memory}
 use Rattle.sender.specs.World.{World, Answered}
@@ -48,16 +49,19 @@ later-machine (event.SetUp x) w s = sound-machine w s
 
 -- a state of zeros
 zeros-machine : Machine (freshState noSettings)
-unfolding freshState noSettings
+unfolding freshState noSettings freshOf
 zeros-machine =
     record {
       first-psn = omega arith;
+      quick-adapt-off = omega arith;
       low = omega arith;
       next = omega arith;
-      held = omega arith;
       flying = omega arith;
       marked = omega arith;
+      fast = omega arith;
+      trigger = omega arith;
       cursor = omega arith;
+      phase = omega arith;
       flown = record { low = omega arith; high = omega arith };
     }
 

@@ -16,7 +16,8 @@ use Rattle.sender.specs.declared.Controller.{Controller}
 use Rattle.replay.specs.Places.{Feed, Turning, turnsOf, lastPlace, lastWorld}
 use Rattle.replay.specs.declared.Place.{Place}
 use Rattle.replay_chunks.specs.declared.Carry.{Carry}
-use Rattle.c_state.specs.Layout.{wordCount, bit, stateWords, unpacked}
+use Rattle.c_state.specs.Layout.{wordCount, stateWords, unpacked}
+use Rattle.c_api.specs.Flags.{bit}
 use Rattle.c_state.specs.Statements.{Machine}
 use Rattle.c_state.proofs.Inverse.{long, unpack-pack}
 use Rattle.c_api.specs.Batch.{placeWords, placeFrom, lentOk, wordsThen}

@@ -32,7 +32,7 @@ call-unique = one-outcome made back (λ x. refl)
 
 -- handed the words of a state, a ring and EV times
 module _ (ws : List ℕ) (r : Memory) (t : List ℕ) where
-  pub set-up-unique : (settings : List ℕ) (psn : ℕ) (off : Bool) (evs : ℕ) → OneOutcome made (onSetUpWords settings psn off evs ws r t)
+  pub set-up-unique : (settings : List ℕ) (psn off : ℕ) (evs : ℕ) → OneOutcome made (onSetUpWords settings psn off evs ws r t)
   set-up-unique settings psn off evs = call-unique _
 
   pub new-data-unique : (time bytes : ℕ) → OneOutcome made (onWords ws r t (onNewData time bytes))

@@ -27,7 +27,8 @@ use Rattle.replay.specs.Answers.{soundAfter}
 use Rattle.replay.specs.Places.{logged, offsetMost, soundPlace}
 use Rattle.replay.specs.Batches.{Batching, fillRoomOf, batchOf}
 use Rattle.replay_chunks.specs.Chunks.{Chunking, soundChunk, takes, chunkOf}
-use Rattle.c_state.specs.Layout.{word, flag, settingsFrom, stateFrom, wordsOk, unpacked}
+use Rattle.c_state.specs.Layout.{word, settingsFrom, stateFrom, wordsOk, unpacked}
+use Rattle.c_api.specs.Flags.{flag}
 use Rattle.c_state.specs.declared.Unpacked.{Unpacked}
 use Rattle.c_api.specs.Calls.{Called, called, wordsAfter, Beside, pathBeside, ackBeside, nackBeside, besideWord, onWords}
 use Rattle.c_api.specs.Calls.{onBesideWords, onSetUpWords}
@@ -123,7 +124,7 @@ module _ (ws : List ℕ) (r : Memory) (t : List ℕ) where
     pub path-untouched : SparedBeside (onBesideWords ws r t (pathBeside time))
     path-untouched = refused-beside (pathBeside time) (path-word time) (λ w h. path-same time w h .0)
 
-  pub set-up-untouched : (ns : List ℕ) (psn : ℕ) (off : Bool) (evs : ℕ) → Spared (onSetUpWords ns psn off evs ws r t)
+  pub set-up-untouched : (ns : List ℕ) (psn off : ℕ) (evs : ℕ) → Spared (onSetUpWords ns psn off evs ws r t)
   unfolding onSetUpWords
   set-up-untouched ns psn off evs =
       let g = settingsFrom ns psn off evs in

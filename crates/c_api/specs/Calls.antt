@@ -114,7 +114,7 @@ unfoldable pub onBesideWords : List ℕ → Memory → List ℕ → (World → B
 onBesideWords ws r t event = ifSo (wordsOk ws) (packedBeside ws (event (world (stateFrom ws) r t))) (called 2 ws r t)
 
 -- setting up: 1, then 2 on lengths. Settings that are not twelve numbers can't be read: 2
-unfoldable pub onSetUpWords : List ℕ → ℕ → Bool → ℕ → List ℕ → Memory → List ℕ → Called
+unfoldable pub onSetUpWords : List ℕ → ℕ → ℕ → ℕ → List ℕ → Memory → List ℕ → Called
 onSetUpWords ns psn off evs ws r t =
     ifSo (eqb (length ns) settingsCount)
     (ifSo (inRange (settingsFrom ns psn off evs))

@@ -1,4 +1,5 @@
 -- What the contracts of `c_api` cite, and what the theorem on chunks speaks of.
+pub mod Flags
 pub mod Calls
 pub mod Looks
 pub mod Batch

@@ -10,7 +10,8 @@ use Rattle.ledger.specs.Memory.{Memory}
 use Rattle.sender.specs.World.{world}
 use Rattle.replay_chunks.specs.Chunks.{Chunking, chunkOf}
 use Rattle.replay_chunks.specs.declared.Carry.{Carry}
-use Rattle.c_state.specs.Layout.{wordCount, bit, word, unpacked}
+use Rattle.c_state.specs.Layout.{wordCount, word, unpacked}
+use Rattle.c_api.specs.Flags.{bit}
 use Rattle.c_api.specs.Batch.{placeFrom, wordsThen}
 
 abbrev pub partCount : ℕ

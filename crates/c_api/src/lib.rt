@@ -19,6 +19,7 @@ use sender::Nack;
 use sender::Send;
 ghost use mathlib.Core.Path.{_≡_};
 ghost use lib.ListN.{length};
+ghost use Rattle.rules.specs.Mode.{modeOf};
 ghost use Rattle.ledger.specs.Lent.{memoryBefore};
 ghost use Rattle.ledger.specs.Memory.{memory};
 ghost use Rattle.sender.specs.Events.{onNewData, onSend, onLoss};
@@ -76,13 +77,14 @@ pub extern "C" fn nscc_set_up(
     evs: &mut [u64],
 ) -> u32
     ensures { λ r. ⌜ calledAfter r state outstanding marked sizes sent evs
-        ≡ onSetUpWords (now (settings .entry)) «first_psn» «quick_adapt_off» «ev_count» (now (state .entry))
+        ≡ onSetUpWords (now (settings .entry)) «first_psn» (modeOf «quick_adapt_off») «ev_count» (now (state .entry))
         (memoryBefore outstanding marked sizes sent) (now (evs .entry)) ⌝ }
 {
     if settings.len() != c_state::SETTINGS {
         return number_of(Verdict::Unsound);
     }
-    let given = c_state::settings_of(settings, first_psn, quick_adapt_off, ev_count as u64);
+    let off = rules::mode_of(quick_adapt_off);
+    let given = c_state::settings_of(settings, first_psn, off, ev_count as u64);
     if !window::bounds::in_range(given) {
         return number_of(Verdict::Setting);
     }

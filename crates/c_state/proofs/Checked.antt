@@ -14,7 +14,7 @@ use Rattle.window.specs.declared.Settings.{Settings}
 use Rattle.sender.specs.Start.{noSettings, freshState}
 use Rattle.sender.specs.declared.Controller.{Controller}
 use Rattle.c_state.specs.Places as place
-use Rattle.c_state.specs.Layout.{wordCount, fieldEnd, flagEnd, phaseEnd, inFlightAdded, inFlightMost, word}
+use Rattle.c_state.specs.Layout.{wordCount, fieldEnd, inFlightAdded, inFlightMost, word}
 use Rattle.c_state.specs.Layout.{stateFrom, wordsOk, unpacked}
 use Rattle.c_state.specs.Statements.{WordsFacts}
 
@@ -28,17 +28,16 @@ module _ (ws : List ℕ) where
   pub words-facts : wordsOk ws ≡ true → WordsFacts ws
   unfolding wordsOk
   words-facts e =
-      let phase = below _ (word ws place.phase) phaseEnd e in
+      let phase = below _ (word ws place.phase) fieldEnd e in
       let cursor = below _ (word ws place.cursor) fieldEnd (phase .0) in
-      let trigger = below _ (word ws place.trigger) flagEnd (cursor .0) in
-      let fast = below _ (word ws place.fast) flagEnd (trigger .0) in
+      let trigger = below _ (word ws place.trigger) fieldEnd (cursor .0) in
+      let fast = below _ (word ws place.fast) fieldEnd (trigger .0) in
       let in-flight = below _ (word ws place.inFlight) (inFlightMost + inFlightAdded + 1) (fast .0) in
       let marked = below _ (word ws place.marked) fieldEnd (in-flight .0) in
       let flying = below _ (word ws place.flying) fieldEnd (marked .0) in
-      let held = below _ (word ws place.held) fieldEnd (flying .0) in
-      let next = below _ (word ws place.next) fieldEnd (held .0) in
+      let next = below _ (word ws place.next) fieldEnd (flying .0) in
       let low = below _ (word ws place.low) fieldEnd (next .0) in
-      let off = below _ (word ws place.quickAdaptOff) flagEnd (low .0) in
+      let off = below _ (word ws place.quickAdaptOff) fieldEnd (low .0) in
       let psn = below (eqb (length ws) wordCount) (word ws place.firstPsn) fieldEnd (off .0) in
       let long = eqb-true (length ws) wordCount (psn .0) in
       omega arith
@@ -55,12 +54,12 @@ module _ (ws : List ℕ) where
 
   -- of the right length, the rest of the test is left
   pub rest-left : length ws ≡ wordCount →
-      (ltb (word ws place.firstPsn) fieldEnd && ltb (word ws place.quickAdaptOff) flagEnd
-      && ltb (word ws place.low) fieldEnd && ltb (word ws place.next) fieldEnd && ltb (word ws place.held) fieldEnd
+      (ltb (word ws place.firstPsn) fieldEnd && ltb (word ws place.quickAdaptOff) fieldEnd
+      && ltb (word ws place.low) fieldEnd && ltb (word ws place.next) fieldEnd
       && ltb (word ws place.flying) fieldEnd && ltb (word ws place.marked) fieldEnd
       && ltb (word ws place.inFlight) (inFlightMost + inFlightAdded + 1)
-      && ltb (word ws place.fast) flagEnd && ltb (word ws place.trigger) flagEnd
-      && ltb (word ws place.cursor) fieldEnd && ltb (word ws place.phase) phaseEnd) ≡ wordsOk ws
+      && ltb (word ws place.fast) fieldEnd && ltb (word ws place.trigger) fieldEnd
+      && ltb (word ws place.cursor) fieldEnd && ltb (word ws place.phase) fieldEnd) ≡ wordsOk ws
   unfolding wordsOk
   rest-left h = rw (eq-eqb (length ws) wordCount h)
 

@@ -2,71 +2,26 @@
 -- the machine can hold is read back as it was (`unpack-pack`); a state that passes number 2 is such a state (`sound-machine`).
 -- Assumes nothing.
 use mathlib.Core.Path.{_≡_, refl, sym, _∙_}
-use mathlib.Core.Bool.{Bool, true, false}
+use mathlib.Core.Bool.{true}
 use mathlib.Core.List.{List}
-use Prim.Native.Nat.{ℕ, zero, suc, _<_}
+use Prim.Native.Nat.{ℕ}
 use native.Mathlib.Omega.{arith}
-use lib.Dec.{eqb}
 use lib.ListN.{length}
 use lib.Seq.{ext-getD}
-use Rattle.rules.specs.Branch.{ifEq}
 use Rattle.ledger.specs.Ring.{tabulate}
 use Rattle.ledger.proofs.Signs.{sound-ledger-flown}
 use Rattle.ledger.proofs.Walks.{length-tabulate, getD-tabulate}
 use Rattle.ledger.proofs.Facts.{sound-ledger-facts}
-use Rattle.sender.specs.Named.{phaseNumber}
 use Rattle.sender.specs.Sound.{sound}
 use Rattle.sender.specs.World.{World, viewOf}
 use Rattle.sender.specs.declared.Controller.{Controller}
-use Rattle.sender.specs.declared.Phase.{Phase}
-use Rattle.sender.specs.declared.Phase.the-variants.{Idle, Pending, Ready, Active}
-use Rattle.sender.proofs.Sounds.{sound-facts, sound-to-ledger, sound-bounded}
+use Rattle.sender.proofs.Sounds.{sound-facts, sound-to-ledger, sound-bounded, phase-high}
 use Rattle.c_state.specs.Places as place
-use Rattle.c_state.specs.Layout.{wordCount, flagEnd, phaseEnd, bit, stateWords, word}
-use Rattle.c_state.specs.Layout.{settingsFrom, flowFrom, totalsFrom, windowFrom, phaseFrom, stateFrom, wordsOk}
+use Rattle.c_state.specs.Layout.{wordCount, stateWords, word}
+use Rattle.c_state.specs.Layout.{settingsFrom, flowFrom, totalsFrom, windowFrom, stateFrom, wordsOk}
 use Rattle.c_state.specs.Statements.{WordsFacts, Machine}
 use Rattle.c_state.proofs.Checked.{words-facts, facts-words}
 use Rattle.c_state.proofs.InFlight.{word-most, word-back, back-word}
-
--- ---- a flag and a name, there and back
-
-flag-bit : (b : Bool) → eqb (bit b) 1 ≡ b
-unfolding bit
-flag-bit true = refl
-flag-bit false = refl
-
-bit-flag : (n : ℕ) → n < flagEnd → bit (eqb n 1) ≡ n
-unfolding bit
-bit-flag zero h = refl
-bit-flag (suc zero) h = refl
-bit-flag (suc (suc n)) h = absurd (let k : ⊥ = omega arith in k)
-
-bit-below : (b : Bool) → bit b < flagEnd
-unfolding bit
-bit-below true = omega arith
-bit-below false = omega arith
-
-name-back : (p : Phase) → phaseFrom (phaseNumber p) ≡ p
-unfolding phaseFrom ifEq phaseNumber
-name-back Idle = refl
-name-back Pending = refl
-name-back Ready = refl
-name-back Active = refl
-
-number-back : (n : ℕ) → n < phaseEnd → phaseNumber (phaseFrom n) ≡ n
-unfolding phaseFrom ifEq phaseNumber
-number-back zero h = refl
-number-back (suc zero) h = refl
-number-back (suc (suc zero)) h = refl
-number-back (suc (suc (suc zero))) h = refl
-number-back (suc (suc (suc (suc n)))) h = absurd (let k : ⊥ = omega arith in k)
-
-number-below : (p : Phase) → phaseNumber p < phaseEnd
-unfolding phaseNumber
-number-below Idle = omega arith
-number-below Pending = omega arith
-number-below Ready = omega arith
-number-below Active = omega arith
 
 -- ---- words to a state and back
 
@@ -80,14 +35,7 @@ pub pack-unpack : (ws : List ℕ) → wordsOk ws ≡ true → stateWords (stateF
 unfolding stateWords stateFrom settingsFrom flowFrom totalsFrom windowFrom tabulate
 pack-unpack ws ok =
     let W = words-facts ws ok in
-    rw (
-      bit-flag (word ws place.quickAdaptOff) (W .quick-adapt-off),
-      back-word (word ws place.inFlight) (W .in-flight),
-      bit-flag (word ws place.fast) (W .fast),
-      bit-flag (word ws place.trigger) (W .trigger),
-      number-back (word ws place.phase) (W .phase),
-    )
-    (spelled ws wordCount (W .long))
+    rw (back-word (word ws place.inFlight) (W .in-flight)) (spelled ws wordCount (W .long))
 
 -- ---- a state to words and back
 
@@ -103,29 +51,21 @@ module _ (c : Controller) (M : Machine c) where
       record {
         long = refl;
         first-psn = M .first-psn;
-        quick-adapt-off = bit-below (c .settings .«quick_adapt_off»);
+        quick-adapt-off = M .quick-adapt-off;
         low = M .low;
         next = M .next;
-        held = M .held;
         flying = M .flying;
         marked = M .marked;
         in-flight = word-most (c .totals .«in_flight») (M .flown);
-        fast = bit-below (c .window .fast);
-        trigger = bit-below (c .window .trigger);
+        fast = M .fast;
+        trigger = M .trigger;
         cursor = M .cursor;
-        phase = number-below (c .phase);
+        phase = M .phase;
       }
 
   state-back : stateFrom (stateWords c) ≡ c
   unfolding stateWords stateFrom settingsFrom flowFrom totalsFrom windowFrom
-  state-back =
-      rw (
-        flag-bit (c .settings .«quick_adapt_off»),
-        word-back (c .totals .«in_flight») (M .flown),
-        flag-bit (c .window .fast),
-        flag-bit (c .window .trigger),
-        name-back (c .phase),
-      )
+  state-back = rw (word-back (c .totals .«in_flight») (M .flown))
 
   pub unpack-pack : (wordsOk (stateWords c) ≡ true) × (stateFrom (stateWords c) ≡ c)
   unpack-pack = (facts-words (stateWords c) machine-facts, state-back)
@@ -135,13 +75,17 @@ pub sound-machine : (w : World) → sound w ≡ true → Machine (w .state)
 sound-machine w e =
     let C = sound-to-ledger w e in
     let F = sound-ledger-facts C in
+    let S = sound-facts (viewOf w) e in
     record {
-      first-psn = sound-facts (viewOf w) e .range .psn-high;
+      first-psn = S .range .psn-high;
+      quick-adapt-off = omega (arith, S .range .off-high);
       low = F .low-psn;
       next = F .next-psn;
-      held = omega (arith, F .held);
       flying = omega (arith, C .flying-most);
       marked = omega (arith, C .marked-most);
-      cursor = omega (arith, sound-facts (viewOf w) e .cursor-ok, sound-bounded w e .evs-high);
+      fast = omega (arith, S .sound-window .fast-high);
+      trigger = omega (arith, S .sound-window .trigger-high);
+      cursor = omega (arith, S .cursor-ok, sound-bounded w e .evs-high);
+      phase = rw (S .named) (omega (arith, phase-high (w .state .settings .mtu) (w .state .window .cwnd) (w .state .flow) (w .state .totals)));
       flown = sound-ledger-flown C;
     }

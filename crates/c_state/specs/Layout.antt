@@ -1,4 +1,4 @@
--- The controller's state as words, in the order of `Places`: the settings in document 01's order, the first PSN and the flag that disables
+-- The controller's state as words, in the order of `Places`: the settings in document 01's order, the first PSN and the mode that disables
 -- quick adapt; low, next, held and backlog; flying, marked, marked bytes and in-flight; the window; the clock, the path cursor and the
 -- state's name; the number of EVs (request M-110).
 -- Assumes nothing.
@@ -9,16 +9,13 @@ use lib.Dec.{ltb, eqb}
 use lib.IntN.{ℤ, pos, natAbs, _+ℤ_, _-ℤ_}
 use lib.ListN.{length, getD}
 use lib.Signed.{ltZ}
-use Rattle.rules.specs.Branch.{ifSo, ifEq}
+use Rattle.rules.specs.Branch.{ifSo}
 use Rattle.window.specs.declared.Settings.{Settings}
 use Rattle.window.specs.declared.Window.{Window}
 use Rattle.ledger.specs.declared.Flow.{Flow}
 use Rattle.ledger.specs.declared.Totals.{Totals}
-use Rattle.sender.specs.Named.{phaseNumber}
 use Rattle.sender.specs.Start.{noSettings, freshState}
 use Rattle.sender.specs.declared.Controller.{Controller}
-use Rattle.sender.specs.declared.Phase.{Phase}
-use Rattle.sender.specs.declared.Phase.the-variants.{Idle, Pending, Ready, Active}
 use Rattle.c_state.specs.Places as place
 use Rattle.c_state.specs.declared.Unpacked.{Unpacked}
 
@@ -34,14 +31,6 @@ settingsCount = 12
 abbrev pub fieldEnd : ℕ
 fieldEnd = 2 ^ 32
 
--- one past the largest flag, 0 or 1
-abbrev pub flagEnd : ℕ
-flagEnd = 2
-
--- one past the number of the last of the four state names
-abbrev pub phaseEnd : ℕ
-phaseEnd = 4
-
 -- what is added to in-flight: "from -2^24 up to MaxWnd"
 abbrev pub inFlightAdded : ℕ
 inFlightAdded = 2 ^ 24
@@ -51,10 +40,6 @@ abbrev pub inFlightMost : ℕ
 inFlightMost = 2 ^ 26
 
 -- ---- a state's words
-
-unfoldable pub bit : Bool → ℕ
-bit true = 1
-bit false = 0
 
 -- in-flight with 2^24 added; a number out of its range, which no state that holds together has, is cut to the range
 unfoldable pub inFlightWord : ℤ → ℕ
@@ -78,7 +63,7 @@ stateWords c =
     ∷ c .settings .«adjust_bytes»
     ∷ c .settings .«qa_threshold»
     ∷ c .settings .«first_psn»
-    ∷ bit (c .settings .«quick_adapt_off»)
+    ∷ c .settings .«quick_adapt_off»
     ∷ c .flow .low
     ∷ c .flow .next
     ∷ c .flow .held
@@ -96,14 +81,14 @@ stateWords c =
     ∷ c .window .ignored
     ∷ c .window .«bytes_to_ignore»
     ∷ c .window .«fi_count»
-    ∷ bit (c .window .fast)
-    ∷ bit (c .window .trigger)
+    ∷ c .window .fast
+    ∷ c .window .trigger
     ∷ c .window .«qa_end»
     ∷ c .window .«last_adjust»
     ∷ c .window .«last_dec»
     ∷ c .clock
     ∷ c .cursor
-    ∷ phaseNumber (c .phase)
+    ∷ c .phase
     ∷ c .settings .«ev_count»
     ∷ []
 
@@ -113,11 +98,8 @@ stateWords c =
 abbrev pub word : List ℕ → ℕ → ℕ
 word ws i = getD ws i 0
 
-abbrev pub flag : List ℕ → ℕ → Bool
-flag ws i = eqb (word ws i) 1
-
--- the twelve numbers, the first PSN, the flag that disables quick adapt and the number of EVs
-unfoldable pub settingsFrom : List ℕ → ℕ → Bool → ℕ → Settings
+-- the twelve numbers, the first PSN, the mode that disables quick adapt and the number of EVs
+unfoldable pub settingsFrom : List ℕ → ℕ → ℕ → ℕ → Settings
 settingsFrom ws psn off evs =
     record {
       mtu = word ws place.mtu;
@@ -161,46 +143,42 @@ windowFrom ws =
       ignored = word ws place.ignored;
       «bytes_to_ignore» = word ws place.bytesToIgnore;
       «fi_count» = word ws place.fiCount;
-      fast = flag ws place.fast;
-      trigger = flag ws place.trigger;
+      fast = word ws place.fast;
+      trigger = word ws place.trigger;
       «qa_end» = word ws place.qaEnd;
       «last_adjust» = word ws place.lastAdjust;
       «last_dec» = word ws place.lastDec;
     }
 
-unfoldable pub phaseFrom : ℕ → Phase
-phaseFrom n = ifEq n 0 Idle (ifEq n 1 Pending (ifEq n 2 Ready Active))
-
 unfoldable pub stateFrom : List ℕ → Controller
 stateFrom ws =
     record {
-      settings = settingsFrom ws (word ws place.firstPsn) (flag ws place.quickAdaptOff) (word ws place.evCount);
+      settings = settingsFrom ws (word ws place.firstPsn) (word ws place.quickAdaptOff) (word ws place.evCount);
       flow = flowFrom ws;
       totals = totalsFrom ws;
       window = windowFrom ws;
       clock = word ws place.clock;
       cursor = word ws place.cursor;
-      phase = phaseFrom (word ws place.phase);
+      phase = word ws place.phase;
     }
 
 -- ---- words that are those of a state
 
--- a 32-bit field holds a number of 32 bits, a flag is 0 or 1, the name one of four, in-flight in its range
+-- a 32-bit field holds a number of 32 bits, and in-flight is in its range; the other bounds, of modes and the name too, are number 2's
 unfoldable pub wordsOk : List ℕ → Bool
 wordsOk ws =
     eqb (length ws) wordCount
     && ltb (word ws place.firstPsn) fieldEnd
-    && ltb (word ws place.quickAdaptOff) flagEnd
+    && ltb (word ws place.quickAdaptOff) fieldEnd
     && ltb (word ws place.low) fieldEnd
     && ltb (word ws place.next) fieldEnd
-    && ltb (word ws place.held) fieldEnd
     && ltb (word ws place.flying) fieldEnd
     && ltb (word ws place.marked) fieldEnd
     && ltb (word ws place.inFlight) (inFlightMost + inFlightAdded + 1)
-    && ltb (word ws place.fast) flagEnd
-    && ltb (word ws place.trigger) flagEnd
+    && ltb (word ws place.fast) fieldEnd
+    && ltb (word ws place.trigger) fieldEnd
     && ltb (word ws place.cursor) fieldEnd
-    && ltb (word ws place.phase) phaseEnd
+    && ltb (word ws place.phase) fieldEnd
 
 -- the state, or a state of zeros
 unfoldable pub unpacked : List ℕ → Unpacked

@@ -4,14 +4,13 @@ pub mod places;
 use ledger::Flow;
 use ledger::Totals;
 use sender::Controller;
-use sender::Phase;
 use window::Settings;
 use window::Window;
 ghost use mathlib.Core.Path.{_≡_};
 ghost use Prim.Native.Nat.{_≤_};
 ghost use lib.ListN.{length};
-ghost use Rattle.c_state.specs.Layout.{wordCount, settingsCount, bit, inFlightWord, stateWords};
-ghost use Rattle.c_state.specs.Layout.{settingsFrom, flowFrom, totalsFrom, windowFrom, phaseFrom, stateFrom, wordsOk, unpacked};
+ghost use Rattle.c_state.specs.Layout.{wordCount, settingsCount, inFlightWord, stateWords};
+ghost use Rattle.c_state.specs.Layout.{settingsFrom, flowFrom, totalsFrom, windowFrom, stateFrom, wordsOk, unpacked};
 ghost use Rattle.c_state.specs.Statements.{WordsFacts};
 
 // How many words a state has.
@@ -32,22 +31,10 @@ pub const IN_FLIGHT_END: u64 = (1 << 26) + (1 << 24) + 1;
 // One past the largest number of a 32-bit field.
 pub const FIELD_END: u64 = 1 << 32;
 
-// One past the largest flag, 0 or 1.
-pub const FLAG_END: u64 = 2;
-
-// One past the number of the last of the four state names.
-pub const PHASE_END: u64 = 4;
-
 // A state, where the words are those of one; else a state of zeros.
 pub struct Unpacked {
     pub good: bool,
     pub state: Controller,
-}
-
-fn bit_of(b: bool) -> u64
-    ensures { λ r. ⌜ r ≡ bit b ⌝ }
-{
-    if b { 1 } else { 0 }
 }
 
 // In-flight's word; a number out of its range, which no state that holds together has, is cut to the range.
@@ -71,7 +58,6 @@ pub fn pack(state: Controller) -> [u64; WORDS]
     let f = state.flow;
     let t = state.totals;
     let w = state.window;
-    let phase = state.phase;
     [
         s.mtu,
         s.maxwnd,
@@ -86,10 +72,10 @@ pub fn pack(state: Controller) -> [u64; WORDS]
         s.adjust_bytes,
         s.qa_threshold,
         s.first_psn as u64,
-        bit_of(s.quick_adapt_off),
+        s.quick_adapt_off as u64,
         f.low as u64,
         f.next as u64,
-        f.held as u64,
+        f.held,
         f.backlog,
         t.flying as u64,
         t.marked as u64,
@@ -104,14 +90,14 @@ pub fn pack(state: Controller) -> [u64; WORDS]
         w.ignored,
         w.bytes_to_ignore,
         w.fi_count,
-        bit_of(w.fast),
-        bit_of(w.trigger),
+        w.fast as u64,
+        w.trigger as u64,
         w.qa_end,
         w.last_adjust,
         w.last_dec,
         state.clock,
         state.cursor as u64,
-        sender::naming::phase_number(phase) as u64,
+        state.phase as u64,
         s.ev_count,
     ]
 }
@@ -124,22 +110,21 @@ fn words_ok(ws: &[u64]) -> bool
         return false;
     }
     (ws[places::FIRST_PSN] < FIELD_END)
-        & (ws[places::QUICK_ADAPT_OFF] < FLAG_END)
+        & (ws[places::QUICK_ADAPT_OFF] < FIELD_END)
         & (ws[places::LOW] < FIELD_END)
         & (ws[places::NEXT] < FIELD_END)
-        & (ws[places::HELD] < FIELD_END)
         & (ws[places::FLYING] < FIELD_END)
         & (ws[places::MARKED] < FIELD_END)
         & (ws[places::IN_FLIGHT] < IN_FLIGHT_END)
-        & (ws[places::FAST] < FLAG_END)
-        & (ws[places::TRIGGER] < FLAG_END)
+        & (ws[places::FAST] < FIELD_END)
+        & (ws[places::TRIGGER] < FIELD_END)
         & (ws[places::CURSOR] < FIELD_END)
-        & (ws[places::PHASE] < PHASE_END)
+        & (ws[places::PHASE] < FIELD_END)
 }
 
-// The settings: twelve numbers in document 01's order, the first PSN, the flag that disables quick adapt and the number of EVs. An inner
+// The settings: twelve numbers in document 01's order, the first PSN, the mode that disables quick adapt and the number of EVs. An inner
 // step: the caller proves that there are twelve.
-pub fn settings_of(ws: &[u64], first_psn: u32, quick_adapt_off: bool, ev_count: u64) -> Settings
+pub fn settings_of(ws: &[u64], first_psn: u32, quick_adapt_off: u32, ev_count: u64) -> Settings
     requires { ⌜ settingsCount ≤ length (now ws) ⌝ }
     ensures { λ r. ⌜ r ≡ settingsFrom (now (ws .entry)) «first_psn» «quick_adapt_off» «ev_count» ⌝ }
 {
@@ -170,7 +155,7 @@ fn flow_from(ws: &[u64]) -> Flow
     Flow {
         low: ws[places::LOW] as u32,
         next: ws[places::NEXT] as u32,
-        held: ws[places::HELD] as u32,
+        held: ws[places::HELD],
         backlog: ws[places::BACKLOG],
     }
 }
@@ -201,22 +186,11 @@ fn window_from(ws: &[u64]) -> Window
         ignored: ws[places::IGNORED],
         bytes_to_ignore: ws[places::BYTES_TO_IGNORE],
         fi_count: ws[places::FI_COUNT],
-        fast: ws[places::FAST] == 1,
-        trigger: ws[places::TRIGGER] == 1,
+        fast: ws[places::FAST] as u32,
+        trigger: ws[places::TRIGGER] as u32,
         qa_end: ws[places::QA_END],
         last_adjust: ws[places::LAST_ADJUST],
         last_dec: ws[places::LAST_DEC],
-    }
-}
-
-fn phase_from(n: u64) -> Phase
-    ensures { λ r. ⌜ r ≡ phaseFrom n ⌝ }
-{
-    match n {
-        0 => Phase::Idle,
-        1 => Phase::Pending,
-        2 => Phase::Ready,
-        _ => Phase::Active,
     }
 }
 
@@ -228,7 +202,7 @@ fn state_from(ws: &[u64]) -> Controller
         settings: settings_of(
             ws,
             ws[places::FIRST_PSN] as u32,
-            ws[places::QUICK_ADAPT_OFF] == 1,
+            ws[places::QUICK_ADAPT_OFF] as u32,
             ws[places::EV_COUNT],
         ),
         flow: flow_from(ws),
@@ -236,7 +210,7 @@ fn state_from(ws: &[u64]) -> Controller
         window: window_from(ws),
         clock: ws[places::CLOCK],
         cursor: ws[places::CURSOR] as u32,
-        phase: phase_from(ws[places::PHASE]),
+        phase: ws[places::PHASE] as u32,
     }
 }
 

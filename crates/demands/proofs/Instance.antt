@@ -13,6 +13,7 @@ use lib.Count.{leadingZeros}
 use lib.IntN.{pos}
 use lib.ListN.{length, replicate}
 use Rattle.rules.specs.Branch.{ifSo, ifLt, ifEq, eq-yes}
+use Rattle.rules.specs.Mode.{isOn, isMode}
 use Rattle.rules.specs.Test.{inside}
 use Rattle.rules.specs.Rows.{firstOf}
 use Rattle.bits.specs.Bits.{bit, isWord, bitAt, one, valueOf, wordsOf}
@@ -41,7 +42,7 @@ use Rattle.ledger.specs.Sound.{allTo, isCapacity, isRing, isEven, isLive, isZer
 use Rattle.ledger.specs.Steps.{changed, supplyOf, pushOf, resendOf, markOf, heldOf, newlyOf, acknowledgeOf}
 use Rattle.ledger.specs.declared.Packet.{Packet}
 use Rattle.sender.specs.World.{World, world, Answered, ledgerOf}
-use Rattle.sender.specs.Named.{hasRoom, phaseOf, phaseNumber}
+use Rattle.sender.specs.Named.{hasRoom, phaseOf}
 use Rattle.sender.specs.Sound.{timesOk, namedOk, soundView, sound}
 use Rattle.sender.specs.Rows.{setUpRows}
 use Rattle.sender.specs.Start.{freshState, onSetUp}
@@ -72,7 +73,7 @@ fresh = world (freshState settingsE) (memory (replicate 1 0) (replicate 1 0) (re
 
 module _ (m : Memory) (times : List ℕ) (L : Lent m times) where
   none-refuses : firstOf (setUpRows settingsE m times) ≡ 0
-  unfolding firstOf ifSo ifEq settingsE inRange inside isEvCount isEven slotsOf isCapacity
+  unfolding firstOf ifSo ifEq settingsE inRange isMode inside isEvCount isEven slotsOf isCapacity
   none-refuses = rw (L .sizes, L .sent, L .evs, L .marked, L .outstanding)
 
   answers : onSetUp settingsE m times ≡ record { number = 0; after = fresh }
@@ -120,7 +121,7 @@ unfolding fresh freshState settingsE sum remember sentBy reportedBy lostBy ifSo 
     flyingOne markedOne markedSize sumOf coverOne coverAll coveredSum doneRun inBounds sinks packetAt tabulate placeOf ageOf lay laid
     queueOf longOf packets offsetOf packetOf allTo isCapacity isRing isLive isZero slotOk headOk stands tallies soundLedger changed
     supplyOf
-    pushOf resendOf markOf heldOf newlyOf acknowledgeOf hasRoom phaseOf phaseNumber timesOk namedOk soundView stateOf settled avoidedIn
+    pushOf resendOf markOf heldOf newlyOf acknowledgeOf hasRoom phaseOf isOn isMode timesOk namedOk soundView stateOf settled avoidedIn
     newDataState newDataStep sendStep ackSample ackStep lossStep decided onNewData onSend onAck onLoss
     bit isWord bitAt one valueOf wordsOf packed sizeIn resentIn slotsOf inWindow statusOf wordsAt statusAt shown isOutStatus isMarkStatus
     stored
@@ -145,7 +146,7 @@ start-sound : sound start ≡ true
 unfolding start settingsE soundView isEvCount inRange inside soundWindow maxWndOf freshOf soundLedger stands isRing isCapacity longOf minus
     allTo
     slotOk ifLt ifSo ifEq isLive isZero headOk tallies sumOf flyingOne markedOne markedSize inBounds packets queueOf tabulate packetAt
-    placeOf plus ageOf lay laid isDone timesOk namedOk phaseOf phaseNumber hasRoom stateOf
+    placeOf plus ageOf lay laid isDone timesOk namedOk phaseOf isOn isMode hasRoom stateOf
     bit isWord bitAt one valueOf wordsOf packed sizeIn resentIn slotsOf inWindow statusOf wordsAt statusAt shown isOutStatus isMarkStatus
     stored
 start-sound = refl

@@ -8,6 +8,7 @@ use Prim.Native.Nat.{ℕ}
 use lib.Dec.{ltb}
 use lib.IntN.{ℤ}
 use Rattle.rules.specs.Branch.{ifSo, so-both, lt-both, so-yes, so-no}
+use Rattle.rules.specs.Mode.{on, isOn}
 use Rattle.window.specs.Delays.{updateBaseRttOf, measureOf}
 use Rattle.window.specs.Quick.{fireOf, restartOf, quickAdaptOf}
 use Rattle.window.specs.Fields.{withIgnored, withTrigger}
@@ -39,20 +40,20 @@ module _ (s : Settings) (w : Window) where
   unfolding quickAdaptOf restartOf fireOf
   quick-adapt-delays time lost marked delay inFlight =
       let P : Adapted → Type 0 = λ a. Same w (a .window) in
-      so-both P (s .«quick_adapt_off» || ltb time (w .«qa_end»)) _ _ (λ e. refl) (λ e. so-both P _ _ _ (λ e. refl) (λ e. refl))
+      so-both P (isOn (s .«quick_adapt_off») || ltb time (w .«qa_end»)) _ _ (λ e. refl) (λ e. so-both P _ _ _ (λ e. refl) (λ e. refl))
 
   fast-increase-delays : (newly delay : ℕ) → Same w (fastIncreaseOf s newly delay w)
   unfolding fastIncreaseOf leaveFastModeOf raiseCwndOf
   fast-increase-delays newly delay =
       so-both (Same w) (isNear delay (w .base)) _ _
-      (λ e. so-both (Same w) (w .fast) _ _ (λ e. refl) (λ e. lt-both (Same w) (w .cwnd) _ _ _ (λ e. refl) (λ e. refl)))
+      (λ e. so-both (Same w) (isOn (w .fast)) _ _ (λ e. refl) (λ e. lt-both (Same w) (w .cwnd) _ _ _ (λ e. refl) (λ e. refl)))
       (λ e. refl)
 
   proportional-increase-delays : (newly delay : ℕ) → Same w (proportionalIncreaseOf s newly delay w)
   unfolding proportionalIncreaseOf addIncBytesOf
   proportional-increase-delays newly delay =
       let same = fast-increase-delays newly delay in
-      so-both (Same w) (fastIncreaseOf s newly delay w .fast) _ _ (λ e. same) (λ e. same)
+      so-both (Same w) (isOn (fastIncreaseOf s newly delay w .fast)) _ _ (λ e. same) (λ e. same)
 
   multiplicative-decrease-delays : (time : ℕ) → Same w (multiplicativeDecreaseOf s time w)
   unfolding multiplicativeDecreaseOf leaveFastModeOf
@@ -99,7 +100,7 @@ module _ (s : Settings) (time : ℕ) where
   pub loss-delays : (size : ℕ) (inFlight : ℤ) (w : Window) → Same w (lossOf s time size inFlight w)
   unfolding lossOf shrinkOf
   loss-delays size inFlight w =
-      let v = withTrigger true (withIgnored (addToTallyOf (w .ignored) size) w) in
+      let v = withTrigger on (withIgnored (addToTallyOf (w .ignored) size) w) in
       let a = quickAdaptOf s time true true 0 inFlight v in
       so-both (Same (a .window)) (a .fired) _ _ (λ e. refl) (λ e. refl) ∙ quick-adapt-delays s v time true true 0 inFlight
 

@@ -7,6 +7,7 @@ use Prim.Native.Nat.{ℕ, _+_, _-_, _*_, _^_}
 use lib.Dec.{eqb}
 use lib.IntN.{pos}
 use lib.ListN.{replicate}
+use Rattle.rules.specs.Mode.{off}
 use Rattle.window.specs.Limits.{parts}
 use Rattle.window.specs.Fields.{withCwnd, withAvg, withIncBytes, withReceived}
 use Rattle.window.specs.Sound.{freshOf}
@@ -65,7 +66,7 @@ settingsE =
       «adjust_bytes» = 32768;
       «qa_threshold» = 288;
       «first_psn» = 0;
-      «quick_adapt_off» = false;
+      «quick_adapt_off» = off;
       «ev_count» = 256;
     }
 

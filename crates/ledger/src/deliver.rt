@@ -141,13 +141,13 @@ fn reach(n: u32, back: u32, span: u32) -> u32
 }
 
 // The held count after a count came in.
-fn held_after(count: u32, held: u32) -> u32
+fn held_after(count: u32, held: u64) -> u64
     ensures { λ r. ⌜ r ≡ heldOf count held ⌝ }
 {
     if serial::is_old(count, held) {
         return held;
     }
-    count
+    count as u64
 }
 
 // The ledger after an ACK. An inner step: the caller proves that the ledger holds together and that no row refuses the ACK.

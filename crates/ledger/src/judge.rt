@@ -18,7 +18,7 @@ ghost use Rattle.ledger.specs.Steps.{newlyOf};
 ghost use Rattle.ledger.specs.Rows.{newRows, resendRows, ackRows, markRows};
 
 // Bytes that an ACK newly reports.
-pub fn newly(count: u32, held: u32) -> u64
+pub fn newly(count: u32, held: u64) -> u64
     ensures { λ r. ⌜ (r ≡ newlyOf count held) × (r < 2 ^ 31) ⌝ }
 {
     crate::UNIT * serial::forward(count, held)

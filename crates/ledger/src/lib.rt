@@ -43,7 +43,7 @@ pub const UNIT: u64 = 256;
 pub struct Flow {
     pub low: u32,
     pub next: u32,
-    pub held: u32,
+    pub held: u64,
     pub backlog: u64,
 }
 

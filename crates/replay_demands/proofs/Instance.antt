@@ -10,6 +10,7 @@ use Prim.Native.Nat.{ℕ}
 use lib.IntN.{pos, _-ℤ_}
 use lib.ListN.{getD, getElem?, replicate}
 use Rattle.rules.specs.Branch.{ifSo, ifLt, ifEq}
+use Rattle.rules.specs.Mode.{isOn, isMode, modeOf}
 use Rattle.rules.specs.Rows.{firstOf}
 use Rattle.rules.specs.Test.{inside}
 use Rattle.log_bytes.specs.Little.{littleEndian, numberAt}
@@ -27,7 +28,7 @@ use Rattle.ledger.specs.Memory.{memory, packed, sizeIn, resentIn, slotsOf, inWi
 use Rattle.ledger.specs.Memory.{isMarkStatus, stored}
 use Rattle.ledger.specs.Sound.{allTo, isCapacity, isRing, isEven, isLive, isZero, slotOk, headOk, stands, tallies, soundLedger}
 use Rattle.ledger.specs.Steps.{changed, supplyOf, pushOf, heldOf, newlyOf, acknowledgeOf}
-use Rattle.sender.specs.Named.{hasRoom, phaseOf, phaseNumber}
+use Rattle.sender.specs.Named.{hasRoom, phaseOf}
 use Rattle.sender.specs.Sound.{timesOk, namedOk, soundView}
 use Rattle.sender.specs.Steps.{stateOf, settled, newDataState, newDataStep, sendStep, ackStep}
 use Rattle.sender.specs.Events.{decided, onNewData, onSend, onAck}
@@ -93,7 +94,7 @@ unfolding worked readFrom readIn parseAt frontOf lookUp wholeOf checkOf properOf
 worked-last = refl
 
 pub worked-opened : Opened worked lent settingsE behind
-unfolding lent settingsE onSetUp firstOf inRange inside isEvCount isEven slotsOf isCapacity ifSo ifEq
+unfolding lent settingsE onSetUp firstOf inRange isMode modeOf inside isEvCount isEven slotsOf isCapacity ifSo ifEq
 worked-opened = record { first = first; reads = worked-read; settings = refl; accepted = refl }
 
 -- "new data 8192 at 0; send PSN 0, 4096 at 10; send PSN 2, 4096 at 20; ACK at 110"
@@ -130,7 +131,7 @@ unfolding lent settingsE answers onSetUp freshState freshOf firstOf inRange insi
     stands longOf minus
     allTo slotOk isLive isZero headOk tallies sumOf flyingOne markedOne markedSize inBounds packets queueOf tabulate packetAt placeOf
     plus ageOf lay
-    laid isDone timesOk namedOk phaseOf phaseNumber hasRoom covered bitOf unsentOrOld backOf spanOf leadingZeros newlyOf forwardOf
+    laid isDone timesOk namedOk phaseOf isOn isMode modeOf hasRoom covered bitOf unsentOrOld backOf spanOf leadingZeros newlyOf forwardOf
     aheadOf isOld sinks
 given-numbers = refl
 
@@ -142,7 +143,7 @@ unfolding lent settingsE answers onSetUp freshState freshOf firstOf inRange insi
     stands longOf minus
     allTo slotOk isLive isZero headOk tallies sumOf flyingOne markedOne markedSize inBounds packets queueOf tabulate packetAt placeOf
     plus ageOf lay
-    laid isDone timesOk namedOk phaseOf phaseNumber hasRoom covered bitOf unsentOrOld backOf spanOf leadingZeros newlyOf forwardOf
+    laid isDone timesOk namedOk phaseOf isOn isMode modeOf hasRoom covered bitOf unsentOrOld backOf spanOf leadingZeros newlyOf forwardOf
     aheadOf isOld sinks
     ackStep acknowledgeOf coverOne coverAll doneRun isFlying isOut heldOf
 given-flights = refl
@@ -159,7 +160,7 @@ unfolding lent settingsE answers onSetUp freshState freshOf firstOf inRange insi
     stands longOf minus
     allTo slotOk isLive isZero headOk tallies sumOf flyingOne markedOne markedSize inBounds packets queueOf tabulate packetAt placeOf
     plus ageOf lay
-    laid isDone timesOk namedOk phaseOf phaseNumber hasRoom covered bitOf unsentOrOld backOf spanOf leadingZeros newlyOf forwardOf
+    laid isDone timesOk namedOk phaseOf isOn isMode modeOf hasRoom covered bitOf unsentOrOld backOf spanOf leadingZeros newlyOf forwardOf
     aheadOf isOld sinks
     sum sentBy reportedBy lostBy remember heldOf
 given-sums = refl

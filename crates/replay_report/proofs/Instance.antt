@@ -13,6 +13,7 @@ use lib.Seq.{getD-append-add}
 use borrow.Author.Tests.{ltb-true, ltb-false}
 use native.Mathlib.Omega.{arith}
 use Rattle.rules.specs.Branch.{ifSo, ifLt, ifEq}
+use Rattle.rules.specs.Mode.{isOn, isMode, modeOf}
 use Rattle.rules.specs.Test.{inside, inside-yes, neither}
 use Rattle.rules.specs.Rows.{firstOf}
 use Rattle.log_bytes.specs.Little.{littleEndian, numberAt, bytesOf}
@@ -35,7 +36,7 @@ use Rattle.ledger.specs.Ring.{packetAt, tabulate, placeOf, ageOf, lay, laid, qu
 use Rattle.ledger.specs.Sound.{allTo, isCapacity, isRing, isEven, isLive, isZero, slotOk, headOk, stands, tallies, soundLedger}
 use Rattle.ledger.specs.Steps.{changed, supplyOf, pushOf, resendOf, markOf, newlyOf}
 use Rattle.sender.specs.World.{World, world}
-use Rattle.sender.specs.Named.{hasRoom, phaseOf, phaseNumber}
+use Rattle.sender.specs.Named.{hasRoom, phaseOf}
 use Rattle.sender.specs.Sound.{timesOk, namedOk, soundView}
 use Rattle.sender.specs.Start.{noSettings, freshState, onSetUp}
 use Rattle.sender.specs.Steps.{stateOf, settled, avoidedIn, newDataState, newDataStep, sendStep, ackSampling, lossStep}
@@ -220,7 +221,7 @@ unfolding resentLog onceLog lent recordBytes bytesOf littleEndian numberAt lookU
     markedSize sumOf inBounds
     sinks packetAt tabulate placeOf ageOf lay laid queueOf longOf packets offsetOf packetOf isLive isZero slotOk headOk stands tallies
     soundLedger changed
-    supplyOf pushOf resendOf markOf newlyOf hasRoom phaseOf phaseNumber timesOk namedOk soundView stateOf settled avoidedIn
+    supplyOf pushOf resendOf markOf newlyOf hasRoom phaseOf isOn isMode modeOf timesOk namedOk soundView stateOf settled avoidedIn
     newDataState newDataStep
     sendStep ackSampling lossStep decided says onNewData onSend onAck onLoss howMany kindTest isAck ackStands mayDiffer
     isEven slotsOf inWindow statusOf wordsAt statusAt shown sizeIn resentIn stored packed isOutStatus isMarkStatus bit isWord bitAt one

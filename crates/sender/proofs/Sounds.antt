@@ -12,7 +12,7 @@ use lib.Dec.{ltb, eqb}
 use lib.ListN.{length, getD, set, drop, length-set, drop-of-length-le}
 use lib.Seq.{drop-cons}
 use borrow.Author.Tests.{ltb-true, eqb-true, lt-ltb, le-ltb, eq-eqb, not-true, not-false}
-use Rattle.rules.specs.Branch.{so-both}
+use Rattle.rules.specs.Branch.{so-both, eq-both}
 use Rattle.rules.specs.Test.{both, whole}
 use Rattle.window.specs.Limits.{timeEnd, laterEnd}
 use Rattle.window.specs.Range.{inRange, InRange}
@@ -29,33 +29,21 @@ use Rattle.ledger.specs.declared.Totals.{Totals}
 use Rattle.ledger.proofs.Signs.{sound-ledger-flown}
 use Rattle.ledger.proofs.Facts.{sound-ledger-is, sound-ledger-facts}
 use Rattle.sender.specs.World.{World, View, view, viewOf, ledgerIn, ledgerOf}
-use Rattle.sender.specs.Named.{phaseOf, phaseNumber}
+use Rattle.sender.specs.Named.{active, phaseOf}
 use Rattle.sender.specs.Sound.{timesOk, namedOk, soundView, sound}
 use Rattle.sender.specs.Bounds.{Bounded}
 use Rattle.sender.specs.Steps.{stateOf, settled, avoidedIn}
 use Rattle.sender.specs.declared.Controller.{Controller}
-use Rattle.sender.specs.declared.Phase.{Phase}
-use Rattle.sender.specs.declared.Phase.the-variants.{Idle, Pending, Ready, Active}
 
 -- ---- the state's name
 
--- the name that a number stands for
-nameOf : ℕ → Phase
-nameOf zero = Idle
-nameOf (suc zero) = Pending
-nameOf (suc (suc zero)) = Ready
-nameOf (suc (suc (suc n))) = Active
-
-name-back : (p : Phase) → nameOf (phaseNumber p) ≡ p
-unfolding phaseNumber nameOf
-name-back Idle = refl
-name-back Pending = refl
-name-back Ready = refl
-name-back Active = refl
-
--- names with one number are one
-pub phase-one : (p q : Phase) → phaseNumber p ≡ phaseNumber q → p ≡ q
-phase-one p q e = sym (name-back p) ∙ ap nameOf e ∙ name-back q
+-- it is one of four numbers
+pub phase-high : (mtu cwnd : ℕ) (f : Flow) (t : Totals) → phaseOf mtu cwnd f t ≤ active
+unfolding phaseOf
+phase-high mtu cwnd f t =
+    let P : ℕ → Type 0 = λ n. n ≤ active in
+    so-both P _ _ _ (λ _. eq-both P _ _ _ _ (λ _. omega arith) (λ _. omega arith))
+    (λ _. so-both P _ _ _ (λ _. omega arith) (λ _. omega arith))
 
 -- ---- the EV times
 
@@ -133,11 +121,11 @@ pub record SoundFacts (v : View) : Type 0 where
 
 pub name-facts : (c : Controller) → namedOk c ≡ true → c .phase ≡ phaseOf (c .settings .mtu) (c .window .cwnd) (c .flow) (c .totals)
 unfolding namedOk
-name-facts c e = phase-one _ _ (eqb-true _ _ e)
+name-facts c e = eqb-true _ _ e
 
 pub name-test : (c : Controller) → c .phase ≡ phaseOf (c .settings .mtu) (c .window .cwnd) (c .flow) (c .totals) → namedOk c ≡ true
 unfolding namedOk
-name-test c e = eq-eqb _ _ (ap phaseNumber e)
+name-test c e = eq-eqb _ _ e
 
 pub sound-facts : (v : View) → soundView v ≡ true → SoundFacts v
 unfolding soundView
@@ -232,13 +220,13 @@ module _ (v : View) (range : Bool) (range-is : range ≡ inRange (v .state .sett
             (window-facts (v .state .settings) (v .state .clock) (v .state .window) (sym window-is ∙ not-false window-ok h))
 
         pub tests-left :
-            (ok : Bool) (m n : ℕ) (name : Phase) → ok ≡ timesOk (v .times) → m ≡ phaseNumber (v .state .phase) → n ≡ phaseNumber name →
+            (ok : Bool) (name : ℕ) → ok ≡ timesOk (v .times) →
             name ≡ phaseOf (v .state .settings .mtu) (v .state .window .cwnd) (v .state .flow) (v .state .totals) →
             (ltb (v .state .clock) timeEnd && eqb (length (v .times)) (v .state .settings .«ev_count») && ok
-            && ltb (v .state .cursor) (v .state .settings .«ev_count») && eqb m n) ≡ soundView v
+            && ltb (v .state .cursor) (v .state .settings .«ev_count») && eqb (v .state .phase) name) ≡ soundView v
         unfolding soundView namedOk
-        tests-left ok m n name t p q is =
-            rw (sym range-is ∙ not-false range r, sym window-is ∙ not-false window-ok h, sym books-is ∙ not-false books l, t, p, q, is)
+        tests-left ok name t is =
+            rw (sym range-is ∙ not-false range r, sym window-is ∙ not-false window-ok h, sym books-is ∙ not-false books l, t, is)
 
 -- ---- the way back
 

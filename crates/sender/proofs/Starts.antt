@@ -31,12 +31,11 @@ use Rattle.ledger.proofs.Geometry.{cap-facts, place-lt, laid-queue}
 use Rattle.ledger.proofs.Facts.{ring-even, stands-laid, packets-laid, tallies-test, sound-ledger-whole}
 use Rattle.ledger.proofs.Shows.{shown-cap, shown-at, shown-ring}
 use Rattle.sender.specs.World.{world, viewOf, Answered, answered}
-use Rattle.sender.specs.Named.{phaseOf}
+use Rattle.sender.specs.Named.{idle, phaseOf}
 use Rattle.sender.specs.Sound.{timesOk, sound}
 use Rattle.sender.specs.Rows.{setUpRows}
 use Rattle.sender.specs.Start.{noSettings, freshFlow, freshTotals, freshState, zeros, clearMemory, onSetUp}
 use Rattle.sender.specs.declared.Controller.{Controller}
-use Rattle.sender.specs.declared.Phase.the-variants.{Idle}
 use Rattle.sender.proofs.Sounds.{facts-sound}
 
 -- ---- zeros over a slice
@@ -148,7 +147,7 @@ fresh-ledger mtu maxwnd psn m fits e =
     (tallies-test maxwnd freshTotals [] refl refl refl (record { low = omega arith; high = omega arith }))))
 
 module _ (s : Settings) (m : Memory) (times : List ℕ) where
-  fresh-named : phaseOf (s .mtu) (freshOf s .cwnd) (freshFlow (s .«first_psn»)) freshTotals ≡ Idle
+  fresh-named : phaseOf (s .mtu) (freshOf s .cwnd) (freshFlow (s .«first_psn»)) freshTotals ≡ idle
   unfolding phaseOf
   fresh-named = sym (so-yes _ _ _ _ refl (eq-yes _ _ _ _ _ refl refl))
 

@@ -9,22 +9,26 @@ use lib.Signed.{leZ}
 use Rattle.rules.specs.Branch.{ifSo, ifEq}
 use Rattle.ledger.specs.declared.Flow.{Flow}
 use Rattle.ledger.specs.declared.Totals.{Totals}
-use Rattle.sender.specs.declared.Phase.{Phase}
-use Rattle.sender.specs.declared.Phase.the-variants.{Idle, Pending, Ready, Active}
 
 -- "in-flight + MTU is at most cwnd"
 unfoldable pub hasRoom : ℕ → ℕ → ℤ → Bool
 hasRoom mtu cwnd inFlight = leZ (inFlight +ℤ pos mtu) (pos cwnd)
 
-unfoldable pub phaseOf : ℕ → ℕ → Flow → Totals → Phase
+-- the names as numbers
+abbrev pub idle : ℕ
+idle = 0
+
+abbrev pub pending : ℕ
+pending = 1
+
+abbrev pub ready : ℕ
+ready = 2
+
+abbrev pub active : ℕ
+active = 3
+
+unfoldable pub phaseOf : ℕ → ℕ → Flow → Totals → ℕ
 phaseOf mtu cwnd f t =
     ifSo (eqb (f .backlog) 0 && eqb (t .marked) 0)
-    (ifEq (t .flying) 0 Idle Pending)
-    (ifSo (hasRoom mtu cwnd (t .«in_flight»)) Ready Active)
-
--- names as numbers, to compare them by
-unfoldable pub phaseNumber : Phase → ℕ
-phaseNumber Idle = 0
-phaseNumber Pending = 1
-phaseNumber Ready = 2
-phaseNumber Active = 3
+    (ifEq (t .flying) 0 idle pending)
+    (ifSo (hasRoom mtu cwnd (t .«in_flight»)) ready active)

@@ -10,7 +10,7 @@ use Rattle.window.specs.Range.{inRange}
 use Rattle.window.specs.Sound.{soundWindow}
 use Rattle.ledger.specs.Sound.{soundLedger}
 use Rattle.sender.specs.World.{World, View, viewOf, ledgerIn}
-use Rattle.sender.specs.Named.{phaseOf, phaseNumber}
+use Rattle.sender.specs.Named.{phaseOf}
 use Rattle.sender.specs.declared.Controller.{Controller}
 
 -- no "EV time of 2^49 or more"
@@ -20,7 +20,7 @@ timesOk (t ∷ ts) = ltb t laterEnd && timesOk ts
 
 -- "a state name other than the rule's"
 unfoldable pub namedOk : Controller → Bool
-namedOk c = eqb (phaseNumber (c .phase)) (phaseNumber (phaseOf (c .settings .mtu) (c .window .cwnd) (c .flow) (c .totals)))
+namedOk c = eqb (c .phase) (phaseOf (c .settings .mtu) (c .window .cwnd) (c .flow) (c .totals))
 
 unfoldable pub soundView : View → Bool
 soundView v =

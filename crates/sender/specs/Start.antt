@@ -1,22 +1,22 @@
 -- Setting up. "A fresh state has an empty ring of zeros, low = next = first PSN, all times and tallies 0, modes off, cwnd = MaxWnd, base =
 -- config_base_rtt, clock 0, path cursor 0." "A refused setting up: a state of zeros."
 -- Assumes nothing.
-use mathlib.Core.Bool.{false}
 use mathlib.Core.List.{List}
 use Prim.Native.Nat.{ℕ}
 use lib.IntN.{pos}
 use lib.ListN.{length, replicate}
 use Rattle.rules.specs.Branch.{ifEq}
+use Rattle.rules.specs.Mode.{off}
 use Rattle.rules.specs.Rows.{firstOf}
 use Rattle.window.specs.Sound.{freshOf}
 use Rattle.window.specs.declared.Settings.{Settings}
 use Rattle.ledger.specs.Memory.{Memory, memory}
 use Rattle.ledger.specs.declared.Flow.{Flow}
 use Rattle.ledger.specs.declared.Totals.{Totals}
+use Rattle.sender.specs.Named.{idle}
 use Rattle.sender.specs.Rows.{setUpRows}
 use Rattle.sender.specs.World.{Answered, answered}
 use Rattle.sender.specs.declared.Controller.{Controller}
-use Rattle.sender.specs.declared.Phase.the-variants.{Idle}
 
 -- every number 0, modes off
 unfoldable pub noSettings : Settings
@@ -35,7 +35,7 @@ noSettings =
       «adjust_bytes» = 0;
       «qa_threshold» = 0;
       «first_psn» = 0;
-      «quick_adapt_off» = false;
+      «quick_adapt_off» = off;
       «ev_count» = 0;
     }
 
@@ -55,7 +55,7 @@ freshState s =
       window = freshOf s;
       clock = 0;
       cursor = 0;
-      phase = Idle;
+      phase = idle;
     }
 
 abbrev pub zeros : List ℕ → List ℕ

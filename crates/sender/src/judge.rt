@@ -104,7 +104,7 @@ pub(crate) fn judge_ack(c: Controller, time: u64, a: Ack) -> Verdict
     if bad_time(time, c.clock) {
         return Verdict::Time;
     }
-    if serial::COUNTS <= a.count {
+    if serial::COUNTS <= a.count as u64 {
         return Verdict::Count;
     }
     if settings.ev_count <= a.ev as u64 {

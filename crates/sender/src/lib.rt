@@ -27,13 +27,14 @@ pub const TIME_END: u64 = 1 << 48;
 // The largest NACK reason: 0 trimmed, 1 trimmed at the last hop, 2 other.
 pub const REASON_MOST: u32 = 2;
 
-// The state's name.
-pub enum Phase {
-    Idle,
-    Pending,
-    Ready,
-    Active,
-}
+// The state's name, as a number.
+pub const IDLE: u32 = 0;
+
+pub const PENDING: u32 = 1;
+
+pub const READY: u32 = 2;
+
+pub const ACTIVE: u32 = 3;
 
 // One congestion control context.
 pub struct Controller {
@@ -43,7 +44,7 @@ pub struct Controller {
     pub window: Window,
     pub clock: u64,
     pub cursor: u32,
-    pub phase: Phase,
+    pub phase: u32,
 }
 
 // What an event answers: the whole state, and the verdict on it.

@@ -1,6 +1,5 @@
 // The state's name.
 use crate::Controller;
-use crate::Phase;
 use ledger::Flow;
 use ledger::Totals;
 use window::Settings;
@@ -8,7 +7,7 @@ use window::Window;
 ghost use mathlib.Core.Path.{_≡_};
 ghost use Prim.Native.Nat.{_≤_, _^_};
 ghost use Rattle.ledger.specs.Bounds.{Flown};
-ghost use Rattle.sender.specs.Named.{hasRoom, phaseOf, phaseNumber};
+ghost use Rattle.sender.specs.Named.{hasRoom, phaseOf};
 ghost use Rattle.sender.specs.Steps.{stateOf};
 
 // Whether in-flight + MTU is at most cwnd.
@@ -21,33 +20,21 @@ pub(crate) fn has_room(mtu: u64, cwnd: u64, in_flight: i64) -> bool
 }
 
 // The name that the rule gives.
-pub(crate) fn phase_of(mtu: u64, cwnd: u64, flow: Flow, totals: Totals) -> Phase
+pub(crate) fn phase_of(mtu: u64, cwnd: u64, flow: Flow, totals: Totals) -> u32
     requires { ⌜ Flown (2 ^ 26) (totals .«in_flight») ⌝ }
     requires { ⌜ (mtu ≤ 2 ^ 14) × (cwnd ≤ 2 ^ 26) ⌝ }
     ensures { λ r. ⌜ r ≡ phaseOf mtu cwnd flow totals ⌝ }
 {
     if (flow.backlog == 0) & (totals.marked == 0) {
         if totals.flying == 0 {
-            return Phase::Idle;
+            return crate::IDLE;
         }
-        return Phase::Pending;
+        return crate::PENDING;
     }
     if has_room(mtu, cwnd, totals.in_flight) {
-        return Phase::Ready;
+        return crate::READY;
     }
-    Phase::Active
-}
-
-// A name as a number, to compare it by.
-pub fn phase_number(phase: Phase) -> u32
-    ensures { λ r. ⌜ r ≡ phaseNumber phase ⌝ }
-{
-    match phase {
-        Phase::Idle => 0,
-        Phase::Pending => 1,
-        Phase::Ready => 2,
-        Phase::Active => 3,
-    }
+    crate::ACTIVE
 }
 
 // The state at a time, named.

@@ -1,6 +1,7 @@
 // Each event for a caller who knows that state and buffers hold together: the entry point without its test of number 2. A replay tests
 // once; what an event leaves holds together again (proofs/Kept), whatever it answers. What is accepted answers `Accepted` itself and not
-// its judge's verdict: so the compiler knows it, and where a replay goes on does not wait for the event.
+// its judge's verdict: so the compiler knows it, and where a replay goes on does not wait for the event. A NACK and a loss, which share
+// their judge, have one answer for both cases instead: with two the compiler copies the state for every event (docs/PERFORMANCE.md).
 use crate::Ack;
 use crate::Answer;
 use crate::Controller;
@@ -121,16 +122,18 @@ pub fn nack<'a, 'b, 'c>(
     ensures { λ r. ⌜ saysOf (r .feedback) ≡ nackSays time a (worldBefore c outstanding marked sizes sent evs) ⌝ }
 {
     let verdict = judge::judge_nack(c, outstanding, marked, sizes, sent, time, a);
-    if !is_accepted(verdict) {
-        return unheard(c, verdict);
+    let mut state = c;
+    let mut feedback = Feedback::Nothing;
+    if is_accepted(verdict) {
+        let sensed = steps::nack(c, outstanding, marked, sizes, sent, evs, time, a);
+        state = sensed.state;
+        let sampling = sensed.sampling;
+        feedback = Feedback::Sampled(sampling);
     }
-    let sensed = steps::nack(c, outstanding, marked, sizes, sent, evs, time, a);
-    let state = sensed.state;
-    let sampling = sensed.sampling;
     Heard {
         state,
-        verdict: Verdict::Accepted,
-        feedback: Feedback::Sampled(sampling),
+        verdict,
+        feedback,
     }
 }
 
@@ -150,14 +153,11 @@ pub fn loss<'a, 'b, 'c>(
         ≡ onLoss time a (worldBefore c outstanding marked sizes sent evs) ⌝ }
 {
     let verdict = judge::judge_loss(c, outstanding, marked, sizes, sent, time, a);
-    if !is_accepted(verdict) {
-        return Answer { state: c, verdict };
+    let mut state = c;
+    if is_accepted(verdict) {
+        state = steps::loss(c, outstanding, marked, sizes, sent, evs, time, a);
     }
-    let state = steps::loss(c, outstanding, marked, sizes, sent, evs, time, a);
-    Answer {
-        state,
-        verdict: Verdict::Accepted,
-    }
+    Answer { state, verdict }
 }
 
 // The next path. The EV times are only read, the ring is lent for what is required of it.

@@ -1,23 +1,23 @@
 // Refusal 2 in full: whether state and buffers hold together.
 use crate::Controller;
-use crate::naming::phase_number;
 use crate::naming::phase_of;
 use ledger::Books;
 ghost use mathlib.Core.Path.{_≡_};
 ghost use Rattle.sender.specs.Lent.{worldBefore};
 ghost use Rattle.sender.specs.Sound.{timesOk, sound};
 
-// Whether no EV time is 2^49 or more. Every time is looked at: without a way out of the loop the compiler takes several at once.
+// Whether no EV time is 2^49 or more: all of them together have a bit from there on exactly if one has. Every time is looked at: without a
+// way out of the loop the compiler takes several at once.
 fn times_ok(evs: &[u64]) -> bool
     ensures { λ r. ⌜ r ≡ timesOk (now (evs .entry)) ⌝ }
 {
-    let mut ok = true;
+    let mut all: u64 = 0;
     let mut k = 0;
     while k < evs.len() {
-        ok = ok & (evs[k] < window::LATER_END);
+        all = all | evs[k];
         k += 1;
     }
-    ok
+    all < window::LATER_END
 }
 
 // Whether state and buffers hold together.
@@ -35,7 +35,6 @@ pub fn is_sound<'a>(
     let window = c.window;
     let flow = c.flow;
     let totals = c.totals;
-    let phase = c.phase;
     if !window::bounds::in_range(settings) {
         return false;
     }
@@ -58,5 +57,5 @@ pub fn is_sound<'a>(
         & (evs.len() as u64 == settings.ev_count)
         & times_ok(evs)
         & ((c.cursor as u64) < settings.ev_count)
-        & (phase_number(phase) == phase_number(phase_of(settings.mtu, window.cwnd, flow, totals)))
+        & (c.phase == phase_of(settings.mtu, window.cwnd, flow, totals))
 }

@@ -1,7 +1,6 @@
 // Setting up.
 use crate::Answer;
 use crate::Controller;
-use crate::Phase;
 use ledger::Flow;
 use ledger::Totals;
 use rules::verdict::Verdict;
@@ -51,7 +50,7 @@ pub fn no_settings() -> Settings
         adjust_bytes: 0,
         qa_threshold: 0,
         first_psn: 0,
-        quick_adapt_off: false,
+        quick_adapt_off: rules::OFF,
         ev_count: 0,
     }
 }
@@ -78,7 +77,7 @@ pub fn fresh(settings: Settings) -> Controller
         window: window::bounds::fresh(settings),
         clock: 0,
         cursor: 0,
-        phase: Phase::Idle,
+        phase: crate::IDLE,
     }
 }
 

@@ -12,10 +12,10 @@ ghost use Rattle.serial.specs.Count.{aheadOf, gapOf, isOld, forwardOf};
 pub const REACH: u32 = 1073741824;
 
 // The received counts that there are: 2^24.
-pub const COUNTS: u32 = 16777216;
+pub const COUNTS: u64 = 16777216;
 
 // From this difference on a count is old: 2^23.
-pub const HALF: u32 = 8388608;
+pub const HALF: u64 = 8388608;
 
 // The PSN k after p.
 pub fn psn_plus(p: u32, k: u32) -> u32
@@ -97,14 +97,14 @@ pub fn unsent_or_old(next: u32, cum: u32, map: u64) -> bool
 }
 
 // count - held, modulo 2^24.
-fn ahead(count: u32, held: u32) -> u32
+fn ahead(count: u32, held: u64) -> u64
     ensures { λ r. ⌜ r ≡ aheadOf count held ⌝ }
 {
-    std::num::wrapping_sub_u32(count, held) % COUNTS
+    std::num::wrapping_sub_u64(count as u64, held) % COUNTS
 }
 
 // How many units a count lies ahead of the held one, as a signed number: below zero where the count is old.
-pub fn gap(count: u32, held: u32) -> i64
+pub fn gap(count: u32, held: u64) -> i64
     ensures { λ r. ⌜ r ≡ gapOf count held ⌝ }
 {
     let units = ahead(count, held);
@@ -115,14 +115,14 @@ pub fn gap(count: u32, held: u32) -> i64
 }
 
 // Whether a count is old.
-pub fn is_old(count: u32, held: u32) -> bool
+pub fn is_old(count: u32, held: u64) -> bool
     ensures { λ r. ⌜ r ≡ isOld count held ⌝ }
 {
     gap(count, held) < 0
 }
 
 // Forward units: how far a count lies ahead of the held one, and 0 where it is old.
-pub fn forward(count: u32, held: u32) -> u64
+pub fn forward(count: u32, held: u64) -> u64
     ensures { λ r. ⌜ r ≡ forwardOf count held ⌝ }
 {
     let units = gap(count, held);

@@ -2,6 +2,7 @@
 // unless the world's own numbers leave a row that refuses one.
 use crate::calls::plain_ack;
 use crate::calls::plain_nack;
+use crate::fields::narrow;
 use crate::say;
 use crate::worlds;
 use crate::worlds::Call;
@@ -28,7 +29,7 @@ fn a_send(f: Flow) -> Send {
 // An ACK of the packet before low, with the held count: nothing new.
 fn an_ack(f: Flow) -> Ack {
     let before = std::num::wrapping_sub_u32(f.low, 1);
-    plain_ack(before, 0, before, f.held)
+    plain_ack(before, 0, before, narrow(f.held))
 }
 
 fn event(w: World, time: u64, call: Call) {

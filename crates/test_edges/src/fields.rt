@@ -4,7 +4,6 @@ use crate::worlds::World;
 use ledger::Flow;
 use ledger::Totals;
 use sender::Controller;
-use sender::Phase;
 use window::Settings;
 use window::Window;
 
@@ -41,13 +40,6 @@ fn pick_32(word: u32, field: u32, n: u64, held: u32) -> u32 {
     held
 }
 
-fn pick_flag(word: u32, field: u32, n: u64, held: bool) -> bool {
-    if word == field {
-        return n != 0;
-    }
-    held
-}
-
 fn pick_signed(word: u32, field: u32, n: u64, held: i64) -> i64 {
     if word == field {
         return signed(n);
@@ -70,7 +62,7 @@ fn settings_with(s: Settings, word: u32, n: u64) -> Settings {
         adjust_bytes: pick(word, words::ADJUST_BYTES, n, s.adjust_bytes),
         qa_threshold: pick(word, words::QA_THRESHOLD, n, s.qa_threshold),
         first_psn: pick_32(word, words::FIRST_PSN, n, s.first_psn),
-        quick_adapt_off: pick_flag(word, words::QUICK_ADAPT_OFF, n, s.quick_adapt_off),
+        quick_adapt_off: pick_32(word, words::QUICK_ADAPT_OFF, n, s.quick_adapt_off),
         ev_count: pick(word, words::EV_COUNT, n, s.ev_count),
     }
 }
@@ -79,7 +71,7 @@ fn flow_with(f: Flow, word: u32, n: u64) -> Flow {
     Flow {
         low: pick_32(word, words::LOW, n, f.low),
         next: pick_32(word, words::NEXT, n, f.next),
-        held: pick_32(word, words::HELD, n, f.held),
+        held: pick(word, words::HELD, n, f.held),
         backlog: pick(word, words::BACKLOG, n, f.backlog),
     }
 }
@@ -104,8 +96,8 @@ fn window_with(w: Window, word: u32, n: u64) -> Window {
         ignored: pick(word, words::IGNORED, n, w.ignored),
         bytes_to_ignore: pick(word, words::BYTES_TO_IGNORE, n, w.bytes_to_ignore),
         fi_count: pick(word, words::FI_COUNT, n, w.fi_count),
-        fast: pick_flag(word, words::FAST_MODE, n, w.fast),
-        trigger: pick_flag(word, words::TRIGGER, n, w.trigger),
+        fast: pick_32(word, words::FAST_MODE, n, w.fast),
+        trigger: pick_32(word, words::TRIGGER, n, w.trigger),
         qa_end: pick(word, words::QUICK_ADAPT_END, n, w.qa_end),
         last_adjust: pick(word, words::LAST_ADJUST, n, w.last_adjust),
         last_dec: pick(word, words::LAST_DECREASE, n, w.last_dec),
@@ -113,18 +105,17 @@ fn window_with(w: Window, word: u32, n: u64) -> Window {
 }
 
 // A state's name is a word by itself.
-fn phase_with(held: Phase, word: u32) -> Phase {
+fn phase_with(held: u32, word: u32) -> u32 {
     match word {
-        words::IDLE => Phase::Idle,
-        words::PENDING => Phase::Pending,
-        words::READY => Phase::Ready,
-        words::ACTIVE => Phase::Active,
+        words::IDLE => sender::IDLE,
+        words::PENDING => sender::PENDING,
+        words::READY => sender::READY,
+        words::ACTIVE => sender::ACTIVE,
         _ => held,
     }
 }
 
 fn state_with(c: Controller, word: u32, n: u64) -> Controller {
-    let phase = c.phase;
     Controller {
         settings: settings_with(c.settings, word, n),
         flow: flow_with(c.flow, word, n),
@@ -132,7 +123,7 @@ fn state_with(c: Controller, word: u32, n: u64) -> Controller {
         window: window_with(c.window, word, n),
         clock: pick(word, words::CLOCK, n, c.clock),
         cursor: pick_32(word, words::CURSOR, n, c.cursor),
-        phase: phase_with(phase, word),
+        phase: phase_with(c.phase, word),
     }
 }
 

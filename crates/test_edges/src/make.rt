@@ -5,7 +5,6 @@ use crate::worlds::World;
 use ledger::Flow;
 use ledger::Totals;
 use sender::Controller;
-use sender::Phase;
 use window::Settings;
 use window::Window;
 
@@ -31,7 +30,7 @@ fn settings() -> Settings {
         adjust_bytes: 32768,
         qa_threshold: 288,
         first_psn: 0,
-        quick_adapt_off: false,
+        quick_adapt_off: rules::OFF,
         ev_count: 256,
     }
 }
@@ -51,7 +50,7 @@ fn no_settings() -> Settings {
         adjust_bytes: 0,
         qa_threshold: 0,
         first_psn: 0,
-        quick_adapt_off: false,
+        quick_adapt_off: rules::OFF,
         ev_count: 0,
     }
 }
@@ -68,8 +67,8 @@ fn quiet_window(cwnd: u64, base: u64) -> Window {
         ignored: 0,
         bytes_to_ignore: 0,
         fi_count: 0,
-        fast: false,
-        trigger: false,
+        fast: rules::OFF,
+        trigger: rules::OFF,
         qa_end: 0,
         last_adjust: 0,
         last_dec: 0,
@@ -77,7 +76,7 @@ fn quiet_window(cwnd: u64, base: u64) -> Window {
 }
 
 // No packet flying or marked, and the window that settings start with.
-fn quiet(settings: Settings, flow: Flow, clock: u64, phase: Phase) -> Controller {
+fn quiet(settings: Settings, flow: Flow, clock: u64, phase: u32) -> Controller {
     let window = quiet_window(settings.maxwnd, settings.config_base_rtt);
     Controller {
         settings,
@@ -117,7 +116,7 @@ fn fresh_state(settings: Settings) -> Controller {
         held: 0,
         backlog: 0,
     };
-    quiet(settings, flow, 0, Phase::Idle)
+    quiet(settings, flow, 0, sender::IDLE)
 }
 
 // What an accepted setting up must leave.
@@ -138,7 +137,7 @@ pub(crate) fn empty(low: u32, next: u32) -> World {
         held: 7,
         backlog: 8192,
     };
-    lend(quiet(settings(), flow, CLOCK, Phase::Ready), 0, false)
+    lend(quiet(settings(), flow, CLOCK, sender::READY), 0, false)
 }
 
 // Low 5, next 10: 5 flying, 6 marked, 7 done, 8 and 9 flying. Every event has one that is accepted here.

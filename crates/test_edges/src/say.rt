@@ -2,7 +2,6 @@
 use crate::same::same_world;
 use crate::worlds::World;
 use rules::verdict::number_of;
-use sender::Phase;
 use sender::look::Look;
 
 pub(crate) fn text(t: &[u8]) {
@@ -19,12 +18,12 @@ pub(crate) fn also(n: u64) {
     number(n);
 }
 
-pub(crate) fn word_of(phase: Phase) {
+pub(crate) fn word_of(phase: u32) {
     match phase {
-        Phase::Idle => text(b" IDLE"),
-        Phase::Pending => text(b" PENDING"),
-        Phase::Ready => text(b" READY"),
-        Phase::Active => text(b" ACTIVE"),
+        sender::IDLE => text(b" IDLE"),
+        sender::PENDING => text(b" PENDING"),
+        sender::READY => text(b" READY"),
+        _ => text(b" ACTIVE"),
     }
 }
 

@@ -2,7 +2,6 @@
 use ledger::Flow;
 use ledger::Totals;
 use sender::Controller;
-use sender::Phase;
 use window::Settings;
 use window::Window;
 
@@ -35,7 +34,7 @@ pub(crate) fn settings(mtu: u64, ev_count: u64) -> Settings {
         adjust_bytes: 32768,
         qa_threshold: 288,
         first_psn: 0,
-        quick_adapt_off: false,
+        quick_adapt_off: rules::OFF,
         ev_count,
     }
 }
@@ -55,7 +54,7 @@ fn no_settings() -> Settings {
         adjust_bytes: 0,
         qa_threshold: 0,
         first_psn: 0,
-        quick_adapt_off: false,
+        quick_adapt_off: rules::OFF,
         ev_count: 0,
     }
 }
@@ -72,8 +71,8 @@ fn quiet_window(cwnd: u64, base: u64) -> Window {
         ignored: 0,
         bytes_to_ignore: 0,
         fi_count: 0,
-        fast: false,
-        trigger: false,
+        fast: rules::OFF,
+        trigger: rules::OFF,
         qa_end: 0,
         last_adjust: 0,
         last_dec: 0,
@@ -81,7 +80,7 @@ fn quiet_window(cwnd: u64, base: u64) -> Window {
 }
 
 // No packet flying or marked, and the window that settings start with.
-fn quiet(settings: Settings, flow: Flow, clock: u64, cursor: u32, phase: Phase) -> Controller {
+fn quiet(settings: Settings, flow: Flow, clock: u64, cursor: u32, phase: u32) -> Controller {
     let window = quiet_window(settings.maxwnd, settings.config_base_rtt);
     Controller {
         settings,
@@ -107,7 +106,7 @@ pub(crate) fn fresh(settings: Settings) -> Controller {
         held: 0,
         backlog: 0,
     };
-    quiet(settings, flow, 0, 0, Phase::Idle)
+    quiet(settings, flow, 0, 0, sender::IDLE)
 }
 
 // The state that a refused setting up answers.
@@ -123,5 +122,11 @@ pub(crate) fn empty(e: Evs) -> Controller {
         held: 7,
         backlog: 8192,
     };
-    quiet(settings(4096, e.count), flow, CLOCK, e.cursor, Phase::Ready)
+    quiet(
+        settings(4096, e.count),
+        flow,
+        CLOCK,
+        e.cursor,
+        sender::READY,
+    )
 }

@@ -9,6 +9,7 @@ use borrow.Author.Tests.{ltb-true}
 use native.Mathlib.Omega.{arith}
 use Rattle.rules.specs.Branch.{so-both, lt-both}
 use Rattle.rules.specs.Test.{both}
+use Rattle.rules.specs.Mode.{on, isOn}
 use Rattle.window.specs.Limits.{parts, windowMost, sampleMost, avgMost, timeEnd}
 use Rattle.window.specs.Range.{InRange}
 use Rattle.window.specs.Sound.{SoundWindow, Kept}
@@ -47,7 +48,7 @@ fires-room :
     firesOf s loss marked delay w ≡ true → w .achieved < w .cwnd
 unfolding firesOf
 fires-room s loss marked delay w e =
-    let rest = not (eqb (w .«qa_end») 0) && marked && (w .trigger || loss || ltb (s .«qa_threshold») delay) in
+    let rest = not (eqb (w .«qa_end») 0) && marked && (isOn (w .trigger) || loss || ltb (s .«qa_threshold») delay) in
     ltb-true (w .achieved) (w .cwnd) (both rest (ltb (w .achieved) (w .cwnd)) e .1)
 
 -- fast increase leaves inc_bytes as it is
@@ -56,7 +57,7 @@ unfolding fastIncreaseOf raiseCwndOf leaveFastModeOf
 fast-increase-inc-bytes s newly delay w =
     let P : Window → Type 0 = λ v. v .«inc_bytes» ≡ w .«inc_bytes» in
     so-both P (isNear delay (w .base)) _ _
-    (λ h. so-both P (w .fast) _ _ (λ e. refl) (λ e. lt-both P (w .cwnd) _ _ _ (λ k. refl) (λ k. refl)))
+    (λ h. so-both P (isOn (w .fast)) _ _ (λ e. refl) (λ e. lt-both P (w .cwnd) _ _ _ (λ k. refl) (λ k. refl)))
     (λ h. refl)
 
 -- a window that may decrease has an average above the target
@@ -94,7 +95,7 @@ module _ {s : Settings} {time : ℕ} (R : InRange s) where
       let G = sound-raise-cwnd newly H in
       so-both (SoundWindow s time) (isNear delay (w .base)) _ _
       (λ h.
-      so-both (SoundWindow s time) (w .fast) _ _ (λ e. G)
+      so-both (SoundWindow s time) (isOn (w .fast)) _ _ (λ e. G)
       (λ e.
       lt-both (SoundWindow s time) (w .cwnd) (addToTallyOf (w .«fi_count») newly) _ _ (λ k. omega arith) (λ k. omega arith)))
       (λ h. sound-leave-fast-mode H)
@@ -108,7 +109,7 @@ module _ {s : Settings} {time : ℕ} (R : InRange s) where
   unfolding proportionalIncreaseOf
   sound-proportional-increase {w} newly delay H =
       let F = sound-fast-increase newly delay H in
-      so-both (SoundWindow s time) (fastIncreaseOf s newly delay w .fast) _ _ (λ e. F) (λ e. sound-add-inc-bytes _ F)
+      so-both (SoundWindow s time) (isOn (fastIncreaseOf s newly delay w .fast)) _ _ (λ e. F) (λ e. sound-add-inc-bytes _ F)
 
   pub sound-fair-increase : {w : Window} (newly : ℕ) → SoundWindow s time w → SoundWindow s time (fairIncreaseOf s newly w)
   unfolding fairIncreaseOf
@@ -200,7 +201,7 @@ module _ {s : Settings} {time : ℕ} (R : InRange s) where
 
   pub sound-trimmed :
       {w : Window} (size : ℕ) → SoundWindow s time w →
-      SoundWindow s time (withTrigger true (withIgnored (addToTallyOf (w .ignored) size) w))
+      SoundWindow s time (withTrigger on (withIgnored (addToTallyOf (w .ignored) size) w))
   sound-trimmed size H = omega arith
 
   module _ (inFlight : ℤ) (now : time < timeEnd) (flown : aboveZero inFlight ≤ s .maxwnd) where
@@ -210,7 +211,7 @@ module _ {s : Settings} {time : ℕ} (R : InRange s) where
     unfolding quickAdaptOf
     sound-quick-adapt {w} loss marked delay H =
         let P : Adapted → Type 0 = λ a. SoundWindow s time (a .window) in
-        so-both P (s .«quick_adapt_off» || ltb time (w .«qa_end»)) _ _ (λ e. H)
+        so-both P (isOn (s .«quick_adapt_off») || ltb time (w .«qa_end»)) _ _ (λ e. H)
         (λ e.
         so-both P (firesOf s loss marked delay w) _ _
         (λ k. sound-restart now (sound-fire inFlight (fires-room s loss marked delay w k) flown H))

@@ -10,6 +10,7 @@ use borrow.Author.Needs.{needs}
 use native.Mathlib.Omega.{arith}
 use Rattle.rules.specs.Branch.{so-both, lt-both, so-yes, so-no, lt-yes, lt-no}
 use Rattle.rules.specs.Test.{inside, both, whole, inside-tells, inside-yes}
+use Rattle.rules.specs.Mode.{isMode, mode-tells, mode-yes}
 use Rattle.serial.specs.Psn.{psns}
 use Rattle.window.specs.Limits.{mtuLeast, mtuMost, windowMost, delayMost, gainMost, alphaMost, parts, periodMost, thresholdMost}
 use Rattle.window.specs.Limits.{sampleMost, avgMost, incStop, tallyStop, laterEnd, maxWndOf}
@@ -53,7 +54,8 @@ pub range-facts : (s : Settings) → inRange s ≡ true → InRange s
 unfolding inRange
 range-facts s e =
     let evs = both _ (isEvCount (s .«ev_count»)) e in
-    let psn = both _ (ltb (s .«first_psn») psns) (evs .0) in
+    let off = both _ (isMode (s .«quick_adapt_off»)) (evs .0) in
+    let psn = both _ (ltb (s .«first_psn») psns) (off .0) in
     let threshold = row _ 0 (s .«qa_threshold») thresholdMost (psn .0) in
     let bytes = row _ 1 (s .«adjust_bytes») windowMost (threshold .0) in
     let period = row _ 1 (s .«adjust_period») periodMost (bytes .0) in
@@ -86,17 +88,20 @@ range-facts s e =
       bytes-high = bytes .1 .1;
       threshold-high = threshold .1 .1;
       psn-high = ltb-true (s .«first_psn») psns (psn .1);
+      off-high = mode-tells (s .«quick_adapt_off») (off .1);
       evs-allowed = evs .1;
     }
 
 pub range-test : (s : Settings) → InRange s → inRange s ≡ true
 unfolding inRange
-range-test s R = search (needs, whole, inside-yes, lt-ltb) depth 20
+range-test s R = search (needs, whole, inside-yes, mode-yes, lt-ltb) depth 20
 
 pub window-facts : (s : Settings) (clock : ℕ) (w : Window) → soundWindow s clock w ≡ true → SoundWindow s clock w
 unfolding soundWindow
 window-facts s clock w e =
-    let dec = row _ 0 (w .«last_dec») clock e in
+    let trigger = both _ (isMode (w .trigger)) e in
+    let fast = both _ (isMode (w .fast)) (trigger .0) in
+    let dec = row _ 0 (w .«last_dec») clock (fast .0) in
     let adjust = row _ 0 (w .«last_adjust») clock (dec .0) in
     let end = row _ 0 (w .«qa_end») (laterEnd - 1) (adjust .0) in
     let fi = row _ 0 (w .«fi_count») tallyStop (end .0) in
@@ -108,13 +113,13 @@ window-facts s clock w e =
     let avg = row _ 0 (w .avg) avgMost (inc .0) in
     let cwnd = row (inside 1 (w .base) (s .«config_base_rtt»)) (s .mtu) (w .cwnd) (maxWndOf s (w .base)) (avg .0) in
     let base = inside-tells 1 (w .base) (s .«config_base_rtt») (cwnd .0) in
-    omega arith
+    omega (arith, mode-tells (w .fast) (fast .1), mode-tells (w .trigger) (trigger .1))
 
 pub window-test : (s : Settings) (clock : ℕ) (w : Window) → SoundWindow s clock w → soundWindow s clock w ≡ true
 unfolding soundWindow
 window-test s clock w H =
     let end : w .«qa_end» ≤ laterEnd - 1 = omega arith in
-    search (needs, whole, inside-yes) depth 20
+    search (needs, whole, inside-yes, mode-yes) depth 20
 
 pub fresh-window : {s : Settings} → InRange s → SoundWindow s 0 (freshOf s)
 unfolding freshOf

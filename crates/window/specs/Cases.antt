@@ -1,9 +1,10 @@
 -- Document 01, "The window, in order": the four cases by M flag and delay, under the names that UET 3.6.13.6 gives their rules.
 -- Assumes nothing.
-use mathlib.Core.Bool.{Bool, true, false, not, _&&_}
+use mathlib.Core.Bool.{Bool, not, _&&_}
 use Prim.Native.Nat.{ℕ, _+_, _-_, _*_, _/_, min, max}
 use lib.Dec.{ltb, leb}
 use Rattle.rules.specs.Branch.{ifSo, ifLt}
+use Rattle.rules.specs.Mode.{off, on, isOn}
 use Rattle.window.specs.Limits.{parts, tallyStop, incStop, nearPart, maxWndOf}
 use Rattle.window.specs.Delays.{avgDelayOf}
 use Rattle.window.specs.Fields.{withCwnd, withIncBytes, withReceived, withAchieved, withIgnored, withFiCount, withFast, withLastDec}
@@ -22,7 +23,7 @@ countNewlyOf newly w =
 
 -- "mode off, fi_count 0"
 unfoldable pub leaveFastModeOf : Window → Window
-leaveFastModeOf w = withFast false (withFiCount 0 w)
+leaveFastModeOf w = withFast off (withFiCount 0 w)
 
 -- "cwnd += newly up to MaxWnd", which is max_wnd by request M-101: "every clamp, fast mode's too, uses it"
 unfoldable pub raiseCwndOf : Settings → ℕ → Window → Window
@@ -38,9 +39,9 @@ unfoldable pub fastIncreaseOf : Settings → ℕ → ℕ → Window → Window
 fastIncreaseOf s newly delay w =
     let more = addToTallyOf (w .«fi_count») newly in
     ifSo (isNear delay (w .base))
-    (ifSo (w .fast) (raiseCwndOf s newly w)
+    (ifSo (isOn (w .fast)) (raiseCwndOf s newly w)
     (ifLt (w .cwnd) more
-    (withFast true (withFiCount more (raiseCwndOf s newly w)))
+    (withFast on (withFiCount more (raiseCwndOf s newly w)))
     (withFiCount more w)))
     (leaveFastModeOf w)
 
@@ -52,7 +53,7 @@ addIncBytesOf n w = withIncBytes (min (w .«inc_bytes» + n) incStop) w
 unfoldable pub proportionalIncreaseOf : Settings → ℕ → ℕ → Window → Window
 proportionalIncreaseOf s newly delay w =
     let v = fastIncreaseOf s newly delay w in
-    ifSo (v .fast) v (addIncBytesOf (s .alpha * newly * (s .«target_qdelay» - delay)) v)
+    ifSo (isOn (v .fast)) v (addIncBytesOf (s .alpha * newly * (s .«target_qdelay» - delay)) v)
 
 -- "mode off, fi_count 0, inc_bytes += fi·newly"
 unfoldable pub fairIncreaseOf : Settings → ℕ → Window → Window

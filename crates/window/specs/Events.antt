@@ -5,6 +5,7 @@ use Prim.Native.Nat.{ℕ, _-_, max}
 use lib.Dec.{leb}
 use lib.IntN.{ℤ}
 use Rattle.rules.specs.Branch.{ifSo}
+use Rattle.rules.specs.Mode.{on}
 use Rattle.window.specs.Limits.{trimmedLastHop}
 use Rattle.window.specs.Fields.{withCwnd, withAvg, withIgnored, withTrigger}
 use Rattle.window.specs.Delays.{updateDelayOf, updateBaseRttOf, measureOf}
@@ -39,7 +40,7 @@ shrinkOf s size a = ifSo (a .fired) (a .window) (withCwnd (max (a .window .cwnd 
 -- "ignored += size, trigger on, quick adapt(loss yes, M set, 0)". "Loss (H): as trimmed, without sample or feed."
 unfoldable pub lossOf : Settings → ℕ → ℕ → ℤ → Window → Window
 lossOf s time size inFlight w =
-    shrinkOf s size (quickAdaptOf s time true true 0 inFlight (withTrigger true (withIgnored (addToTallyOf (w .ignored) size) w)))
+    shrinkOf s size (quickAdaptOf s time true true 0 inFlight (withTrigger on (withIgnored (addToTallyOf (w .ignored) size) w)))
 
 -- "feed config_base_rtt"
 unfoldable pub feedTrimmedOf : Settings → Window → Window

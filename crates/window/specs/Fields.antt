@@ -1,7 +1,6 @@
 -- The window with one number changed. Document 01's rules say which number becomes what: a rule is a row of these.
 -- Assumes nothing.
 use Prim.Native.Nat.{ℕ}
-use mathlib.Core.Bool.{Bool}
 use Rattle.window.specs.declared.Window.{Window}
 
 abbrev pub withCwnd : ℕ → Window → Window
@@ -175,7 +174,7 @@ withFiCount x w =
       «last_dec» = w .«last_dec»;
     }
 
-abbrev pub withFast : Bool → Window → Window
+abbrev pub withFast : ℕ → Window → Window
 withFast x w =
     record {
       cwnd = w .cwnd;
@@ -194,7 +193,7 @@ withFast x w =
       «last_dec» = w .«last_dec»;
     }
 
-abbrev pub withTrigger : Bool → Window → Window
+abbrev pub withTrigger : ℕ → Window → Window
 withTrigger x w =
     record {
       cwnd = w .cwnd;

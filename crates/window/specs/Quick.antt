@@ -5,6 +5,7 @@ use Prim.Native.Nat.{ℕ, _+_, max}
 use lib.Dec.{ltb, eqb}
 use lib.IntN.{ℤ, pos, negsuc}
 use Rattle.rules.specs.Branch.{ifSo}
+use Rattle.rules.specs.Mode.{off, isOn}
 use Rattle.window.specs.Fields.{withCwnd, withAchieved, withIgnored, withBytesToIgnore, withFiCount, withFast, withTrigger, withQaEnd}
 use Rattle.window.specs.declared.Settings.{Settings}
 use Rattle.window.specs.declared.Window.{Window}
@@ -20,14 +21,14 @@ unfoldable pub firesOf : Settings → Bool → Bool → ℕ → Window → Bool
 firesOf s loss marked delay w =
     not (eqb (w .«qa_end») 0)
     && marked
-    && (w .trigger || loss || ltb (s .«qa_threshold») delay)
+    && (isOn (w .trigger) || loss || ltb (s .«qa_threshold») delay)
     && ltb (w .achieved) (w .cwnd)
 
 -- "cwnd = max(achieved, MTU), bytes_to_ignore = max(in-flight, 0), ignored 0, trigger off, mode off, fi_count 0"
 unfoldable pub fireOf : Settings → ℤ → Window → Window
 fireOf s inFlight w =
     withCwnd (max (w .achieved) (s .mtu))
-    (withBytesToIgnore (aboveZero inFlight) (withIgnored 0 (withTrigger false (withFast false (withFiCount 0 w)))))
+    (withBytesToIgnore (aboveZero inFlight) (withIgnored 0 (withTrigger off (withFast off (withFiCount 0 w)))))
 
 -- "Fired or not: achieved 0, end = now + base + target."
 unfoldable pub restartOf : Settings → ℕ → Window → Window
@@ -36,7 +37,7 @@ restartOf s time w = withAchieved 0 (withQaEnd (time + w .base + s .«target_qde
 -- "nothing if disabled or now < end. Else fires if ..: .. Fired or not: .."
 unfoldable pub quickAdaptOf : Settings → ℕ → Bool → Bool → ℕ → ℤ → Window → Adapted
 quickAdaptOf s time loss marked delay inFlight w =
-    ifSo (s .«quick_adapt_off» || ltb time (w .«qa_end»)) (record { window = w; fired = false })
+    ifSo (isOn (s .«quick_adapt_off») || ltb time (w .«qa_end»)) (record { window = w; fired = false })
     (ifSo (firesOf s loss marked delay w)
     (record { window = restartOf s time (fireOf s inFlight w); fired = true })
     (record { window = restartOf s time w; fired = false }))

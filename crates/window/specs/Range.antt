@@ -5,6 +5,7 @@ use Prim.Native.Nat.{ℕ, _≤_, _<_}
 use mathlib.Core.Bool.{Bool, true, _&&_, _||_}
 use lib.Dec.{ltb, eqb}
 use Rattle.rules.specs.Test.{inside}
+use Rattle.rules.specs.Mode.{on, isMode}
 use Rattle.serial.specs.Psn.{psns}
 use Rattle.window.specs.Limits.{mtuLeast, mtuMost, windowMost, delayMost, gainMost, alphaMost, parts, periodMost, thresholdMost}
 use Rattle.window.specs.declared.Settings.{Settings}
@@ -13,7 +14,7 @@ use Rattle.window.specs.declared.Settings.{Settings}
 unfoldable pub isEvCount : ℕ → Bool
 isEvCount n = eqb n 256 || eqb n 512 || eqb n 1024 || eqb n 2048 || eqb n 4096
 
--- the last before the number of EVs is "the first PSN": "PSN: 32 bits"
+-- behind the ranges are "the first PSN": "PSN: 32 bits", the flag of quick adapt, and the number of EVs
 unfoldable pub inRange : Settings → Bool
 inRange s =
     inside mtuLeast (s .mtu) mtuMost
@@ -29,6 +30,7 @@ inRange s =
     && inside 1 (s .«adjust_bytes») windowMost
     && inside 0 (s .«qa_threshold») thresholdMost
     && ltb (s .«first_psn») psns
+    && isMode (s .«quick_adapt_off»)
     && isEvCount (s .«ev_count»)
 
 -- the same as facts
@@ -52,4 +54,5 @@ pub record InRange (s : Settings) : Type 0 where
   pub bytes-high : s .«adjust_bytes» ≤ windowMost
   pub threshold-high : s .«qa_threshold» ≤ thresholdMost
   pub psn-high : s .«first_psn» < psns
+  pub off-high : s .«quick_adapt_off» ≤ on
   pub evs-allowed : isEvCount (s .«ev_count») ≡ true

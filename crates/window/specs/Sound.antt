@@ -1,9 +1,10 @@
 -- The window's part of refusal 2: when a window is sound at a clock. And the fresh window.
 -- Assumes nothing.
 use mathlib.Core.Path.{_≡_}
-use mathlib.Core.Bool.{Bool, false, _&&_}
+use mathlib.Core.Bool.{Bool, _&&_}
 use Prim.Native.Nat.{ℕ, _-_, _≤_, _<_}
 use Rattle.rules.specs.Test.{inside}
+use Rattle.rules.specs.Mode.{off, on, isMode}
 use Rattle.window.specs.Limits.{avgMost, incStop, tallyStop, laterEnd, maxWndOf}
 use Rattle.window.specs.declared.Settings.{Settings}
 use Rattle.window.specs.declared.Window.{Window}
@@ -25,6 +26,8 @@ soundWindow s clock w =
     && inside 0 (w .«qa_end») (laterEnd - 1)
     && inside 0 (w .«last_adjust») clock
     && inside 0 (w .«last_dec») clock
+    && isMode (w .fast)
+    && isMode (w .trigger)
 
 -- the same as facts
 pub record SoundWindow (s : Settings) (clock : ℕ) (w : Window) : Type 0 where
@@ -42,6 +45,8 @@ pub record SoundWindow (s : Settings) (clock : ℕ) (w : Window) : Type 0 where
   pub end-high : w .«qa_end» < laterEnd
   pub adjust-high : w .«last_adjust» ≤ clock
   pub dec-high : w .«last_dec» ≤ clock
+  pub fast-high : w .fast ≤ on
+  pub trigger-high : w .trigger ≤ on
 
 -- a result: which window it is, and that it is sound
 pub record Kept (s : Settings) (clock : ℕ) (v r : Window) : Type 0 where
@@ -61,8 +66,8 @@ freshOf s =
       ignored = 0;
       «bytes_to_ignore» = 0;
       «fi_count» = 0;
-      fast = false;
-      trigger = false;
+      fast = off;
+      trigger = off;
       «qa_end» = 0;
       «last_adjust» = 0;
       «last_dec» = 0;

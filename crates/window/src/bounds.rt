@@ -1,6 +1,8 @@
 // The ranges of the settings, the bounds of the window's numbers, and the fresh window.
 use crate::Settings;
 use crate::Window;
+use rules::OFF;
+use rules::is_mode;
 use rules::most;
 use rules::within;
 ghost use mathlib.Core.Path.{_≡_};
@@ -44,6 +46,7 @@ pub fn in_range(s: Settings) -> bool
         & within(1, s.adjust_period, crate::PERIOD_MOST)
         & within(1, s.adjust_bytes, crate::WINDOW_MOST)
         & within(0, s.qa_threshold, crate::THRESHOLD_MOST)
+        & is_mode(s.quick_adapt_off)
         & is_ev_count(s.ev_count)
 }
 
@@ -67,6 +70,8 @@ pub fn is_sound(s: Settings, clock: u64, w: Window) -> bool
         & within(0, w.qa_end, crate::LATER_END - 1)
         & within(0, w.last_adjust, clock)
         & within(0, w.last_dec, clock)
+        & is_mode(w.fast)
+        & is_mode(w.trigger)
 }
 
 // The window of a fresh state.
@@ -83,8 +88,8 @@ pub fn fresh(s: Settings) -> Window
         ignored: 0,
         bytes_to_ignore: 0,
         fi_count: 0,
-        fast: false,
-        trigger: false,
+        fast: OFF,
+        trigger: OFF,
         qa_end: 0,
         last_adjust: 0,
         last_dec: 0,

@@ -3,6 +3,9 @@ use crate::Settings;
 use crate::Window;
 use crate::bounds::max_wnd;
 use crate::delay::avg_delay;
+use rules::OFF;
+use rules::ON;
+use rules::is_on;
 use rules::least;
 use rules::most;
 ghost use mathlib.Core.Path.{_≡_};
@@ -41,7 +44,7 @@ fn leave_fast_mode(w: Window) -> Window
     ensures { λ r. ⌜ r ≡ leaveFastModeOf w ⌝ }
 {
     let mut n = w;
-    n.fast = false;
+    n.fast = OFF;
     n.fi_count = 0;
     n
 }
@@ -75,7 +78,7 @@ fn fast_increase(s: Settings, newly: u64, delay: u64, w: Window) -> Window
     ensures { λ r. ⌜ r ≡ fastIncreaseOf s newly delay w ⌝ }
 {
     if is_near(delay, w.base) {
-        if w.fast {
+        if is_on(w.fast) {
             return raise_cwnd(s, newly, w);
         }
         let more = add_to_tally(w.fi_count, newly);
@@ -83,7 +86,7 @@ fn fast_increase(s: Settings, newly: u64, delay: u64, w: Window) -> Window
         if more > cwnd {
             let mut n = raise_cwnd(s, newly, w);
             n.fi_count = more;
-            n.fast = true;
+            n.fast = ON;
             return n;
         }
         let mut n = w;
@@ -115,7 +118,7 @@ fn proportional_increase(s: Settings, newly: u64, delay: u64, w: Window) -> Wind
     ensures { λ r. ⌜ r ≡ proportionalIncreaseOf s newly delay w ⌝ }
 {
     let v = fast_increase(s, newly, delay, w);
-    if v.fast {
+    if is_on(v.fast) {
         return v;
     }
     let alpha = s.alpha;

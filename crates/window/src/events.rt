@@ -12,6 +12,7 @@ use crate::delay::measure;
 use crate::delay::update_base_rtt;
 use crate::delay::update_delay;
 use crate::quick::quick_adapt;
+use rules::ON;
 use rules::most;
 ghost use mathlib.Core.Path.{_≡_};
 ghost use Prim.Native.Nat.{_≤_, _<_};
@@ -75,7 +76,7 @@ pub fn loss(s: Settings, time: u64, size: u64, in_flight: i64, w: Window) -> Win
 {
     let mut n = w;
     n.ignored = add_to_tally(w.ignored, size);
-    n.trigger = true;
+    n.trigger = ON;
     shrink(s, size, quick_adapt(s, time, true, true, 0, in_flight, n))
 }
 

@@ -57,7 +57,7 @@ pub const FEED_PART: u64 = 4;
 
 pub const FEED_REACH: u64 = 5;
 
-// The settings, in document 01's order.
+// The settings, in document 01's order. Quick adapt is off by a mode.
 pub struct Settings {
     pub mtu: u64,
     pub maxwnd: u64,
@@ -72,12 +72,13 @@ pub struct Settings {
     pub adjust_bytes: u64,
     pub qa_threshold: u64,
     pub first_psn: u32,
-    pub quick_adapt_off: bool,
+    pub quick_adapt_off: u32,
     // Request M-110: how many EVs there are.
     pub ev_count: u64,
 }
 
 // What the window rules hold between events. `avg` is in 1/1,024 tick; `qa_end` is quick adapt's end; `fast` is fast mode.
+// Modes are `rules::ON` or `rules::OFF`.
 pub struct Window {
     pub cwnd: u64,
     pub base: u64,
@@ -88,8 +89,8 @@ pub struct Window {
     pub ignored: u64,
     pub bytes_to_ignore: u64,
     pub fi_count: u64,
-    pub fast: bool,
-    pub trigger: bool,
+    pub fast: u32,
+    pub trigger: u32,
     pub qa_end: u64,
     pub last_adjust: u64,
     pub last_dec: u64,

@@ -2,6 +2,8 @@
 use crate::Adapted;
 use crate::Settings;
 use crate::Window;
+use rules::OFF;
+use rules::is_on;
 use rules::most;
 ghost use mathlib.Core.Path.{_≡_};
 ghost use Prim.Native.Nat.{_≤_, _<_};
@@ -22,7 +24,8 @@ fn above_zero(in_flight: i64) -> u64
 fn fires(s: Settings, loss: bool, marked: bool, delay: u64, w: Window) -> bool
     ensures { λ r. ⌜ r ≡ firesOf s loss marked delay w ⌝ }
 {
-    (w.qa_end != 0) & marked & (w.trigger | loss | (delay > s.qa_threshold)) & (w.achieved < w.cwnd)
+    let triggered = is_on(w.trigger);
+    (w.qa_end != 0) & marked & (triggered | loss | (delay > s.qa_threshold)) & (w.achieved < w.cwnd)
 }
 
 // cwnd = max(achieved, MTU), bytes_to_ignore = max(in-flight, 0), ignored 0, trigger off, mode off, fi_count 0.
@@ -33,8 +36,8 @@ fn fire(s: Settings, in_flight: i64, w: Window) -> Window
     n.cwnd = most(w.achieved, s.mtu);
     n.bytes_to_ignore = above_zero(in_flight);
     n.ignored = 0;
-    n.trigger = false;
-    n.fast = false;
+    n.trigger = OFF;
+    n.fast = OFF;
     n.fi_count = 0;
     n
 }
@@ -64,7 +67,7 @@ pub(crate) fn quick_adapt(
     requires { ⌜ (time < timeEnd) × (w .base ≤ delayMost) × (s .«target_qdelay» ≤ delayMost) ⌝ }
     ensures { λ r. ⌜ r ≡ quickAdaptOf s time loss marked delay «in_flight» w ⌝ }
 {
-    if s.quick_adapt_off | (time < w.qa_end) {
+    if is_on(s.quick_adapt_off) | (time < w.qa_end) {
         return Adapted {
             window: w,
             fired: false,

@@ -1,6 +1,10 @@
 -- `nscc_set_up` makes the tests of `onSetUpWords` in their order; then the answer is setting up's, kept.
+use mathlib.Core.Path.{_≡_, ap, _∙_}
+use Prim.Native.Nat.{ℕ}
 use borrow.Author.Needs.{needs}
+use Rattle.rules.specs.Mode.{modeOf}
 use Rattle.rules.specs.Verdict.{numberOf}
+use Rattle.c_state.specs.Layout.{settingsFrom}
 use Rattle.c_api.proofs.Answers.{few-settings, out-of-range, wrong-words, set-up-on}
 use Rattle.c_api.proofs.nscc_set_up.Statement.{statement}
 use Rattle.c_api.proofs.nscc_set_up.Tie as tie
@@ -18,8 +22,23 @@ returns : tie.Need-returns
 unfolding numberOf
 returns c = rw (c .number-of .ensures) (few-settings _ _ _ _ _ _ _ (c .before .if1 .taken))
 
+mode-of-requires : tie.Need-mode-of-requires
+mode-of-requires c κs = search needs
+
 settings-of-requires : tie.Need-settings-of-requires
 settings-of-requires c κs = search needs
+
+-- from the settings back to the entry
+abbrev start : tie.After-settings-of → tie.Start
+start c = c .before .before .before .before .before .before .before .before .before .before
+
+-- the settings that were handed in, the mode by the flag
+given :
+    (c : tie.After-settings-of) → let a = start c .args in
+    c .settings-of .result ≡ settingsFrom (a .settings .now) (a .first-psn) (modeOf (a .quick-adapt-off)) (a .ev-count)
+given c =
+    let a = start c .args in
+    c .settings-of .ensures ∙ ap (λ (off : ℕ). settingsFrom (a .settings .now) (a .first-psn) off (a .ev-count)) (c .before .mode-of .ensures)
 
 in-range-requires : tie.Need-in-range-requires
 in-range-requires c κs = search needs
@@ -29,7 +48,7 @@ unfolding numberOf
 returns-2 c =
     let i = c .before in
     rw (c .number-of2 .ensures)
-    (out-of-range _ _ _ _ _ _ _ (i .before .before .before .if1 .left) _ (i .before .before .settings-of .ensures) _
+    (out-of-range _ _ _ _ _ _ _ (i .before .before .before .before .if1 .left) _ (given (i .before .before)) _
     (i .before .in-range .ensures) (i .if2 .taken))
 
 returns-3 : tie.Need-returns-3
@@ -37,7 +56,7 @@ unfolding numberOf
 returns-3 c =
     let i = c .before in
     rw (c .number-of3 .ensures)
-    (wrong-words _ _ _ _ _ _ _ (i .before .before .before .before .if1 .left) _ (i .before .before .before .settings-of .ensures) _
+    (wrong-words _ _ _ _ _ _ _ (i .before .before .before .before .before .if1 .left) _ (given (i .before .before .before)) _
     (i .before .before .in-range .ensures) (i .before .if2 .left) (i .if3 .taken))
 
 set-up-requires : tie.Need-set-up-requires
@@ -75,7 +94,7 @@ returns-4 c =
     let a = c .before .before .before .before .before .before .before .before .before .before .before .before .before .before .before
     .before in
     let e = a .before .before .before .before .before .before in
-    set-up-on _ _ _ _ _ _ _ (e .before .before .before .before .if1 .left) _ (e .before .before .before .settings-of .ensures) _
+    set-up-on _ _ _ _ _ _ _ (e .before .before .before .before .before .if1 .left) _ (given (e .before .before .before)) _
     (e .before .before .in-range .ensures) (e .before .if2 .left) (e .if3 .left)
     _ _ _ (a .set-up .ensures) _ _ (c .before .before .before .before .number-of4 .ensures, c .before .before .keep .ensures)
 
@@ -85,6 +104,7 @@ nscc-set-up-spec =
     (tie.spec
     number-of-requires
     returns
+    mode-of-requires
     settings-of-requires
     in-range-requires
     number-of-requires-2

@@ -20,11 +20,8 @@ cast-t7 c = search needs
 shared-slice-read-t9 : tie.Need-shared-slice-read-t9
 shared-slice-read-t9 c = search needs
 
-cast-t10 : tie.Need-cast-t10
-cast-t10 c = search needs
-
-shared-slice-read-t12 : tie.Need-shared-slice-read-t12
-shared-slice-read-t12 c = search needs
+shared-slice-read-t11 : tie.Need-shared-slice-read-t11
+shared-slice-read-t11 c = search needs
 
 returns : tie.Need-returns
 unfolding flowFrom
@@ -39,6 +36,5 @@ flow-from-spec =
     shared-slice-read-t6
     cast-t7
     shared-slice-read-t9
-    cast-t10
-    shared-slice-read-t12
+    shared-slice-read-t11
     returns)

@@ -13,6 +13,9 @@ cast-settings-of c = search needs
 shared-slice-read-settings-of-2 : tie.Need-shared-slice-read-settings-of-2
 shared-slice-read-settings-of-2 c = search needs
 
+cast-settings-of-2 : tie.Need-cast-settings-of-2
+cast-settings-of-2 c = search needs
+
 shared-slice-read-settings-of-3 : tie.Need-shared-slice-read-settings-of-3
 shared-slice-read-settings-of-3 c = search needs
 
@@ -37,21 +40,21 @@ shared-slice-read-t17 c = search needs
 cast-t18 : tie.Need-cast-t18
 cast-t18 c = search needs
 
-shared-slice-read-phase-from : tie.Need-shared-slice-read-phase-from
-shared-slice-read-phase-from c = search needs
+shared-slice-read-t20 : tie.Need-shared-slice-read-t20
+shared-slice-read-t20 c = search needs
 
-phase-from-requires : tie.Need-phase-from-requires
-phase-from-requires c κs = search needs
+cast-t21 : tie.Need-cast-t21
+cast-t21 c = search needs
 
 returns : tie.Need-returns
 unfolding stateFrom
 returns c =
+    let window = c .before .before .before in
     rw (
-      c .before .before .before .before .before .before .before .settings-of .ensures,
-      c .before .before .before .before .before .before .flow-from .ensures,
-      c .before .before .before .before .before .totals-from .ensures,
-      c .before .before .before .before .window-from .ensures,
-      c .phase-from .ensures,
+      window .before .before .before .settings-of .ensures,
+      window .before .before .flow-from .ensures,
+      window .before .totals-from .ensures,
+      window .window-from .ensures,
     )
 
 pub state-from-spec : {M : Type 1} → statement M
@@ -61,6 +64,7 @@ state-from-spec =
     shared-slice-read-settings-of
     cast-settings-of
     shared-slice-read-settings-of-2
+    cast-settings-of-2
     shared-slice-read-settings-of-3
     settings-of-requires
     flow-from-requires
@@ -69,6 +73,6 @@ state-from-spec =
     shared-slice-read-t15
     shared-slice-read-t17
     cast-t18
-    shared-slice-read-phase-from
-    phase-from-requires
+    shared-slice-read-t20
+    cast-t21
     returns)

@@ -35,8 +35,14 @@ shared-slice-read-t19 c = search needs
 shared-slice-read-t21 : tie.Need-shared-slice-read-t21
 shared-slice-read-t21 c = search needs
 
+cast-t22 : tie.Need-cast-t22
+cast-t22 c = search needs
+
 shared-slice-read-t24 : tie.Need-shared-slice-read-t24
 shared-slice-read-t24 c = search needs
+
+cast-t25 : tie.Need-cast-t25
+cast-t25 c = search needs
 
 shared-slice-read-t27 : tie.Need-shared-slice-read-t27
 shared-slice-read-t27 c = search needs
@@ -65,7 +71,9 @@ window-from-spec =
     shared-slice-read-t17
     shared-slice-read-t19
     shared-slice-read-t21
+    cast-t22
     shared-slice-read-t24
+    cast-t25
     shared-slice-read-t27
     shared-slice-read-t29
     shared-slice-read-t31

@@ -40,11 +40,8 @@ shared-slice-read-result-10 c = search needs
 shared-slice-read-result-11 : tie.Need-shared-slice-read-result-11
 shared-slice-read-result-11 c = search needs
 
-shared-slice-read-result-12 : tie.Need-shared-slice-read-result-12
-shared-slice-read-result-12 c = search needs
-
 returns-2 : tie.Need-returns-2
-returns-2 c = rest-left _ (c .before .before .before .before .before .before .before .before .before .before .before .before .if1 .left)
+returns-2 c = rest-left _ (c .before .before .before .before .before .before .before .before .before .before .before .if1 .left)
 
 pub words-ok-spec : {M : Type 1} → statement M
 words-ok-spec =
@@ -62,5 +59,4 @@ words-ok-spec =
     shared-slice-read-result-9
     shared-slice-read-result-10
     shared-slice-read-result-11
-    shared-slice-read-result-12
     returns-2)

@@ -24,7 +24,7 @@ returns c =
     (lt-yes (c .before .ahead .result) half _ _ _ (c .if1 .taken) (toZ-pos w64 _ (omega arith)))
 
 cast-result-2 : tie.Need-cast-result-2
-cast-result-2 c = search needs
+cast-result-2 c = search (needs, ahead-lt (c .before .before .args .count) (c .before .before .args .held))
 
 cast-result-3 : tie.Need-cast-result-3
 cast-result-3 c = search needs

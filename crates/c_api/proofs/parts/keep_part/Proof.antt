@@ -2,7 +2,7 @@
 use mathlib.Core.Path.{sym, ap, _∙_}
 use mathlib.Core.Logic.{⊎-elim}
 use borrow.Author.Needs.{needs}
-use Rattle.c_state.specs.Layout.{bit}
+use Rattle.c_api.specs.Flags.{bit}
 use Rattle.c_api.proofs.Parting.{part-stored}
 use Rattle.c_api.proofs.parts.keep_part.Statement.{statement}
 use Rattle.c_api.proofs.parts.keep_part.Tie as tie

@@ -16,6 +16,9 @@ returns : tie.Need-returns
 unfolding numberOf
 returns c = judged-3 _ _ _ _ (sym (c .before .bad-time .ensures) ∙ c .if1 .taken)
 
+cast-if2 : tie.Need-cast-if2
+cast-if2 c = search needs
+
 returns-2 : tie.Need-returns-2
 unfolding numberOf
 returns-2 c =
@@ -61,4 +64,4 @@ returns-5 c =
 
 pub judge-ack-spec : {M : Type 1} → statement M
 judge-ack-spec =
-    tie.close (tie.spec bad-time-requires returns returns-2 cast-if3 returns-3 covers-requires returns-4 judge-ack-requires returns-5)
+    tie.close (tie.spec bad-time-requires returns cast-if2 returns-2 cast-if3 returns-3 covers-requires returns-4 judge-ack-requires returns-5)

@@ -2,7 +2,6 @@
 use mathlib.Core.Path.{refl, sym, _∙_}
 use mathlib.Core.List.{List}
 use borrow.Author.Needs.{needs}
-use borrow.Author.Tests.{not-true, not-false}
 use Rattle.rules.specs.Rows.{Row}
 use Rattle.rules.specs.Verdict.{numberOf, accepted-zero, refused-not}
 use Rattle.ledger.specs.Memory.{memory}
@@ -12,7 +11,7 @@ use Rattle.sender.specs.Steps.{lossStep}
 use Rattle.sender.specs.Events.{onLoss}
 use Rattle.sender.proofs.Sounds.{sound-bounded}
 use Rattle.sender.proofs.Views.{sound-lengths}
-use Rattle.sender.proofs.Rowing.{accepted-number, answer-refused, answer-accepted}
+use Rattle.sender.proofs.Rowing.{answer-refused, answer-accepted}
 use Rattle.sender.proofs.rely.loss.Statement.{statement}
 use Rattle.sender.proofs.rely.loss.Tie as tie
 
@@ -42,22 +41,27 @@ same-length c = search needs
 is-accepted-requires : tie.Need-is-accepted-requires
 is-accepted-requires c κs = search needs
 
-returns : tie.Need-returns
-unfolding onLoss
-returns c =
-    let j = c .before .before in
-    let s = start j in
-    answer-refused (handed s) (rows s) (stepped s) _ _ (s .pre) (numberOf (j .judge-loss .result)) (j .judge-loss .ensures)
-    (refused-not _ _ (c .before .is-accepted .ensures) (not-true _ (c .if1 .taken))) refl refl
-
 loss-requires : tie.Need-loss-requires
 loss-requires c κs =
     let e = c .before .before in
     let j = e .before .before in
-    (start j .pre, sym (j .judge-loss .ensures) ∙ accepted-zero _ _ (e .before .is-accepted .ensures) (not-false _ (e .if1 .left)))
+    (start j .pre, sym (j .judge-loss .ensures) ∙ accepted-zero _ _ (e .before .is-accepted .ensures) (e .if1 .taken))
 
 same-length-2 : tie.Need-same-length-2
 same-length-2 c = search needs
+
+returns : tie.Need-returns
+unfolding onLoss
+returns c =
+    let k = c .before .before .before .before in
+    let l = k .loss .last in
+    let e = k .before .before .before in
+    let j = e .before .before in
+    let s = start j in
+    let zero = accepted-zero _ _ (e .before .is-accepted .ensures) (e .if1 .taken) in
+    answer-accepted (handed s) (rows s) (stepped s) _ _ (s .pre) (numberOf (j .judge-loss .result)) (j .judge-loss .ensures) zero
+    (k .loss .result) (memory (s .args .outstanding .now) (l .1 .1 .0) (s .args .sizes .now) (s .args .sent .now)) (l .1 .1 .1 .1 .1 .0)
+    (k .loss .ensures) refl zero
 
 same-length-3 : tie.Need-same-length-3
 same-length-3 c = search needs
@@ -65,15 +69,10 @@ same-length-3 c = search needs
 returns-2 : tie.Need-returns-2
 unfolding onLoss
 returns-2 c =
-    let k = c .before .before .before .before in
-    let l = k .loss .last in
-    let e = k .before .before .before in
-    let j = e .before .before in
+    let j = c .before .before in
     let s = start j in
-    let zero = accepted-zero _ _ (e .before .is-accepted .ensures) (not-false _ (e .if1 .left)) in
-    answer-accepted (handed s) (rows s) (stepped s) _ _ (s .pre) (numberOf (j .judge-loss .result)) (j .judge-loss .ensures) zero
-    (k .loss .result) (memory (s .args .outstanding .now) (l .1 .1 .0) (s .args .sizes .now) (s .args .sent .now)) (l .1 .1 .1 .1 .1 .0)
-    (k .loss .ensures) refl accepted-number
+    answer-refused (handed s) (rows s) (stepped s) _ _ (s .pre) (numberOf (j .judge-loss .result)) (j .judge-loss .ensures)
+    (refused-not _ _ (c .before .is-accepted .ensures) (c .if1 .left)) refl refl
 
 pub loss-spec : {M : Type 1} → statement M
 loss-spec =
@@ -81,9 +80,9 @@ loss-spec =
     (tie.spec
     judge-loss-requires
     is-accepted-requires
-    same-length
-    returns
     loss-requires
+    same-length
     same-length-2
+    returns
     same-length-3
     returns-2)

@@ -3,7 +3,6 @@ use mathlib.Core.Path.{refl, sym, ap, _∙_}
 use mathlib.Core.Option.{some}
 use mathlib.Core.List.{List}
 use borrow.Author.Needs.{needs}
-use borrow.Author.Tests.{not-true, not-false}
 use Rattle.rules.specs.Rows.{Row}
 use Rattle.rules.specs.Verdict.{numberOf, accepted-zero, refused-not}
 use Rattle.ledger.specs.Memory.{memory}
@@ -13,7 +12,7 @@ use Rattle.sender.specs.Steps.{nackSampling, nackStep}
 use Rattle.sender.specs.Events.{saysOf, onNack}
 use Rattle.sender.proofs.Sounds.{sound-bounded}
 use Rattle.sender.proofs.Views.{sound-lengths}
-use Rattle.sender.proofs.Rowing.{accepted-number, answer-refused, answer-accepted, says-nothing, says-sample}
+use Rattle.sender.proofs.Rowing.{answer-refused, answer-accepted, says-nothing, says-sample}
 use Rattle.sender.proofs.rely.nack.Statement.{statement}
 use Rattle.sender.proofs.rely.nack.Tie as tie
 
@@ -43,33 +42,32 @@ same-length c = search needs
 is-accepted-requires : tie.Need-is-accepted-requires
 is-accepted-requires c κs = search needs
 
-unheard-requires : tie.Need-unheard-requires
-unheard-requires c κs = search needs
-
-returns : tie.Need-returns
-unfolding onNack
-returns c =
-    let v = c .before .before in
-    let j = v .before in
-    let s = start j in
-    let refused = refused-not _ _ (v .is-accepted .ensures) (not-true _ (c .before .if1 .taken)) in
-    let same = ap numberOf (c .unheard .ensures .1) in
-    let answer = answer-refused (handed s) (rows s) (stepped s) _ _ (s .pre) (numberOf (j .judge-nack .result))
-    (j .judge-nack .ensures) refused
-    (c .unheard .ensures .0) same in (
-      answer,
-      says-nothing answer (nackSampling (s .args .time) (s .args .a) (viewOf (handed s))) (λ z. refused (sym same ∙ z))
-          (c .unheard .ensures .2),
-    )
-
 nack-requires : tie.Need-nack-requires
 nack-requires c κs =
     let e = c .before .before in
     let j = e .before .before in
-    (start j .pre, sym (j .judge-nack .ensures) ∙ accepted-zero _ _ (e .before .is-accepted .ensures) (not-false _ (e .if1 .left)))
+    (start j .pre, sym (j .judge-nack .ensures) ∙ accepted-zero _ _ (e .before .is-accepted .ensures) (e .if1 .taken))
 
 same-length-2 : tie.Need-same-length-2
 same-length-2 c = search needs
+
+returns : tie.Need-returns
+unfolding saysOf onNack
+returns c =
+    let k = c .before .before .before .before .before in
+    let l = k .nack .last in
+    let e = k .before .before .before in
+    let j = e .before .before in
+    let s = start j in
+    let zero = accepted-zero _ _ (e .before .is-accepted .ensures) (e .if1 .taken) in
+    let answer = answer-accepted (handed s) (rows s) (stepped s) _ _ (s .pre) (numberOf (j .judge-nack .result))
+    (j .judge-nack .ensures) zero
+    (k .nack .result .state)
+    (memory (s .args .outstanding .now) (l .1 .1 .0) (s .args .sizes .now) (s .args .sent .now)) (l .1 .1 .1 .1 .1 .0)
+    (k .nack .ensures .0) refl zero in (
+      answer,
+      says-sample answer (nackSampling (s .args .time) (s .args .a) (viewOf (handed s))) zero (ap some (k .nack .ensures .1)),
+    )
 
 same-length-3 : tie.Need-same-length-3
 same-length-3 c = search needs
@@ -77,21 +75,12 @@ same-length-3 c = search needs
 returns-2 : tie.Need-returns-2
 unfolding saysOf onNack
 returns-2 c =
-    let k = c .before .before .before .before .before in
-    let l = k .nack .last in
-    let e = k .before .before .before in
-    let j = e .before .before in
+    let j = c .before .before in
     let s = start j in
-    let zero = accepted-zero _ _ (e .before .is-accepted .ensures) (not-false _ (e .if1 .left)) in
-    let answer = answer-accepted (handed s) (rows s) (stepped s) _ _ (s .pre) (numberOf (j .judge-nack .result))
-    (j .judge-nack .ensures) zero
-    (k .nack .result .state)
-    (memory (s .args .outstanding .now) (l .1 .1 .0) (s .args .sizes .now) (s .args .sent .now)) (l .1 .1 .1 .1 .1 .0)
-    (k .nack .ensures .0) refl accepted-number in (
-      answer,
-      says-sample answer (nackSampling (s .args .time) (s .args .a) (viewOf (handed s))) accepted-number
-          (ap some (k .nack .ensures .1)),
-    )
+    let refused = refused-not _ _ (c .before .is-accepted .ensures) (c .if1 .left) in
+    let answer = answer-refused (handed s) (rows s) (stepped s) _ _ (s .pre) (numberOf (j .judge-nack .result))
+    (j .judge-nack .ensures) refused refl refl in
+    (answer, says-nothing answer (nackSampling (s .args .time) (s .args .a) (viewOf (handed s))) refused refl)
 
 pub nack-spec : {M : Type 1} → statement M
 nack-spec =
@@ -99,10 +88,9 @@ nack-spec =
     (tie.spec
     judge-nack-requires
     is-accepted-requires
-    unheard-requires
-    same-length
-    returns
     nack-requires
+    same-length
     same-length-2
+    returns
     same-length-3
     returns-2)

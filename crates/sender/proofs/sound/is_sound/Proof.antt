@@ -46,12 +46,9 @@ times-ok-requires c κs = search needs
 cast-result : tie.Need-cast-result
 cast-result c = search needs
 
-phase-number-requires : tie.Need-phase-number-requires
-phase-number-requires c κs = search needs
-
 phase-of-requires : tie.Need-phase-of-requires
 phase-of-requires c κs =
-    let l = c .before .before .before .before .before .before in
+    let l = c .before .before .before .before .before in
     let h = l .before .before in
     let r = h .before .before in
     let B =
@@ -59,18 +56,13 @@ phase-of-requires c κs =
     (l .before .is-sound2 .ensures) (l .if3 .left) in
     (B .flown, (B .mtu-high, B .cwnd-high))
 
-phase-number-requires-2 : tie.Need-phase-number-requires-2
-phase-number-requires-2 c κs = search needs
-
 returns-4 : tie.Need-returns-4
 returns-4 c =
-    let l = c .before .before .before .before .before .before .before .before in
+    let l = c .before .before .before .before .before .before .before in
     let h = l .before .before in
     let r = h .before .before in
     tests-left (given (r .before)) _ (r .before .in-range .ensures) (r .if1 .left) _ (h .before .is-sound .ensures) (h .if2 .left) _
-    (l .before .is-sound2 .ensures) (l .if3 .left) _ _ _ _ (c .before .before .before .before .before .times-ok .ensures)
-    (c .before .before .phase-number .ensures)
-    (c .phase-number2 .ensures) (c .before .phase-of .ensures)
+    (l .before .is-sound2 .ensures) (l .if3 .left) _ _ (c .before .before .before .before .times-ok .ensures) (c .before .phase-of .ensures)
 
 pub is-sound-spec : {M : Type 1} → statement M
 is-sound-spec =
@@ -84,7 +76,5 @@ is-sound-spec =
     returns-3
     times-ok-requires
     cast-result
-    phase-number-requires
     phase-of-requires
-    phase-number-requires-2
     returns-4)

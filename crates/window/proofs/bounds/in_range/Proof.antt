@@ -48,12 +48,15 @@ within-requires-11 c κs = search needs
 within-requires-12 : tie.Need-within-requires-12
 within-requires-12 c κs = search needs
 
+is-mode-requires : tie.Need-is-mode-requires
+is-mode-requires c κs = search needs
+
 is-ev-count-requires : tie.Need-is-ev-count-requires
 is-ev-count-requires c κs = search needs
 
 returns : tie.Need-returns
 unfolding inRange
-returns c = let s = c .before .before .before .before .before .before .before .before .before .before .before .before .before in
+returns c = let s = c .before .before .before .before .before .before .before .before .before .before .before .before .before .before in
     rw (lt-ltb (s .args .s .«first_psn») psns (psn-fits s), and-true) (cc)
 
 pub in-range-spec : {M : Type 1} → statement M
@@ -72,5 +75,6 @@ in-range-spec =
     within-requires-10
     within-requires-11
     within-requires-12
+    is-mode-requires
     is-ev-count-requires
     returns)

@@ -53,10 +53,18 @@ within-requires-11 c κs = search needs
 within-requires-12 : tie.Need-within-requires-12
 within-requires-12 c κs = search needs
 
+is-mode-requires : tie.Need-is-mode-requires
+is-mode-requires c κs = search needs
+
+is-mode-requires-2 : tie.Need-is-mode-requires-2
+is-mode-requires-2 c κs = search needs
+
 returns-2 : tie.Need-returns-2
 unfolding soundWindow
 returns-2 c =
-    let w11 = c .before in
+    let m1 = c .before in
+    let w12 = m1 .before in
+    let w11 = w12 .before in
     let w10 = w11 .before in
     let w9 = w10 .before in
     let w8 = w9 .before in
@@ -69,7 +77,9 @@ returns-2 c =
     let top = w2 .before in
     let b = top .before in
     rw (
-      c .within12 .ensures,
+      c .is-mode2 .ensures,
+      m1 .is-mode .ensures,
+      w12 .within12 .ensures,
       w11 .within11 .ensures,
       w10 .within10 .ensures,
       w9 .within9 .ensures,
@@ -103,4 +113,6 @@ is-sound-spec =
     within-requires-10
     within-requires-11
     within-requires-12
+    is-mode-requires
+    is-mode-requires-2
     returns-2)

@@ -8,14 +8,18 @@ use Rattle.window.proofs.cases.fast_increase.Tie as tie
 is-near-requires : tie.Need-is-near-requires
 is-near-requires c κs = search needs
 
+is-on-requires : tie.Need-is-on-requires
+is-on-requires c κs = search needs
+
 raise-cwnd-requires : tie.Need-raise-cwnd-requires
 raise-cwnd-requires c κs = search needs
 
 returns : tie.Need-returns
 unfolding fastIncreaseOf
 returns c =
-    let near = c .before .before in
-    simp (← near .before .is-near .ensures, ← c .raise-cwnd .ensures)
+    let on = c .before .before in
+    let near = on .before in
+    simp (← near .before .is-near .ensures, ← on .is-on .ensures, ← c .raise-cwnd .ensures)
     (search (branches, near .if1 .taken, c .before .if2 .taken) depth 12)
 
 add-to-tally-requires : tie.Need-add-to-tally-requires
@@ -28,16 +32,18 @@ returns-2 : tie.Need-returns-2
 unfolding fastIncreaseOf
 returns-2 c =
     let t = c .before .before in
-    let near = t .before .before in
-    simp (← near .before .is-near .ensures, ← t .add-to-tally .ensures, ← c .raise-cwnd2 .ensures)
+    let on = t .before .before in
+    let near = on .before in
+    simp (← near .before .is-near .ensures, ← on .is-on .ensures, ← t .add-to-tally .ensures, ← c .raise-cwnd2 .ensures)
     (search (branches, near .if1 .taken, t .before .if2 .left, c .before .if3 .taken) depth 12)
 
 returns-3 : tie.Need-returns-3
 unfolding fastIncreaseOf
 returns-3 c =
     let t = c .before in
-    let near = t .before .before in
-    simp (← near .before .is-near .ensures, ← t .add-to-tally .ensures)
+    let on = t .before .before in
+    let near = on .before in
+    simp (← near .before .is-near .ensures, ← on .is-on .ensures, ← t .add-to-tally .ensures)
     (search (branches, near .if1 .taken, t .before .if2 .left, c .if3 .left) depth 12)
 
 leave-fast-mode-requires : tie.Need-leave-fast-mode-requires
@@ -54,6 +60,7 @@ fast-increase-spec =
     tie.close
     (tie.spec
     is-near-requires
+    is-on-requires
     raise-cwnd-requires
     returns
     add-to-tally-requires
