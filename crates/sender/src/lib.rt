@@ -36,7 +36,8 @@ pub const READY: u32 = 2;
 
 pub const ACTIVE: u32 = 3;
 
-// One congestion control context.
+// One congestion control context. Numbers of 32 bits stand in pairs, here and in its parts, so that it has no gaps: docs/DECISIONS.md, "A
+// state with no gaps".
 pub struct Controller {
     pub settings: Settings,
     pub flow: Flow,
