@@ -10,7 +10,7 @@ use Rattle.rules.specs.Unique.{Tells}
 use Rattle.rules.specs.declared.verdict.Verdict.{Verdict}
 use Rattle.rules.specs.declared.verdict.Verdict.the-variants.{Accepted, Setting, Unsound, Time, Size, Backlog, WindowFull, RingFull}
 use Rattle.rules.specs.declared.verdict.Verdict.the-variants.{WrongPsn, UnsentOrOld, NotFlying, Sinks, Malformed, NoRoom}
-use Rattle.rules.specs.declared.verdict.Verdict.the-variants.{Bytes, Count, Reason, Ev, Trigger, LogTooLong}
+use Rattle.rules.specs.declared.verdict.Verdict.the-variants.{Bytes, Count, Reason, Ev, Trigger, Flow, LogTooLong}
 
 unfoldable pub numberOf : Verdict → ℕ
 numberOf Accepted = 0
@@ -32,6 +32,7 @@ numberOf Count = 21
 numberOf Reason = 22
 numberOf Ev = 23
 numberOf Trigger = 24
+numberOf Flow = 25
 numberOf LogTooLong = 28
 
 -- the verdict of a number: for the laws that read an outcome back, no code does
@@ -55,7 +56,8 @@ verdictOf n =
     (cond (eqb n 21) Count
     (cond (eqb n 22) Reason
     (cond (eqb n 23) Ev
-    (cond (eqb n 24) Trigger LogTooLong))))))))))))))))))
+    (cond (eqb n 24) Trigger
+    (cond (eqb n 25) Flow LogTooLong)))))))))))))))))))
 
 pub number-back : (v : Verdict) → verdictOf (numberOf v) ≡ v
 unfolding numberOf verdictOf
@@ -78,6 +80,7 @@ number-back Count = refl
 number-back Reason = refl
 number-back Ev = refl
 number-back Trigger = refl
+number-back Flow = refl
 number-back LogTooLong = refl
 
 -- no two verdicts have one number
@@ -106,6 +109,7 @@ number-most Count = omega arith
 number-most Reason = omega arith
 number-most Ev = omega arith
 number-most Trigger = omega arith
+number-most Flow = omega arith
 number-most LogTooLong = omega arith
 
 -- what a test of a verdict tells: `is_accepted` answers b

@@ -43,6 +43,8 @@ pub enum Verdict {
     Ev,
     // 24: ACK's trigger PSN not covered by that ACK.
     Trigger,
+    // 25: a flow out of range (request M-107).
+    Flow,
     // 28: a chunk with which the log would reach 2^48 bytes (request M-104).
     LogTooLong,
 }
@@ -71,6 +73,7 @@ pub fn number_of(v: Verdict) -> u32
         Verdict::Reason => 22,
         Verdict::Ev => 23,
         Verdict::Trigger => 24,
+        Verdict::Flow => 25,
         Verdict::LogTooLong => 28,
     }
 }

@@ -65,6 +65,9 @@ enum-told-19 c = search needs
 enum-told-20 : tie.Need-enum-told-20
 enum-told-20 c = search needs
 
+enum-told-21 : tie.Need-enum-told-21
+enum-told-21 c = search needs
+
 returns : tie.Need-returns
 unfolding numberOf
 returns c = sym (ap numberOf (c .enum-told .given .1))
@@ -145,6 +148,10 @@ returns-20 : tie.Need-returns-20
 unfolding numberOf
 returns-20 c = sym (ap numberOf (c .enum-told20 .given .1))
 
+returns-21 : tie.Need-returns-21
+unfolding numberOf
+returns-21 c = sym (ap numberOf (c .enum-told21 .given .1))
+
 pub number-of-spec : {M : Type 1} → statement M
 number-of-spec =
     tie.close
@@ -169,6 +176,7 @@ number-of-spec =
     enum-told-18
     enum-told-19
     enum-told-20
+    enum-told-21
     returns
     returns-2
     returns-3
@@ -188,4 +196,5 @@ number-of-spec =
     returns-17
     returns-18
     returns-19
-    returns-20)
+    returns-20
+    returns-21)
