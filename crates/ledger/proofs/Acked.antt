@@ -23,7 +23,7 @@ use Rattle.ledger.specs.Packets.{coveredSum, doneRun}
 use Rattle.ledger.specs.Bounds.{Flown}
 use Rattle.ledger.specs.Ring.{Ring, Ledger, ledger, capOf, packetAt, placeOf, laid, queueOf, longOf, packets}
 use Rattle.ledger.specs.Memory.{Memory, shown, ledgerShown, kept, keptOf, Words}
-use Rattle.ledger.specs.Sound.{SoundLedger, stands, soundLedger, Lengths}
+use Rattle.ledger.specs.Sound.{SoundLedger, stands, Others, soundLedger, Lengths}
 use Rattle.ledger.specs.Steps.{heldOf, newlyOf, acknowledgeOf}
 use Rattle.ledger.specs.Rows.{ackRows}
 use Rattle.ledger.specs.Delivery.{slots, Standing, Reached, Covered, Retired}
@@ -31,8 +31,8 @@ use Rattle.ledger.specs.declared.Flow.{Flow}
 use Rattle.ledger.specs.declared.Totals.{Totals}
 use Rattle.ledger.specs.declared.Packet.{Packet}
 use Rattle.ledger.proofs.Geometry.{cap-facts, laid-cap, laid-at, queue-laid}
-use Rattle.ledger.proofs.Facts.{Live, live-later, Facts, packets-long, stands-facts, stands-laid, packets-laid, tallies-facts}
-use Rattle.ledger.proofs.Facts.{tallies-test, sound-ledger-parts, sound-ledger-whole, sound-ledger-facts}
+use Rattle.ledger.proofs.Facts.{Live, live-later, Facts, packets-long, stands-facts, stands-laid, packets-laid}
+use Rattle.ledger.proofs.Facts.{sound-ledger-parts, sound-ledger-whole, sound-ledger-facts}
 use Rattle.ledger.proofs.Queues.{OfOut, flying-out, marked-out, bytes-out, cover-long, cover-each, cover-sum, run-adds, run-le}
 use Rattle.ledger.proofs.Queues.{run-next}
 use Rattle.ledger.proofs.Signs.{word, flown-word, flown-less, sound-ledger-flown}
@@ -125,7 +125,7 @@ module _ {f : Flow} {t : Totals} {n : ℕ} (m : Memory) (K : SoundLedger (ledger
         → low ≡ plus (f .low) gone
         → held ≡ heldOf count (f .held) → bytes ≡ newlyOf count (f .held) → z ≡ toZ w64 (ofZ w64 (u .«in_flight»)) -ℤ pos bytes
         → ledger (record { low = low; next = f .next; held = held; backlog = f .backlog })
-        (record { flying = u .flying; marked = u .marked; «marked_bytes» = u .«marked_bytes»; «in_flight» = z }) s
+        (record { flying = u .flying; marked = u .marked; «marked_bytes» = u .«marked_bytes»; backlog = u .backlog; «in_flight» = z }) s
         ≡ acknowledgeOf cum map count (ledgerShown f t m)
     unfolding after acknowledgeOf
     stepped count {gone} R el eh eb ez =
@@ -136,7 +136,7 @@ module _ {f : Flow} {t : Totals} {n : ℕ} (m : Memory) (K : SoundLedger (ledger
         ∙ queue-laid (capOf ring) (rw cap (caps stood)) (f .low) after n after-long (omega (arith, stood .fits, is-long)) in
         let g : gone ≡ doneRun after = R .run ∙ ap doneRun q in
         let c : capOf r ≡ capOf ring = ap capOf (D .ring-is) ∙ laid-cap (capOf ring) (f .low) after in
-        rw (el, eh, ez, word (u .«in_flight») flown, eb, D .flying, D .marked, D .bytes, D .in-flight, R .ring-is, c, q, g)
+        rw (el, eh, ez, word (u .«in_flight») flown, eb, D .flying, D .marked, D .bytes, D .backlog, D .in-flight, R .ring-is, c, q, g)
 
     -- and what is kept is what is kept of it
     pub acked : (count : ℕ) {gone low held bytes : ℕ} {z : ℤ} (k : Memory) → Lengths k → Words k
@@ -144,11 +144,11 @@ module _ {f : Flow} {t : Totals} {n : ℕ} (m : Memory) (K : SoundLedger (ledger
         → low ≡ plus (f .low) gone
         → held ≡ heldOf count (f .held) → bytes ≡ newlyOf count (f .held) → z ≡ toZ w64 (ofZ w64 (u .«in_flight»)) -ℤ pos bytes
         → kept (record { low = low; next = f .next; held = held; backlog = f .backlog })
-        (record { flying = u .flying; marked = u .marked; «marked_bytes» = u .«marked_bytes»; «in_flight» = z }) k
+        (record { flying = u .flying; marked = u .marked; «marked_bytes» = u .«marked_bytes»; backlog = u .backlog; «in_flight» = z }) k
         ≡ keptOf (acknowledgeOf cum map count (ledgerShown f t m))
     acked count k L W R el eh eb ez =
         kept-is (record { low = _; next = f .next; held = _; backlog = f .backlog })
-        (record { flying = u .flying; marked = u .marked; «marked_bytes» = u .«marked_bytes»; «in_flight» = _ }) k
+        (record { flying = u .flying; marked = u .marked; «marked_bytes» = u .«marked_bytes»; backlog = u .backlog; «in_flight» = _ }) k
         (acknowledgeOf cum map count (ledgerShown f t m)) L W
         (stepped count (rw el R) el eh eb ez)
 
@@ -228,19 +228,22 @@ module _ (cum map count mtu clock : ℕ) (l : Ledger) (e : stands mtu clock (l .
       (omega (arith, run-adds adds z ys, cover-sum adds z (covered cum map) (l .flow .low) xs))
 
 -- the whole ledger
-pub ack-keeps : (cum map count mtu maxwnd clock time : ℕ) (l : Ledger) → soundLedger mtu maxwnd clock l ≡ true
+pub ack-keeps : (cum map count mtu maxwnd clock time : ℕ) (o : Others) (l : Ledger) → soundLedger mtu maxwnd clock o l ≡ true
     → count < counts → firstOf (ackRows (l .flow) (l .totals .«in_flight») cum map count) ≡ 0 → clock ≤ time
-    → soundLedger mtu maxwnd time (acknowledgeOf cum map count l) ≡ true
+    → soundLedger mtu maxwnd time o (acknowledgeOf cum map count l) ≡ true
 unfolding acknowledgeOf
-ack-keeps cum map count mtu maxwnd clock time l co hc none-refuses ht =
-    let p = sound-ledger-parts mtu maxwnd clock l co in
-    let T = tallies-facts maxwnd (l .totals) (packets (l .flow) (l .slots)) (p .1) in
+ack-keeps cum map count mtu maxwnd clock time o l co hc none-refuses ht =
+    let p = sound-ledger-parts mtu maxwnd clock o l co in
+    let T = p .1 in
     let left = acked-sum cum map count mtu clock l (p .0) in
     let m = acknowledgeOf cum map count l in
-    sound-ledger-whole mtu maxwnd time m (acked-stands cum map count mtu clock l (p .0) time hc ht)
-    (tallies-test maxwnd (m .totals) (packets (m .flow) (m .slots))
-    (omega (arith, T .0, left flyingOne flying-out))
-    (omega (arith, T .1, left markedOne marked-out))
-    (omega (arith, T .2, left markedSize bytes-out))
-    (flown-less maxwnd (l .totals .«in_flight») (newlyOf count (l .flow .held)) (T .3)
-    (ack-facts (l .flow) (l .totals .«in_flight») cum map count none-refuses .1)))
+    sound-ledger-whole mtu maxwnd time o m (acked-stands cum map count mtu clock l (p .0) time hc ht)
+    (record {
+      flying = omega (arith, T .flying, left flyingOne flying-out);
+      marked = omega (arith, T .marked, left markedOne marked-out);
+      bytes = omega (arith, T .bytes, left markedSize bytes-out);
+      backlog = T .backlog;
+      flown =
+          flown-less maxwnd (l .totals .«in_flight») (newlyOf count (l .flow .held)) (T .flown)
+          (ack-facts (l .flow) (l .totals .«in_flight») cum map count none-refuses .1);
+    })

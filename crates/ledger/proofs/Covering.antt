@@ -97,6 +97,7 @@ pub record Inv (m : Memory) (f : Flow) (t : Totals) (far cum map : ℕ) (out mar
   pub flying-is : left .flying + gone flyingOne m f cum map k ≡ t .flying
   pub marked-is : left .marked + gone markedOne m f cum map k ≡ t .marked
   pub bytes-is : left .«marked_bytes» + gone markedSize m f cum map k ≡ t .«marked_bytes»
+  pub backlog : left .backlog ≡ t .backlog
   pub in-flight : left .«in_flight» ≡ t .«in_flight»
 
 pub starts : {m : Memory} {f : Flow} {t : Totals} {far cum map : ℕ} → Standing m f → Reached m f t far cum map → f .low < psns
@@ -119,6 +120,7 @@ starts {m} {f} {t} {far} {cum} {map} S R b =
       flying-is = add-zero (t .flying);
       marked-is = add-zero (t .marked);
       bytes-is = add-zero (t .«marked_bytes»);
+      backlog = refl;
       in-flight = refl;
     }
 
@@ -493,6 +495,7 @@ module _ {m : Memory} {f : Flow} {t : Totals} {far cum map : ℕ} {out mark : Li
             omega (arith, marks-count, outs-count, gone-more flyingOne, gone-lt flyingOne flying-out, I .flying-is, I .reached .flying);
         marked-is = omega (arith, marks-count, gone-more markedOne, gone-lt markedOne marked-out, I .marked-is, I .reached .marked);
         bytes-is = omega (arith, bytes-count, gone-more markedSize, gone-lt markedSize bytes-out, I .bytes-is, I .reached .bytes);
+        backlog = I .backlog;
         in-flight = I .in-flight;
       })
 
@@ -626,6 +629,7 @@ module _ {m : Memory} {f : Flow} {t : Totals} {far cum map : ℕ} {out mark : Li
         flying = omega (arith, sum flyingOne, I .flying-is);
         marked = omega (arith, sum markedOne, I .marked-is);
         bytes = omega (arith, sum markedSize, I .bytes-is);
+        backlog = I .backlog;
         in-flight = I .in-flight;
       }
 

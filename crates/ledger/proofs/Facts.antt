@@ -5,7 +5,7 @@ use mathlib.Core.Path.{_≡_, refl, sym, ap, _∙_, subst}
 use mathlib.Core.Bool.{true, false, _&&_}
 use mathlib.Core.Logic.{by-cases}
 use mathlib.Core.List.{List}
-use Prim.Native.Nat.{ℕ, _-_, _*_, _^_, _≤_, _<_}
+use Prim.Native.Nat.{ℕ, _+_, _-_, _*_, _^_, _≤_, _<_}
 use native.Mathlib.Nat.{le-refl, mul-le-mul}
 use native.Mathlib.Decide.{decLt}
 use native.Mathlib.Omega.{arith}
@@ -21,8 +21,8 @@ use Rattle.ledger.specs.Packets.{flyingStatus, doneStatus, noPacket, isD
 use Rattle.ledger.specs.Bounds.{sizeLeast, resentMost, backlogMost, inBounds, Flown}
 use Rattle.ledger.specs.Ring.{Ring, Ledger, ledger, capOf, packetAt, placeOf, longOf, laid, packets, offsetOf}
 use Rattle.ledger.specs.Ring.{packetOf}
-use Rattle.ledger.specs.Sound.{allTo, isCapacity, isRing, isLive, isZero, slotOk, headOk, stands, tallies, soundLedger, Even}
-use Rattle.ledger.specs.Sound.{SoundLedger}
+use Rattle.ledger.specs.Sound.{allTo, isCapacity, isRing, isLive, isZero, slotOk, headOk, stands, Others, tallies, soundLedger, Even}
+use Rattle.ledger.specs.Sound.{Few, SoundLedger}
 use Rattle.ledger.specs.declared.Flow.{Flow}
 use Rattle.ledger.specs.declared.Totals.{Totals}
 use Rattle.ledger.specs.declared.Packet.{Packet}
@@ -310,44 +310,55 @@ unfolding inBounds
 flown-test maxwnd (pos n) f = whole refl (le-leb n maxwnd (f .high))
 flown-test maxwnd (negsuc n) f = whole (le-leb n (2 ^ 24 - 1) (omega (arith, f .low))) refl
 
-module _ (maxwnd : ℕ) (t : Totals) (xs : List Packet) where
-  pub tallies-facts : tallies maxwnd t xs ≡ true
-      → (t .flying ≡ sumOf flyingOne xs) × (t .marked ≡ sumOf markedOne xs) × (t .«marked_bytes» ≡ sumOf markedSize xs)
-      × Flown maxwnd (t .«in_flight»)
+-- the totals are those of the packets and the backlog, with what the other flows add
+pub record Tallied (maxwnd : ℕ) (o : Others) (t : Totals) (f : Flow) (xs : List Packet) : Type 0 where
+  pub flying : t .flying ≡ o .flying + sumOf flyingOne xs
+  pub marked : t .marked ≡ o .marked + sumOf markedOne xs
+  pub bytes : t .«marked_bytes» ≡ o .bytes + sumOf markedSize xs
+  pub backlog : t .backlog ≡ o .backlog + f .backlog
+  pub flown : Flown maxwnd (t .«in_flight»)
+
+module _ (maxwnd : ℕ) (o : Others) (t : Totals) (f : Flow) (xs : List Packet) where
+  pub tallies-facts : tallies maxwnd o t f xs ≡ true → Tallied maxwnd o t f xs
   unfolding tallies
   tallies-facts e =
-      let a = eqb (t .flying) (sumOf flyingOne xs) in
-      let b = a && eqb (t .marked) (sumOf markedOne xs) in
-      let p = both (b && eqb (t .«marked_bytes») (sumOf markedSize xs)) (inBounds maxwnd (t .«in_flight»)) e in
-      let q = both b (eqb (t .«marked_bytes») (sumOf markedSize xs)) (p .0) in
-      let r = both a (eqb (t .marked) (sumOf markedOne xs)) (q .0) in (
-        eqb-true (t .flying) (sumOf flyingOne xs) (r .0),
-        eqb-true (t .marked) (sumOf markedOne xs) (r .1),
-        eqb-true (t .«marked_bytes») (sumOf markedSize xs) (q .1),
-        flown-facts maxwnd (t .«in_flight») (p .1),
-      )
+      let a = eqb (t .flying) (o .flying + sumOf flyingOne xs) in
+      let b = a && eqb (t .marked) (o .marked + sumOf markedOne xs) in
+      let d = b && eqb (t .«marked_bytes») (o .bytes + sumOf markedSize xs) in
+      let p = both (d && eqb (t .backlog) (o .backlog + f .backlog)) (inBounds maxwnd (t .«in_flight»)) e in
+      let s = both d (eqb (t .backlog) (o .backlog + f .backlog)) (p .0) in
+      let q = both b (eqb (t .«marked_bytes») (o .bytes + sumOf markedSize xs)) (s .0) in
+      let r = both a (eqb (t .marked) (o .marked + sumOf markedOne xs)) (q .0) in
+      record {
+        flying = eqb-true _ _ (r .0);
+        marked = eqb-true _ _ (r .1);
+        bytes = eqb-true _ _ (q .1);
+        backlog = eqb-true _ _ (s .1);
+        flown = flown-facts maxwnd (t .«in_flight») (p .1);
+      }
 
-  pub tallies-test : t .flying ≡ sumOf flyingOne xs → t .marked ≡ sumOf markedOne xs → t .«marked_bytes» ≡ sumOf markedSize xs
-      → Flown maxwnd (t .«in_flight») → tallies maxwnd t xs ≡ true
+  pub tallies-test : Tallied maxwnd o t f xs → tallies maxwnd o t f xs ≡ true
   unfolding tallies
-  tallies-test fl mk by fn =
+  tallies-test T =
       whole
-      (whole (whole (eq-eqb (t .flying) (sumOf flyingOne xs) fl) (eq-eqb (t .marked) (sumOf markedOne xs) mk))
-      (eq-eqb (t .«marked_bytes») (sumOf markedSize xs) by))
-      (flown-test maxwnd (t .«in_flight») fn)
+      (whole (whole (whole (eq-eqb _ _ (T .flying)) (eq-eqb _ _ (T .marked))) (eq-eqb _ _ (T .bytes))) (eq-eqb _ _ (T .backlog)))
+      (flown-test maxwnd (t .«in_flight») (T .flown))
 
 -- ---- the ledger
 
-module _ (mtu maxwnd clock : ℕ) (l : Ledger) where
-  pub sound-ledger-parts : soundLedger mtu maxwnd clock l ≡ true
-      → (stands mtu clock (l .flow) (l .slots) ≡ true) × (tallies maxwnd (l .totals) (packets (l .flow) (l .slots)) ≡ true)
-  unfolding soundLedger
-  sound-ledger-parts e = both (stands mtu clock (l .flow) (l .slots)) (tallies maxwnd (l .totals) (packets (l .flow) (l .slots))) e
+module _ (mtu maxwnd clock : ℕ) (o : Others) (l : Ledger) where
+  abbrev Totalled : Type 0
+  Totalled = Tallied maxwnd o (l .totals) (l .flow) (packets (l .flow) (l .slots))
 
-  pub sound-ledger-whole : stands mtu clock (l .flow) (l .slots) ≡ true → tallies maxwnd (l .totals) (packets (l .flow) (l .slots)) ≡ true
-      → soundLedger mtu maxwnd clock l ≡ true
+  pub sound-ledger-parts : soundLedger mtu maxwnd clock o l ≡ true → (stands mtu clock (l .flow) (l .slots) ≡ true) × Totalled
   unfolding soundLedger
-  sound-ledger-whole e f = whole e f
+  sound-ledger-parts e =
+      let p = both (stands mtu clock (l .flow) (l .slots)) (tallies maxwnd o (l .totals) (l .flow) (packets (l .flow) (l .slots))) e in
+      (p .0, tallies-facts maxwnd o (l .totals) (l .flow) (packets (l .flow) (l .slots)) (p .1))
+
+  pub sound-ledger-whole : stands mtu clock (l .flow) (l .slots) ≡ true → Totalled → soundLedger mtu maxwnd clock o l ≡ true
+  unfolding soundLedger
+  sound-ledger-whole e T = whole e (tallies-test maxwnd o (l .totals) (l .flow) (packets (l .flow) (l .slots)) T)
 
   -- at most 4,096 packets, each of at most 2^14 bytes
   few-sum : (adds : Packet → ℕ) (b : ℕ) → Facts mtu clock (l .flow) (l .slots) → ((x : Packet) → x .size ≤ mtu → adds x ≤ b)
@@ -358,12 +369,12 @@ module _ (mtu maxwnd clock : ℕ) (l : Ledger) where
       let m : length (packets (l .flow) (l .slots)) ≤ 4096 = omega (arith, F .fits, F .even .few) in
       omega (arith, s, mul-le-mul m (le-refl b))
 
-  pub sound-ledger-is : mtu ≤ 2 ^ 14 → maxwnd ≤ 2 ^ 26 → soundLedger mtu maxwnd clock l ≡ true → SoundLedger l
+  pub sound-ledger-is : mtu ≤ 2 ^ 14 → maxwnd ≤ 2 ^ 26 → Few o → soundLedger mtu maxwnd clock o l ≡ true → SoundLedger l
   unfolding flyingOne markedOne markedSize
-  sound-ledger-is hm hw e =
+  sound-ledger-is hm hw few e =
       let p = sound-ledger-parts e in
       let F = stands-facts mtu clock (l .flow) (l .slots) (p .0) in
-      let T = tallies-facts maxwnd (l .totals) (packets (l .flow) (l .slots)) (p .1) in
+      let T = p .1 in
       record {
         mtu = mtu;
         maxwnd = maxwnd;
@@ -371,29 +382,34 @@ module _ (mtu maxwnd clock : ℕ) (l : Ledger) where
         mtu-high = hm;
         maxwnd-high = hw;
         stands-so = p .0;
-        flying-least = omega (arith, T .0);
+        flying-least = omega (arith, T .flying);
         flying-most = omega (
           arith,
-          T .0,
+          T .flying,
+          few .flying,
           few-sum flyingOne 1 F
               (λ x s. eq-both (λ (a : ℕ). a ≤ 1) (x .status) 1 1 0 (λ q. omega arith) (λ q. omega arith)),
         );
-        marked-least = omega (arith, T .1);
+        marked-least = omega (arith, T .marked);
         marked-most = omega (
           arith,
-          T .1,
+          T .marked,
+          few .marked,
           few-sum markedOne 1 F
               (λ x s. eq-both (λ (a : ℕ). a ≤ 1) (x .status) 2 1 0 (λ q. omega arith) (λ q. omega arith)),
         );
-        bytes-least = omega (arith, T .2);
+        bytes-least = omega (arith, T .bytes);
         bytes-most =
             omega (
               arith,
-              T .2,
+              T .bytes,
+              few .bytes,
               few-sum markedSize (2 ^ 14) F (λ x s. eq-both (λ (a : ℕ). a ≤ 2 ^ 14) (x .status) 2 (x .size) 0
                   (λ q. omega arith) (λ q. omega arith)),
             );
-        flown = T .3;
+        backlog-least = omega (arith, T .backlog);
+        backlog-most = omega (arith, T .backlog, few .backlog, F .backlog);
+        flown = T .flown;
       }
 
 pub sound-ledger-facts : {l : Ledger} (c : SoundLedger l) → Facts (c .mtu) (c .clock) (l .flow) (l .slots)

@@ -137,7 +137,13 @@ module _ (f : Flow) (t : Totals) (m : Memory) (c : SoundLedger (ledgerShown f t 
         → after ≡ memory (putBit (m .outstanding) i true) (putBit (m .marked) i false) (set (m .sizes) i (packed size 0))
         (set (m .sent) i time)
         → kept (record { low = f .low; next = next; held = f .held; backlog = f .backlog - size })
-        (record { flying = t .flying + 1; marked = t .marked; «marked_bytes» = t .«marked_bytes»; «in_flight» = z }) after
+        (record {
+          flying = t .flying + 1;
+          marked = t .marked;
+          «marked_bytes» = t .«marked_bytes»;
+          backlog = t .backlog - size;
+          «in_flight» = z;
+        }) after
         ≡ keptOf (pushOf time size (ledgerShown f t m))
     push-kept time size next z small en ez after ea =
         let P = flies-there m sound-lengths sound-words i (slot-in (f .next) i ei) size time 0 in
@@ -189,6 +195,7 @@ module _ (f : Flow) (t : Totals) (m : Memory) (c : SoundLedger (ledgerShown f t 
           flying = t .flying + 1;
           marked = t .marked - 1;
           «marked_bytes» = t .«marked_bytes» - x .size;
+          backlog = t .backlog;
           «in_flight» = z;
         }) after
         ≡ keptOf (resendOf time psn (ledgerShown f t m))
@@ -208,6 +215,7 @@ module _ (f : Flow) (t : Totals) (m : Memory) (c : SoundLedger (ledgerShown f t 
           flying = t .flying - 1;
           marked = t .marked + 1;
           «marked_bytes» = t .«marked_bytes» + x .size;
+          backlog = t .backlog;
           «in_flight» = z;
         })
         (memory (m .outstanding) marks (m .sizes) (m .sent))

@@ -10,7 +10,7 @@ use Rattle.serial.specs.Psn.{psns}
 use Rattle.ledger.specs.declared.Packet.{Packet}
 use Rattle.ledger.specs.Packets.{flyingStatus, markedStatus, withStatus, isFlying, isDone, flyingOne}
 use Rattle.ledger.specs.Ring.{Ring, Ledger, ledger, capOf, putAt, longOf, offsetOf, packetOf}
-use Rattle.ledger.specs.Sound.{soundLedger, SoundLedger}
+use Rattle.ledger.specs.Sound.{Others, soundLedger, SoundLedger}
 use Rattle.ledger.specs.Steps.{markOf}
 use Rattle.ledger.specs.Rows.{markRows}
 use Rattle.ledger.proofs.Facts.{Live, live-later, packet-live, packet-some, sound-ledger-facts}
@@ -30,24 +30,25 @@ marked-live mtu clock x l =
       resent-most = l .resent-most;
     }
 
-pub mark-keeps : (mtu maxwnd clock time psn : ℕ) (l : Ledger) → soundLedger mtu maxwnd clock l ≡ true
+pub mark-keeps : (mtu maxwnd clock time psn : ℕ) (o : Others) (l : Ledger) → soundLedger mtu maxwnd clock o l ≡ true
     → firstOf (markRows (l .flow) (l .totals .«in_flight») (l .slots) psn) ≡ 0 → clock ≤ time
-    → soundLedger mtu maxwnd time (markOf psn l) ≡ true
+    → soundLedger mtu maxwnd time o (markOf psn l) ≡ true
 unfolding markOf isDone
-mark-keeps mtu maxwnd clock time psn l co rows later =
+mark-keeps mtu maxwnd clock time psn o l co rows later =
     let f = l .flow in
     let r = l .slots in
     let x = packetOf f r psn in
     let y = withStatus markedStatus x in
-    let k = sound-ledger-tells mtu maxwnd clock l co in
+    let k = sound-ledger-tells mtu maxwnd clock o l co in
     let m = mark-facts f (l .totals .«in_flight») r psn rows in
     let w : x .status ≡ flyingStatus = flies x (m .0) in
     let h : offsetOf f psn < longOf f = packet-some f r psn (omega arith) in
     let live = live-later later (packet-live mtu clock f r (k .0) psn h) in
     let a = flying-adds x w in
     let b = marked-adds y refl in
-    change-keeps mtu maxwnd clock time psn l co later h y (marked-live mtu time x live) refl (markOf psn l .totals)
+    change-keeps mtu maxwnd clock time psn o l co later h y (marked-live mtu time x live) refl (markOf psn l .totals)
     (λ s e. omega (arith, a .0, b .0)) (λ s e. omega (arith, a .1, b .1)) (λ s e. omega (arith, a .2, b .2))
+    refl
     (flown-less maxwnd (l .totals .«in_flight») (x .size) (k .1) (m .1))
 
 -- what the code asks of the packet that it finds
@@ -80,6 +81,7 @@ module _ (l : Ledger) (c : SoundLedger l) (psn : ℕ) (m : isFlying (packetOf (l
         flying = l .totals .flying - 1;
         marked = l .totals .marked + 1;
         «marked_bytes» = l .totals .«marked_bytes» + x .size;
+        backlog = l .totals .backlog;
         «in_flight» = z;
       }) s
       ≡ markOf psn l

@@ -27,8 +27,8 @@ use Rattle.ledger.specs.Packets.{markedSize, sumOf}
 use Rattle.ledger.specs.Bounds.{sizeLeast, backlogMost, resentMost, Flown}
 use Rattle.ledger.specs.Ring.{Ring, Ledger, ledger, capOf, putAt, placeOf, laid, longOf, packets, offsetOf, packetOf}
 use Rattle.ledger.specs.Memory.{sizeEnd}
-use Rattle.ledger.specs.Sound.{stands, soundLedger, SoundLedger}
-use Rattle.ledger.specs.Steps.{changed, supplyOf, newPacket, pushOf, resentPacket, resendOf}
+use Rattle.ledger.specs.Sound.{stands, Others, soundLedger, SoundLedger}
+use Rattle.ledger.specs.Steps.{changed, supplied, suppliedTotals, supplyOf, newPacket, pushOf, resentPacket, resendOf}
 use Rattle.ledger.specs.Rows.{newRows, resendRows}
 use Rattle.ledger.proofs.Walks.{sum-append, sum-one, sum-set, sum-at-le}
 use Rattle.ledger.proofs.Geometry.{cap-facts, place-psn, laid-put, laid-snoc}
@@ -42,8 +42,6 @@ use Rattle.ledger.proofs.Facts.{
   packet-some,
   packets-laid,
   stands-laid,
-  tallies-facts,
-  tallies-test,
   sound-ledger-parts,
   sound-ledger-whole,
   sound-ledger-facts,
@@ -128,53 +126,63 @@ module _ (mtu clock : ℕ) (f : Flow) (r : Ring) (F : Facts mtu clock f r) (psn 
         (sym n) (F .low-psn) (F .next-psn) (F .held) (F .backlog)
 
 -- what a ledger that holds together gives a step
-pub sound-ledger-tells : (mtu maxwnd clock : ℕ) (l : Ledger) → soundLedger mtu maxwnd clock l ≡ true
+pub sound-ledger-tells : (mtu maxwnd clock : ℕ) (o : Others) (l : Ledger) → soundLedger mtu maxwnd clock o l ≡ true
     → Facts mtu clock (l .flow) (l .slots) × Flown maxwnd (l .totals .«in_flight»)
-sound-ledger-tells mtu maxwnd clock l co =
-    let p = sound-ledger-parts mtu maxwnd clock l co in
-    (stands-facts mtu clock (l .flow) (l .slots) (p .0), tallies-facts maxwnd (l .totals) (packets (l .flow) (l .slots)) (p .1) .3)
+sound-ledger-tells mtu maxwnd clock o l co =
+    let p = sound-ledger-parts mtu maxwnd clock o l co in
+    (stands-facts mtu clock (l .flow) (l .slots) (p .0), p .1 .flown)
 
 -- The totals follow where each is what the packet's change makes of it: the sum s of the changed queue, with what the packet added before,
 -- is the old total with what the packet adds now.
-pub change-keeps : (mtu maxwnd clock time psn : ℕ) (l : Ledger) → soundLedger mtu maxwnd clock l ≡ true → clock ≤ time
+pub change-keeps : (mtu maxwnd clock time psn : ℕ) (o : Others) (l : Ledger) → soundLedger mtu maxwnd clock o l ≡ true → clock ≤ time
     → offsetOf (l .flow) psn < longOf (l .flow) → (y : Packet) → Live mtu time y → isDone y ≡ false → (t : Totals)
     → ((s : ℕ) → s + flyingOne (packetOf (l .flow) (l .slots) psn) ≡ l .totals .flying + flyingOne y → t .flying ≡ s)
     → ((s : ℕ) → s + markedOne (packetOf (l .flow) (l .slots) psn) ≡ l .totals .marked + markedOne y → t .marked ≡ s)
     → ((s : ℕ) → s + markedSize (packetOf (l .flow) (l .slots) psn) ≡ l .totals .«marked_bytes» + markedSize y → t .«marked_bytes» ≡ s)
-    → Flown maxwnd (t .«in_flight») → soundLedger mtu maxwnd time (ledger (l .flow) t (changed (l .flow) (l .slots) psn y)) ≡ true
-change-keeps mtu maxwnd clock time psn l co later h y live out t flying marked bytes flown =
+    → t .backlog ≡ l .totals .backlog → Flown maxwnd (t .«in_flight»)
+    → soundLedger mtu maxwnd time o (ledger (l .flow) t (changed (l .flow) (l .slots) psn y)) ≡ true
+change-keeps mtu maxwnd clock time psn o l co later h y live out t flying marked bytes backlog flown =
     let f = l .flow in
     let r = l .slots in
-    let p = sound-ledger-parts mtu maxwnd clock l co in
+    let p = sound-ledger-parts mtu maxwnd clock o l co in
     let F = stands-facts mtu clock f r (p .0) in
-    let T = tallies-facts maxwnd (l .totals) (packets f r) (p .1) in
+    let T = p .1 in
     let sum = changed-sum mtu clock f r F psn h y in
-    sound-ledger-whole mtu maxwnd time (ledger f t (changed f r psn y)) (changed-stands mtu clock f r F psn h y time later live out)
-    (tallies-test maxwnd t (packets f (changed f r psn y))
-    (flying _ (omega (arith, sum flyingOne, T .0)))
-    (marked _ (omega (arith, sum markedOne, T .1)))
-    (bytes _ (omega (arith, sum markedSize, T .2)))
-    flown)
+    sound-ledger-whole mtu maxwnd time o (ledger f t (changed f r psn y)) (changed-stands mtu clock f r F psn h y time later live out)
+    (record {
+      flying = flying _ (omega (arith, sum flyingOne, T .flying));
+      marked = marked _ (omega (arith, sum markedOne, T .marked));
+      bytes = bytes _ (omega (arith, sum markedSize, T .bytes));
+      backlog = backlog ∙ T .backlog;
+      flown = flown;
+    })
 
 -- ---- new data
 
 pub supply-stands : (mtu clock time bytes : ℕ) (f : Flow) (r : Ring) → Facts mtu clock f r → clock ≤ time → f .backlog + bytes ≤ backlogMost
-    → stands mtu time (supplyOf bytes f) r ≡ true
-unfolding supplyOf longOf packets
+    → stands mtu time (supplied bytes f) r ≡ true
+unfolding supplied longOf packets
 supply-stands mtu clock time bytes f r F later few =
     let n = packets-long f r in
-    subst (λ (s : Ring). stands mtu time (supplyOf bytes f) s ≡ true) (sym (F .laid-so))
-    (stands-laid (capOf r) (supplyOf bytes f) (packets f r) (F .cap) mtu time (omega (arith, F .fits))
+    subst (λ (s : Ring). stands mtu time (supplied bytes f) s ≡ true) (sym (F .laid-so))
+    (stands-laid (capOf r) (supplied bytes f) (packets f r) (F .cap) mtu time (omega (arith, F .fits))
     (λ k l. live-later later (F .live k (omega arith))) (λ l. F .head (omega arith)) (sym n) (F .low-psn) (F .next-psn) (F .held) few)
 
-pub supply-keeps : (mtu maxwnd clock time bytes : ℕ) (l : Ledger) → soundLedger mtu maxwnd clock l ≡ true → clock ≤ time
-    → l .flow .backlog + bytes ≤ backlogMost → soundLedger mtu maxwnd time (ledger (supplyOf bytes (l .flow)) (l .totals) (l .slots))
-    ≡ true
-unfolding supplyOf longOf packets
-supply-keeps mtu maxwnd clock time bytes l co later few =
-    let p = sound-ledger-parts mtu maxwnd clock l co in
-    sound-ledger-whole mtu maxwnd time (ledger (supplyOf bytes (l .flow)) (l .totals) (l .slots))
-    (supply-stands mtu clock time bytes (l .flow) (l .slots) (stands-facts mtu clock (l .flow) (l .slots) (p .0)) later few) (p .1)
+pub supply-keeps : (mtu maxwnd clock time bytes : ℕ) (o : Others) (l : Ledger) → soundLedger mtu maxwnd clock o l ≡ true → clock ≤ time
+    → l .flow .backlog + bytes ≤ backlogMost → soundLedger mtu maxwnd time o (supplyOf bytes l) ≡ true
+unfolding supplied suppliedTotals longOf packets
+supply-keeps mtu maxwnd clock time bytes o l co later few =
+    let p = sound-ledger-parts mtu maxwnd clock o l co in
+    let T = p .1 in
+    sound-ledger-whole mtu maxwnd time o (supplyOf bytes l)
+    (supply-stands mtu clock time bytes (l .flow) (l .slots) (stands-facts mtu clock (l .flow) (l .slots) (p .0)) later few)
+    (record {
+      flying = T .flying;
+      marked = T .marked;
+      bytes = T .bytes;
+      backlog = omega (arith, T .backlog);
+      flown = T .flown;
+    })
 
 -- ---- a new packet
 
@@ -218,7 +226,13 @@ module _ (mtu clock : ℕ) (f : Flow) (r : Ring) (F : Facts mtu clock f r) (room
   pub push-is : (t : Totals) (time size i next : ℕ) (z : ℤ) (s : Ring) → i ≡ f .next % capOf r → next ≡ plus (f .next) 1
       → z ≡ t .«in_flight» +ℤ pos size → s ≡ putAt r i (newPacket time size)
       → ledger (record { low = f .low; next = next; held = f .held; backlog = f .backlog - size })
-      (record { flying = t .flying + 1; marked = t .marked; «marked_bytes» = t .«marked_bytes»; «in_flight» = z }) s
+      (record {
+        flying = t .flying + 1;
+        marked = t .marked;
+        «marked_bytes» = t .«marked_bytes»;
+        backlog = t .backlog - size;
+        «in_flight» = z;
+      }) s
       ≡ pushOf time size (ledger f t r)
   unfolding pushOf
   push-is t time size i next z s ei en ez es = rw (en, ez, es, put-behind i ei (newPacket time size))
@@ -257,17 +271,18 @@ module _ (mtu clock : ℕ) (f : Flow) (r : Ring) (F : Facts mtu clock f r) (room
           let e : j ≡ length xs = omega (arith, length-append xs (y ∷ [])) in
           rw (e, getD-append-seam xs y [] noPacket) p)
 
-pub push-keeps : (mtu maxwnd clock time psn size : ℕ) (l : Ledger) → soundLedger mtu maxwnd clock l ≡ true
+pub push-keeps : (mtu maxwnd clock time psn size : ℕ) (o : Others) (l : Ledger) → soundLedger mtu maxwnd clock o l ≡ true
     → firstOf (newRows (l .flow) (capOf (l .slots)) psn size) ≡ 0 → clock ≤ time → sizeLeast ≤ size → size ≤ mtu
     → leZ (l .totals .«in_flight» +ℤ pos mtu) (pos maxwnd) ≡ true
-    → soundLedger mtu maxwnd time (pushOf time size l) ≡ true
+    → soundLedger mtu maxwnd time o (pushOf time size l) ≡ true
 unfolding pushOf isDone
-push-keeps mtu maxwnd clock time psn size l co rows later least most under =
+push-keeps mtu maxwnd clock time psn size o l co rows later least most under =
     let f = l .flow in
     let r = l .slots in
-    let p = sound-ledger-parts mtu maxwnd clock l co in
+    let p = sound-ledger-parts mtu maxwnd clock o l co in
     let F = stands-facts mtu clock f r (p .0) in
-    let T = tallies-facts maxwnd (l .totals) (packets f r) (p .1) in
+    let T = p .1 in
+    let fit = new-room mtu clock f r F psn size rows .0 in
     let room = new-room mtu clock f r F psn size rows .1 in
     let x = newPacket time size in
     let a = flying-adds x refl in
@@ -281,12 +296,14 @@ push-keeps mtu maxwnd clock time psn size l co rows later least most under =
       resent-most = omega arith;
     } in
     let sum = push-sum mtu clock f r F room size x in
-    sound-ledger-whole mtu maxwnd time (pushOf time size l) (push-stands mtu clock f r F room time size x later live refl)
-    (tallies-test maxwnd (pushOf time size l .totals) (packets (pushOf time size l .flow) (pushOf time size l .slots))
-    (omega (arith, sum flyingOne, a .0, T .0))
-    (omega (arith, sum markedOne, a .1, T .1))
-    (omega (arith, sum markedSize, a .2, T .2))
-    (flown-more maxwnd mtu (l .totals .«in_flight») size (T .3) under most))
+    sound-ledger-whole mtu maxwnd time o (pushOf time size l) (push-stands mtu clock f r F room time size x later live refl)
+    (record {
+      flying = omega (arith, sum flyingOne, a .0, T .flying);
+      marked = omega (arith, sum markedOne, a .1, T .marked);
+      bytes = omega (arith, sum markedSize, a .2, T .bytes);
+      backlog = omega (arith, fit, T .backlog);
+      flown = flown-more maxwnd mtu (l .totals .«in_flight») size (T .flown) under most;
+    })
 
 -- ---- a resend
 
@@ -302,23 +319,24 @@ resent-live mtu clock time x l =
       resent-most = omega arith;
     }
 
-pub resend-keeps : (mtu maxwnd clock time psn size : ℕ) (l : Ledger) → soundLedger mtu maxwnd clock l ≡ true
+pub resend-keeps : (mtu maxwnd clock time psn size : ℕ) (o : Others) (l : Ledger) → soundLedger mtu maxwnd clock o l ≡ true
     → firstOf (resendRows (l .flow) (l .slots) psn size) ≡ 0 → clock ≤ time → leZ (l .totals .«in_flight» +ℤ pos mtu) (pos maxwnd) ≡ true
-    → soundLedger mtu maxwnd time (resendOf time psn l) ≡ true
+    → soundLedger mtu maxwnd time o (resendOf time psn l) ≡ true
 unfolding resendOf isDone
-resend-keeps mtu maxwnd clock time psn size l co rows later under =
+resend-keeps mtu maxwnd clock time psn size o l co rows later under =
     let f = l .flow in
     let r = l .slots in
     let x = packetOf f r psn in
-    let k = sound-ledger-tells mtu maxwnd clock l co in
+    let k = sound-ledger-tells mtu maxwnd clock o l co in
     let w : x .status ≡ markedStatus = waits x (resend-facts f r psn size rows .0) in
     let h : offsetOf f psn < longOf f = packet-some f r psn (omega arith) in
     let live = packet-live mtu clock f r (k .0) psn h in
     let a = marked-adds x w in
     let b = flying-adds (resentPacket time x) refl in
-    change-keeps mtu maxwnd clock time psn l co later h (resentPacket time x) (resent-live mtu clock time x live) refl
+    change-keeps mtu maxwnd clock time psn o l co later h (resentPacket time x) (resent-live mtu clock time x live) refl
     (resendOf time psn l .totals)
     (λ s e. omega (arith, a .0, b .0)) (λ s e. omega (arith, a .1, b .1)) (λ s e. omega (arith, a .2, b .2))
+    refl
     (flown-more maxwnd mtu (l .totals .«in_flight») (x .size) (k .1) under (live .size-most))
 
 -- what the code asks of the packet that it finds
@@ -360,6 +378,7 @@ module _ (l : Ledger) (c : SoundLedger l) (psn : ℕ) (m : isMarked (packetOf (l
         flying = l .totals .flying + 1;
         marked = l .totals .marked - 1;
         «marked_bytes» = l .totals .«marked_bytes» - x .size;
+        backlog = l .totals .backlog;
         «in_flight» = z;
       }) s
       ≡ resendOf time psn l

@@ -412,14 +412,16 @@ shown-stored mtu clock f r small e =
 
 -- ---- a memory that shows a ring that holds together
 
-pub stands-lengths : (mtu clock : ℕ) (f : Flow) (m : Memory) → stands mtu clock f (shown (f .low) (f .next) m) ≡ true → Lengths m
+pub stands-even : (mtu clock : ℕ) (f : Flow) (m : Memory) → stands mtu clock f (shown (f .low) (f .next) m) ≡ true → isEven m ≡ true
 unfolding stands
-stands-lengths mtu clock f m e =
-    even-lengths m (sym (shown-ring (f .low) (f .next) m) ∙ first-of _ _ _ _ _ _ _ _ e)
+stands-even mtu clock f m e = sym (shown-ring (f .low) (f .next) m) ∙ first-of _ _ _ _ _ _ _ _ e
   where
     first-of : (a b c d g h i j : Bool) → (a && b && c && d && g && h && i && j) ≡ true → a ≡ true
     first-of true b c d g h i j q = refl
     first-of false b c d g h i j q = q
+
+pub stands-lengths : (mtu clock : ℕ) (f : Flow) (m : Memory) → stands mtu clock f (shown (f .low) (f .next) m) ≡ true → Lengths m
+stands-lengths mtu clock f m e = even-lengths m (stands-even mtu clock f m e)
 
 -- the bits of a slot that shows a status stand in words
 words-of : (low next : ℕ) (m : Memory) (i : ℕ) → (statusAt low next m i ≡ noStatus → ⊥) → wordsAt m i ≡ true

@@ -6,12 +6,12 @@ use mathlib.Core.Bool.{Bool, true, false, not, _&&_, _||_, and-true, and-assoc, 
 use mathlib.Core.Logic.{by-cases}
 use mathlib.Core.List.{List}
 use Prim.Native.Nat.{ℕ, zero, suc, _+_, _-_, _*_, _/_, _%_, _≤_, _<_, zero-le}
-use native.Mathlib.Nat.{mod-eq-of-lt, mod-eq-sub-mod, mod-lt}
+use native.Mathlib.Nat.{zero-add, mod-eq-of-lt, mod-eq-sub-mod, mod-lt}
 use native.Mathlib.Decide.{decLt}
 use native.Mathlib.Omega.{arith}
 use lib.Dec.{leb, ltb, eqb}
 use lib.ListN.{length, getD}
-use borrow.Author.Tests.{leb-true, eqb-true, le-leb, lt-leb, lt-ltb, le-ltb, eq-eqb, ne-eqb}
+use borrow.Author.Tests.{leb-true, eqb-true, le-leb, lt-leb, lt-ltb, le-ltb, eq-eqb, ne-eqb, not-true, not-false}
 use Rattle.rules.specs.Branch.{ifSo, ifLt, ifEq}
 use Rattle.rules.specs.Test.{inside, both, whole}
 use Rattle.bits.specs.Bits.{bitAt, one, sumTo}
@@ -22,16 +22,19 @@ use Rattle.ledger.specs.Packets.{flyingStatus, doneStatus, isDone, flyin
 use Rattle.ledger.specs.Bounds.{sizeLeast, resentMost, backlogMost, inBounds}
 use Rattle.ledger.specs.Ring.{Ring, tabulate, capOf, packetAt, placeOf, ageOf, longOf, queueOf, packets}
 use Rattle.ledger.specs.Memory.{Memory, sizeIn, resentIn, slotsOf, inWindow, statusOf, shown, ledgerShown, Words}
-use Rattle.ledger.specs.Sound.{allTo, isCapacity, isEven, bitsAt, bitsOk, isLive, isZero, slotOk, headOk, stands, tallies}
+use Rattle.ledger.specs.Sound.{allTo, isCapacity, isEven, bitsAt, bitsOk, isLive, isZero, slotOk, headOk, stands, alone, tallies}
 use Rattle.ledger.specs.Sound.{soundLedger, Lengths}
 use Rattle.ledger.specs.Stretch.{sizedIn, sizedAt, timedAt, clearAt, liveAt, zeroAt, slotAt, markOk, oneAt, onesOf, sizeAt, bytesOf}
-use Rattle.ledger.specs.Stretch.{allIn, talliesBits}
+use Rattle.ledger.specs.Stretch.{allIn, tallyOf, totalsOk}
 use Rattle.ledger.specs.declared.Flow.{Flow}
 use Rattle.ledger.specs.declared.Totals.{Totals}
 use Rattle.ledger.specs.declared.Packet.{Packet}
+use Rattle.ledger.specs.declared.sound.Tally.{Tally}
+use Rattle.ledger.proofs.Facts.{stands-facts}
 use Rattle.ledger.proofs.Walks.{all-at, all-of, all-same}
 use Rattle.ledger.proofs.Geometry.{Cap, cap-facts, place-first, place-flat, place-lt, age-lt, age-place, place-age}
-use Rattle.ledger.proofs.Shows.{slots-even, shown-cap, shown-at, status-is, shown-ring, even-lengths}
+use Rattle.ledger.proofs.Shows.{slots-even, shown-cap, shown-at, status-is, shown-ring, even-lengths, stands-even, stands-lengths}
+use Rattle.ledger.proofs.Shows.{stands-words}
 use Rattle.ledger.proofs.Stretches.{three}
 
 -- ---- lengths
@@ -463,20 +466,14 @@ outstanding-test x y a b o e =
     let v = eqb-true y b (p .1) in
     whole (eq-eqb (x + y) o (omega arith)) (p .1))
 
--- the totals' test is another, and the same where the slots' tests hold
-split : (s h a b p q z : Bool) → (s ≡ true → p ≡ q) → (s && h && a && b && p && z) ≡ ((s && h && a && b) && (q && z))
-split true h a b p q z e = rw (e refl) (and-assoc (h && a && b) q z)
-split false h a b p q z e = refl
-
-module _ (mtu maxwnd clock : ℕ) (f : Flow) (t : Totals) (m : Memory) where
-  pub not-even : isEven m ≡ false → false ≡ soundLedger mtu maxwnd clock (ledgerShown f t m)
-  unfolding soundLedger stands
+module _ (mtu clock : ℕ) (f : Flow) (m : Memory) where
+  pub not-even : isEven m ≡ false → false ≡ stands mtu clock f (shown (f .low) (f .next) m)
+  unfolding stands
   not-even h = simp (shown-ring (f .low) (f .next) m, h)
 
-  pub too-long : isEven m ≡ true → slotsOf m < longOf f → false ≡ soundLedger mtu maxwnd clock (ledgerShown f t m)
-  unfolding soundLedger stands
-  too-long h l =
-      simp (shown-ring (f .low) (f .next) m, h, shown-cap (f .low) (f .next) m, lt-leb (longOf f) (slotsOf m) l)
+  pub too-long : isEven m ≡ true → slotsOf m < longOf f → false ≡ stands mtu clock f (shown (f .low) (f .next) m)
+  unfolding stands
+  too-long h l = simp (shown-ring (f .low) (f .next) m, h, shown-cap (f .low) (f .next) m, lt-leb (longOf f) (slotsOf m) l)
 
   module _ (L : Lengths m) (W : Words m) (even : isEven m ≡ true) (fit : longOf f ≤ slotsOf m) where
     abbrev marks : Bool
@@ -488,18 +485,12 @@ module _ (mtu maxwnd clock : ℕ) (f : Flow) (t : Totals) (m : Memory) where
     abbrev head : Bool
     head = eqb (longOf f) 0 || bitAt (m .outstanding) (f .low % slotsOf m) || bitAt (m .marked) (f .low % slotsOf m)
 
-    abbrev totals : Bool
-    totals =
-        let xs = packets f (shown (f .low) (f .next) m) in
-        eqb (t .flying) (sumOf flyingOne xs) && eqb (t .marked) (sumOf markedOne xs) && eqb (t .«marked_bytes») (sumOf markedSize xs)
-
     -- low and next are machine words: their tests hold
-    sound-is : f .low < psns → f .next < psns
-        → soundLedger mtu maxwnd clock (ledgerShown f t m)
-        ≡ (((marks && slots) && head && ltb (f .held) counts && leb (f .backlog) backlogMost)
-        && (totals && inBounds maxwnd (t .«in_flight»)))
-    unfolding soundLedger stands tallies
-    sound-is low next =
+    stands-is : f .low < psns → f .next < psns
+        → stands mtu clock f (shown (f .low) (f .next) m)
+        ≡ ((marks && slots) && head && ltb (f .held) counts && leb (f .backlog) backlogMost)
+    unfolding stands
+    stands-is low next =
         simp (
           shown-ring (f .low) (f .next) m,
           even,
@@ -512,22 +503,57 @@ module _ (mtu maxwnd clock : ℕ) (f : Flow) (t : Totals) (m : Memory) where
           and-true,
         )
 
-    totals-is : (marks && slots) ≡ true → talliesBits t (m .outstanding) (m .marked) (m .sizes) ≡ totals
-    unfolding talliesBits
-    totals-is e =
-        let p = both marks slots e in
-        let T = totals-are f m L W fit mtu clock (p .0) (p .1) in
-        let xs = packets f (shown (f .low) (f .next) m) in
-        rw (T .1, T .2)
-        (ap (λ (b : Bool). b && eqb (t .«marked_bytes») (bytesOf (m .marked) (m .sizes)))
-        (outstanding-test (t .flying) (t .marked) (sumOf flyingOne xs) (onesOf (m .marked)) (onesOf (m .outstanding)) (T .0)))
+    pub all-tests : (a b c : Bool) → a ≡ marks → b ≡ slots → c ≡ head → f .low < psns → f .next < psns
+        → (a && b && c && ltb (f .held) counts && leb (f .backlog) backlogMost) ≡ stands mtu clock f (shown (f .low) (f .next) m)
+    all-tests a b c ea eb ec low next = rw (ea, eb, ec) (sym (stands-is low next))
 
-    pub all-tests : (a b c d e : Bool) → a ≡ marks → b ≡ slots → c ≡ head → d ≡ talliesBits t (m .outstanding) (m .marked) (m .sizes)
-        → e ≡ inBounds maxwnd (t .«in_flight») → f .low < psns → f .next < psns
-        → (a && b && c && ltb (f .held) counts && leb (f .backlog) backlogMost && d && e)
-        ≡ soundLedger mtu maxwnd clock (ledgerShown f t m)
-    all-tests a b c d e ea eb ec ed ee low next =
-        rw (ea, eb, ec, ed, ee)
-        (split (marks && slots) head (ltb (f .held) counts) (leb (f .backlog) backlogMost)
-        (talliesBits t (m .outstanding) (m .marked) (m .sizes)) totals (inBounds maxwnd (t .«in_flight»)) totals-is
-        ∙ sym (sound-is low next))
+  -- WHAT THE BITS ADD UP TO where the flow and its ring hold together: its packets
+  module _ (so : stands mtu clock f (shown (f .low) (f .next) m) ≡ true) where
+    pub tally-adds :
+        (sumOf flyingOne (packets f (shown (f .low) (f .next) m)) + tallyOf f m .marked ≡ tallyOf f m .outstanding)
+        × (sumOf markedOne (packets f (shown (f .low) (f .next) m)) ≡ tallyOf f m .marked)
+        × (sumOf markedSize (packets f (shown (f .low) (f .next) m)) ≡ tallyOf f m .«marked_bytes»)
+    unfolding tallyOf
+    tally-adds =
+        let L = stands-lengths mtu clock f m so in
+        let W = stands-words mtu clock f m so in
+        let F = stands-facts mtu clock f (shown (f .low) (f .next) m) so in
+        let fit : longOf f ≤ slotsOf m = omega (arith, F .fits, shown-cap (f .low) (f .next) m) in
+        let even = stands-even mtu clock f m so in
+        let t = sym (stands-is L W even fit (F .low-psn) (F .next-psn)) ∙ so in
+        let held = both _ (leb (f .backlog) backlogMost) t in
+        let first = both _ (ltb (f .held) counts) (held .0) in
+        let p = both _ _ (both _ _ (first .0) .0) in
+        totals-are f m L W fit mtu clock (p .0) (p .1)
+
+tally-backlog : (f : Flow) (m : Memory) → f .backlog ≡ tallyOf f m .backlog
+unfolding tallyOf
+tally-backlog f m = refl
+
+-- the totals' test by a tally is that by sums of packets, where these are the tally's
+pub totals-test : (maxwnd : ℕ) (t : Totals) (f : Flow) (s : Tally) (xs : List Packet)
+    → sumOf flyingOne xs + s .marked ≡ s .outstanding → sumOf markedOne xs ≡ s .marked → sumOf markedSize xs ≡ s .«marked_bytes»
+    → f .backlog ≡ s .backlog
+    → (totalsOk t s && inBounds maxwnd (t .«in_flight»)) ≡ tallies maxwnd alone t f xs
+unfolding totalsOk tallies
+totals-test maxwnd t f s xs flying marked bytes backlog =
+    rw (zero-add (sumOf flyingOne xs), zero-add (sumOf markedOne xs), zero-add (sumOf markedSize xs), zero-add (f .backlog), marked, bytes,
+    backlog)
+    (ap (λ (b : Bool). ((b && eqb (t .«marked_bytes») (s .«marked_bytes»)) && eqb (t .backlog) (s .backlog))
+    && inBounds maxwnd (t .«in_flight»))
+    (outstanding-test (t .flying) (t .marked) (sumOf flyingOne xs) (s .marked) (s .outstanding) flying))
+
+-- the ledger of a flow by itself: it stands, and the totals are those of its tally
+module _ (mtu maxwnd clock : ℕ) (f : Flow) (t : Totals) (m : Memory) (ok : Bool)
+    (is : ok ≡ stands mtu clock f (shown (f .low) (f .next) m)) where
+  pub not-standing : not ok ≡ true → false ≡ soundLedger mtu maxwnd clock alone (ledgerShown f t m)
+  unfolding soundLedger
+  not-standing e = rw (sym is ∙ not-true ok e)
+
+  pub standing : not ok ≡ false → (a b : Bool) → a ≡ totalsOk t (tallyOf f m) → b ≡ inBounds maxwnd (t .«in_flight»)
+      → (a && b) ≡ soundLedger mtu maxwnd clock alone (ledgerShown f t m)
+  unfolding soundLedger
+  standing e a b ea eb =
+      let so = sym is ∙ not-false ok e in
+      let T = tally-adds mtu clock f m so in
+      rw (ea, eb, so) (totals-test maxwnd t f (tallyOf f m) (packets f (shown (f .low) (f .next) m)) (T .0) (T .1) (T .2) (tally-backlog f m))

@@ -35,6 +35,7 @@ lessened out mark mask sizes q t =
       flying = t .flying - (countIn out mask - countIn mark mask);
       marked = t .marked - countIn mark mask;
       «marked_bytes» = t .«marked_bytes» - bytesIn mark mask sizes q;
+      backlog = t .backlog;
       «in_flight» = t .«in_flight»;
     }
 
@@ -80,6 +81,7 @@ pub record Covered (l : Ledger) (cum map : ℕ) (t : Totals) (r : Ring) : Type 0
   pub marked : t .marked ≡ l .totals .marked - coveredSum markedOne (covered cum map) (l .flow .low) (packets (l .flow) (l .slots))
   pub bytes : t .«marked_bytes» ≡ l .totals .«marked_bytes» - coveredSum markedSize (covered cum map) (l .flow .low)
       (packets (l .flow) (l .slots))
+  pub backlog : t .backlog ≡ l .totals .backlog
   pub in-flight : t .«in_flight» ≡ l .totals .«in_flight»
 
 -- the first `gone` packets, all done, have left, and the next is not done

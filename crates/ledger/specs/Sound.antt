@@ -5,7 +5,7 @@
 -- Assumes nothing.
 use mathlib.Core.Bool.{Bool, true, not, _&&_, _||_}
 use mathlib.Core.List.{List}
-use Prim.Native.Nat.{ℕ, zero, suc, _*_, _^_, _≤_, _<_}
+use Prim.Native.Nat.{ℕ, zero, suc, _+_, _*_, _^_, _≤_, _<_}
 use mathlib.Core.Path.{_≡_}
 use lib.ListN.{length}
 use lib.Dec.{leb, ltb, eqb}
@@ -87,17 +87,37 @@ stands mtu clock f r =
     && ltb (f .held) counts
     && leb (f .backlog) backlogMost
 
--- the totals are those of the packets, and in-flight is in its bounds
-unfoldable pub tallies : ℕ → Totals → List Packet → Bool
-tallies maxwnd t xs =
-    eqb (t .flying) (sumOf flyingOne xs)
-    && eqb (t .marked) (sumOf markedOne xs)
-    && eqb (t .«marked_bytes») (sumOf markedSize xs)
+-- request M-107: what the other flows of the context add to the totals, which are held once over all flows
+pub record Others : Type 0 where
+  pub flying : ℕ
+  pub marked : ℕ
+  pub bytes : ℕ
+  pub backlog : ℕ
+
+-- a flow by itself
+abbrev pub alone : Others
+alone = record { flying = 0; marked = 0; bytes = 0; backlog = 0 }
+
+-- the totals are those of the packets and of the backlog, with what the other flows add, and in-flight is in its bounds
+unfoldable pub tallies : ℕ → Others → Totals → Flow → List Packet → Bool
+tallies maxwnd o t f xs =
+    eqb (t .flying) (o .flying + sumOf flyingOne xs)
+    && eqb (t .marked) (o .marked + sumOf markedOne xs)
+    && eqb (t .«marked_bytes») (o .bytes + sumOf markedSize xs)
+    && eqb (t .backlog) (o .backlog + f .backlog)
     && inBounds maxwnd (t .«in_flight»)
 
--- the ledger holds together
-unfoldable pub soundLedger : ℕ → ℕ → ℕ → Ledger → Bool
-soundLedger mtu maxwnd clock l = stands mtu clock (l .flow) (l .slots) && tallies maxwnd (l .totals) (packets (l .flow) (l .slots))
+-- the ledger of a flow among others holds together
+unfoldable pub soundLedger : ℕ → ℕ → ℕ → Others → Ledger → Bool
+soundLedger mtu maxwnd clock o l =
+    stands mtu clock (l .flow) (l .slots) && tallies maxwnd o (l .totals) (l .flow) (packets (l .flow) (l .slots))
+
+-- the others are few enough for their sums to fit: seven flows of 4,096 packets
+pub record Few (o : Others) : Type 0 where
+  pub flying : o .flying < 2 ^ 30
+  pub marked : o .marked < 2 ^ 30
+  pub bytes : o .bytes < 2 ^ 60
+  pub backlog : o .backlog < 2 ^ 60
 
 -- four slices of one length, which is not 0 and at most 4,096
 pub record Even (r : Ring) : Type 0 where
@@ -129,4 +149,6 @@ pub record SoundLedger (l : Ledger) : Type 0 where
   pub marked-most : l .totals .marked < 2 ^ 31
   pub bytes-least : sumOf markedSize (packets (l .flow) (l .slots)) ≤ l .totals .«marked_bytes»
   pub bytes-most : l .totals .«marked_bytes» < 2 ^ 62
+  pub backlog-least : l .flow .backlog ≤ l .totals .backlog
+  pub backlog-most : l .totals .backlog < 2 ^ 62
   pub flown : Flown maxwnd (l .totals .«in_flight»)

@@ -12,16 +12,30 @@ use Rattle.ledger.specs.Packets.{doneRun}
 use Rattle.ledger.specs.Bounds.{resentMost, unit, fallen}
 use Rattle.ledger.specs.Ring.{Ring, Ledger, ledger, capOf, laid, packets, offsetOf, packetOf}
 use Rattle.ledger.specs.declared.Flow.{Flow}
+use Rattle.ledger.specs.declared.Totals.{Totals}
 use Rattle.ledger.specs.declared.Packet.{Packet}
 
 -- the ledger with one packet of the queue changed
 unfoldable pub changed : Flow → Ring → ℕ → Packet → Ring
 changed f r psn x = laid (capOf r) (f .low) (set (packets f r) (offsetOf f psn) x)
 
--- ---- new data: the backlog rises
+-- ---- new data: the backlog rises, and with it the total over all flows
 
-unfoldable pub supplyOf : ℕ → Flow → Flow
-supplyOf bytes f = record { low = f .low; next = f .next; held = f .held; backlog = f .backlog + bytes }
+unfoldable pub supplied : ℕ → Flow → Flow
+supplied bytes f = record { low = f .low; next = f .next; held = f .held; backlog = f .backlog + bytes }
+
+unfoldable pub suppliedTotals : ℕ → Totals → Totals
+suppliedTotals bytes t =
+    record {
+      flying = t .flying;
+      marked = t .marked;
+      «marked_bytes» = t .«marked_bytes»;
+      backlog = t .backlog + bytes;
+      «in_flight» = t .«in_flight»;
+    }
+
+abbrev pub supplyOf : ℕ → Ledger → Ledger
+supplyOf bytes l = ledger (supplied bytes (l .flow)) (suppliedTotals bytes (l .totals)) (l .slots)
 
 -- ---- "New packet: slot flying, size and time stored, backlog falls, in-flight rises."
 
@@ -34,7 +48,13 @@ pushOf time size l =
     let t = l .totals in
     ledger
     (record { low = f .low; next = plus (f .next) 1; held = f .held; backlog = f .backlog - size })
-    (record { flying = t .flying + 1; marked = t .marked; «marked_bytes» = t .«marked_bytes»; «in_flight» = t .«in_flight» +ℤ pos size })
+    (record {
+      flying = t .flying + 1;
+      marked = t .marked;
+      «marked_bytes» = t .«marked_bytes»;
+      backlog = t .backlog - size;
+      «in_flight» = t .«in_flight» +ℤ pos size;
+    })
     (laid (capOf (l .slots)) (f .low) (packets f (l .slots) ++ (newPacket time size ∷ [])))
 
 -- ---- "Resend: marked becomes flying, in-flight rises by its size, time renewed, resend count up by one, stopping at 2."
@@ -51,6 +71,7 @@ resendOf time psn l =
       flying = t .flying + 1;
       marked = t .marked - 1;
       «marked_bytes» = t .«marked_bytes» - x .size;
+      backlog = t .backlog;
       «in_flight» = t .«in_flight» +ℤ pos (x .size);
     })
     (changed (l .flow) (l .slots) psn (resentPacket time x))
@@ -66,6 +87,7 @@ markOf psn l =
       flying = t .flying - 1;
       marked = t .marked + 1;
       «marked_bytes» = t .«marked_bytes» + x .size;
+      backlog = t .backlog;
       «in_flight» = fallen (t .«in_flight») (x .size);
     })
     (changed (l .flow) (l .slots) psn (withStatus markedStatus x))
@@ -96,6 +118,7 @@ acknowledgeOf cum map count l =
       flying = t .flying - coveredSum flyingOne cov (f .low) xs;
       marked = t .marked - coveredSum markedOne cov (f .low) xs;
       «marked_bytes» = t .«marked_bytes» - coveredSum markedSize cov (f .low) xs;
+      backlog = t .backlog;
       «in_flight» = fallen (t .«in_flight») (newlyOf count (f .held));
     })
     (laid (capOf (l .slots)) (plus (f .low) gone) (drop gone after))

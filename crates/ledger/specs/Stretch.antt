@@ -9,10 +9,12 @@ use Rattle.rules.specs.Branch.{ifSo}
 use Rattle.rules.specs.Test.{inside}
 use Rattle.bits.specs.Bits.{wordBits, bitAt, one, sumTo}
 use Rattle.ledger.specs.Bounds.{sizeLeast, resentMost}
-use Rattle.ledger.specs.Memory.{sizeIn, resentIn}
+use Rattle.ledger.specs.Memory.{Memory, sizeIn, resentIn}
 use Rattle.ledger.specs.Ring.{ageOf}
 use Rattle.ledger.specs.Sound.{allTo}
+use Rattle.ledger.specs.declared.Flow.{Flow}
 use Rattle.ledger.specs.declared.Totals.{Totals}
+use Rattle.ledger.specs.declared.sound.Tally.{Tally}
 
 -- a test that holds at each of from .. to - 1
 unfoldable pub allIn : (ℕ → Bool) → ℕ → ℕ → Bool
@@ -67,9 +69,20 @@ sizeAt marked sizes i = ifSo (bitAt marked i) (sizeIn (getD sizes i 0)) 0
 unfoldable pub bytesOf : List ℕ → List ℕ → ℕ
 bytesOf marked sizes = sumTo (sizeAt marked sizes) (length marked * wordBits)
 
+-- what the bits of a flow's ring and its backlog add up to
+unfoldable pub tallyOf : Flow → Memory → Tally
+tallyOf f m =
+    record {
+      outstanding = onesOf (m .outstanding);
+      marked = onesOf (m .marked);
+      «marked_bytes» = bytesOf (m .marked) (m .sizes);
+      backlog = f .backlog;
+    }
+
 -- the totals are those of the bits: what is outstanding flies or is marked
-unfoldable pub talliesBits : Totals → List ℕ → List ℕ → List ℕ → Bool
-talliesBits t outstanding marked sizes =
-    eqb (t .flying + t .marked) (onesOf outstanding)
-    && eqb (t .marked) (onesOf marked)
-    && eqb (t .«marked_bytes») (bytesOf marked sizes)
+unfoldable pub totalsOk : Totals → Tally → Bool
+totalsOk t s =
+    eqb (t .flying + t .marked) (s .outstanding)
+    && eqb (t .marked) (s .marked)
+    && eqb (t .«marked_bytes») (s .«marked_bytes»)
+    && eqb (t .backlog) (s .backlog)

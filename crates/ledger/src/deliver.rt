@@ -51,6 +51,7 @@ fn cover_word<'a, 'b, 'c>(
         flying: flying - (bits::count(out, mask) - waiting),
         marked: marks - waiting,
         marked_bytes: marked_bytes - bytes_in(sizes, q, mark & mask),
+        backlog: totals.backlog,
         in_flight: totals.in_flight,
     }
 }

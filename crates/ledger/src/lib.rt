@@ -47,11 +47,12 @@ pub struct Flow {
     pub backlog: u64,
 }
 
-// What is held once, over all packets.
+// What is held once, over the packets and the backlogs of all flows (request M-107).
 pub struct Totals {
     pub flying: u32,
     pub marked: u32,
     pub marked_bytes: u64,
+    pub backlog: u64,
     pub in_flight: i64,
 }
 

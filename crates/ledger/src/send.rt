@@ -1,6 +1,5 @@
 // New data, a new packet, and a resend. Inner steps: the caller proves that the ledger holds together and that no row refuses the event.
 use crate::Books;
-use crate::Flow;
 use crate::slots::find;
 use crate::slots::fly;
 use crate::slots::place;
@@ -14,17 +13,20 @@ ghost use Rattle.ledger.specs.Packets.{isMarked};
 ghost use Rattle.ledger.specs.Bounds.{backlogMost, resentMost, Flown};
 ghost use Rattle.ledger.specs.Ring.{longOf, packetOf};
 ghost use Rattle.ledger.specs.Sound.{SoundLedger};
-ghost use Rattle.ledger.specs.Steps.{supplyOf, pushOf, resendOf};
+ghost use Rattle.ledger.specs.Steps.{supplied, suppliedTotals, pushOf, resendOf};
 
-// New data: the backlog rises.
-pub fn supply(bytes: u64, flow: Flow) -> Flow
-    requires { ⌜ flow .backlog + bytes ≤ backlogMost ⌝ }
-    ensures { λ r. ⌜ r ≡ supplyOf bytes flow ⌝ }
+// New data: the backlog rises, and the total over all flows with it.
+pub fn supply(bytes: u64, books: Books) -> Books
+    requires { ⌜ (books .flow .backlog + bytes ≤ backlogMost) × (books .totals .backlog < 2 ^ 62) ⌝ }
+    ensures { λ r. ⌜ (r .flow ≡ supplied bytes (books .flow)) × (r .totals ≡ suppliedTotals bytes (books .totals)) ⌝ }
 {
+    let mut flow = books.flow;
+    let mut totals = books.totals;
     let backlog = flow.backlog;
-    let mut f = flow;
-    f.backlog = backlog + bytes;
-    f
+    let all = totals.backlog;
+    flow.backlog = backlog + bytes;
+    totals.backlog = all + bytes;
+    Books { flow, totals }
 }
 
 // In-flight, higher by some bytes.
@@ -56,11 +58,13 @@ pub fn push<'a, 'b, 'c, 'd>(
     let mut totals = books.totals;
     let next = flow.next;
     let backlog = flow.backlog;
+    let all = totals.backlog;
     let flying = totals.flying;
     let i = place(sent.len(), next);
     fly(outstanding, marked, sizes, sent, i, bytes, 0, time);
     flow.next = serial::psn_plus(next, 1);
     flow.backlog = backlog - bytes as u64;
+    totals.backlog = all - bytes as u64;
     totals.flying = flying + 1;
     totals.in_flight = more(totals.in_flight, bytes as u64);
     Books { flow, totals }

@@ -1,5 +1,6 @@
 // Whether the ledger holds together: its part of refusal 2.
 use crate::Books;
+use crate::Flow;
 use crate::Totals;
 use crate::slots::long;
 use crate::slots::place;
@@ -13,15 +14,16 @@ use crate::stretch::times_until;
 use crate::stretch::times_zero;
 ghost use mathlib.Core.Path.{_≡_};
 ghost use mathlib.Core.Bool.{true, _||_};
-ghost use Prim.Native.Nat.{_*_, _%_, _≤_};
+ghost use Prim.Native.Nat.{_*_, _%_, _≤_, _^_};
 ghost use lib.Dec.{eqb};
 ghost use lib.ListN.{length};
 ghost use Rattle.bits.specs.Bits.{wordBits, bitAt};
-ghost use Rattle.ledger.specs.Lent.{memoryBefore};
+ghost use Rattle.ledger.specs.Lent.{memoryGiven, memoryBefore};
 ghost use Rattle.ledger.specs.Bounds.{inBounds};
-ghost use Rattle.ledger.specs.Memory.{ledgerShown};
-ghost use Rattle.ledger.specs.Sound.{allTo, isCapacity, isEven, soundLedger};
-ghost use Rattle.ledger.specs.Stretch.{allIn, liveAt, zeroAt, slotAt, talliesBits};
+ghost use Rattle.ledger.specs.Memory.{shown, ledgerShown};
+ghost use Rattle.ledger.specs.Sound.{allTo, isCapacity, isEven, Lengths, alone, soundLedger};
+ghost use Rattle.ledger.specs.Sound.{stands as Sound·stands};
+ghost use Rattle.ledger.specs.Stretch.{allIn, liveAt, zeroAt, slotAt, tallyOf, totalsOk};
 
 // Whether a length is a capacity.
 fn is_capacity(n: usize) -> bool
@@ -113,20 +115,46 @@ fn head_ok<'a>(outstanding: &'a [u64], marked: &'a [u64], cap: usize, low: u32, 
     (n == 0) | bits::is_set(outstanding, i) | bits::is_set(marked, i)
 }
 
-// Whether the totals are those of the bits and of the marked slots' sizes.
-fn tallies<'a>(totals: Totals, outstanding: &'a [u64], marked: &'a [u64], sizes: &'a [u32]) -> bool
-    requires { ⌜ (length (now outstanding) ≤ wordBits) × (length (now marked) ≤ wordBits) ⌝ }
-    requires { ⌜ length (now marked) * wordBits ≤ length (now sizes) ⌝ }
-    ensures { λ r. ⌜ r ≡ talliesBits totals (now (outstanding .entry)) (now (marked .entry)) (now (sizes .entry)) ⌝ }
+// What a flow adds to the totals over all flows (request M-107): its outstanding and its marked packets, the bytes of these, its backlog.
+pub struct Tally {
+    pub outstanding: u64,
+    pub marked: u64,
+    pub marked_bytes: u64,
+    pub backlog: u64,
+}
+
+// The tally of a flow and its ring. An inner step: the caller proves that the slices go together.
+pub fn tally_of<'a>(
+    flow: Flow,
+    outstanding: &'a [u64],
+    marked: &'a [u64],
+    sizes: &'a [u32],
+    sent: &'a [u64],
+) -> Tally
+    requires { ⌜ Lengths (memoryGiven outstanding marked sizes sent) ⌝ }
+    ensures { λ r. ⌜ (r ≡ tallyOf flow (memoryBefore outstanding marked sizes sent))
+        × (r .outstanding ≤ 4096) × (r .marked ≤ 4096) × (r .«marked_bytes» ≤ 2 ^ 28) ⌝ }
 {
-    let out = totals.flying as u64 + totals.marked as u64;
-    (out == ones(outstanding) as u64)
-        & (totals.marked == ones(marked))
-        & (totals.marked_bytes == marked_sum(marked, sizes))
+    Tally {
+        outstanding: ones(outstanding) as u64,
+        marked: ones(marked) as u64,
+        marked_bytes: marked_sum(marked, sizes),
+        backlog: flow.backlog,
+    }
+}
+
+// Whether the totals are those of a tally: what is outstanding flies or is marked.
+pub fn totals_ok(totals: Totals, all: Tally) -> bool
+    ensures { λ r. ⌜ r ≡ totalsOk totals all ⌝ }
+{
+    (totals.flying as u64 + totals.marked as u64 == all.outstanding)
+        & (totals.marked as u64 == all.marked)
+        & (totals.marked_bytes == all.marked_bytes)
+        & (totals.backlog == all.backlog)
 }
 
 // Whether in-flight is in its bounds.
-fn in_bounds(maxwnd: u64, in_flight: i64) -> bool
+pub fn in_bounds(maxwnd: u64, in_flight: i64) -> bool
     ensures { λ r. ⌜ r ≡ inBounds maxwnd «in_flight» ⌝ }
 {
     if in_flight < 0 {
@@ -135,22 +163,18 @@ fn in_bounds(maxwnd: u64, in_flight: i64) -> bool
     in_flight as u64 <= maxwnd
 }
 
-// Whether the ledger holds together.
-pub fn is_sound<'a>(
-    books: Books,
+// Whether a flow and its ring hold together.
+pub fn stands<'a>(
+    flow: Flow,
     outstanding: &'a [u64],
     marked: &'a [u64],
     sizes: &'a [u32],
     sent: &'a [u64],
     mtu: u64,
-    maxwnd: u64,
     clock: u64,
 ) -> bool
-    ensures { λ r. ⌜ r ≡ soundLedger mtu maxwnd clock
-        (ledgerShown (books .flow) (books .totals) (memoryBefore outstanding marked sizes sent)) ⌝ }
+    ensures { λ r. ⌜ r ≡ Sound·stands mtu clock flow (shown (flow .low) (flow .next) (memoryBefore outstanding marked sizes sent)) ⌝ }
 {
-    let flow = books.flow;
-    let totals = books.totals;
     if !is_ring(outstanding, marked, sizes, sent) {
         return false;
     }
@@ -164,6 +188,26 @@ pub fn is_sound<'a>(
         & head_ok(outstanding, marked, cap, flow.low, n)
         & (flow.held < serial::COUNTS)
         & (flow.backlog <= crate::BACKLOG_MOST)
-        & tallies(totals, outstanding, marked, sizes)
-        & in_bounds(maxwnd, totals.in_flight)
+}
+
+// Whether the ledger of a flow by itself holds together.
+pub fn is_sound<'a>(
+    books: Books,
+    outstanding: &'a [u64],
+    marked: &'a [u64],
+    sizes: &'a [u32],
+    sent: &'a [u64],
+    mtu: u64,
+    maxwnd: u64,
+    clock: u64,
+) -> bool
+    ensures { λ r. ⌜ r ≡ soundLedger mtu maxwnd clock alone
+        (ledgerShown (books .flow) (books .totals) (memoryBefore outstanding marked sizes sent)) ⌝ }
+{
+    let flow = books.flow;
+    let totals = books.totals;
+    if !stands(flow, outstanding, marked, sizes, sent, mtu, clock) {
+        return false;
+    }
+    totals_ok(totals, tally_of(flow, outstanding, marked, sizes, sent)) & in_bounds(maxwnd, totals.in_flight)
 }

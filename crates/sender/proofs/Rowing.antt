@@ -24,11 +24,15 @@ use Rattle.sender.specs.World.{World, world, Answered, answered, Routing
 use Rattle.sender.specs.Named.{hasRoom}
 use Rattle.sender.specs.Bounds.{roomAfter}
 use Rattle.sender.specs.Sound.{sound}
-use Rattle.sender.specs.Rows.{withSound, sendAllRows}
-use Rattle.sender.specs.Steps.{routeOf, pathStep}
-use Rattle.sender.specs.Events.{decided, says}
+use Rattle.sender.specs.Rows.{withSound, sendAllRows, pathRows}
+use Rattle.sender.specs.Steps.{ackSampling, nackSampling, routeOf, pathStep}
+use Rattle.sender.specs.Events.{decided, says, onNewData, onSend, onAck, ackSays, onNack, nackSays, onLoss, onPath}
+use Rattle.sender.specs.Events.{pastNewData, pastSend, pastAck, pastAckSays, pastNack, pastNackSays, pastLoss, pastPath}
 use Rattle.sender.specs.declared.Controller.{Controller}
 use Rattle.sender.specs.declared.Send.{Send}
+use Rattle.sender.specs.declared.Ack.{Ack}
+use Rattle.sender.specs.declared.Nack.{Nack}
+use Rattle.sender.specs.declared.Loss.{Loss}
 use Rattle.rules.specs.declared.verdict.Verdict.the-variants.{Accepted}
 use Rattle.rules.specs.Verdict.{numberOf}
 
@@ -191,16 +195,17 @@ module _ {A : Type 0} (w : World) (xs : List Row) (yes : A) (no : ℕ → A) whe
       let two : 2 ≡ firstOf (withSound w xs) = first-here 2 2 (not (sound w)) xs (ap not e) refl in
       eq-no (firstOf (withSound w xs)) 0 a yes (no (firstOf (withSound w xs))) (λ z. omega arith) (f ∙ ap no two)
 
-  module _ (e : sound w ≡ true) (n : ℕ) (en : n ≡ firstOf xs) where
-    passed : n ≡ firstOf (withSound w xs)
-    passed = first-later n 2 (not (sound w)) xs (ap not e) en
+-- past number 2 the other rows tell
+pub past-sound : (w : World) → sound w ≡ true → (xs : List Row) → firstOf xs ≡ firstOf (withSound w xs)
+past-sound w e xs = first-later (firstOf xs) 2 (not (sound w)) xs (ap not e) refl
 
-    pub entry-refused : (a : A) → (n ≡ 0 → ⊥) → a ≡ no n → a ≡ ifEq (firstOf (withSound w xs)) 0 yes (no (firstOf (withSound w xs)))
-    entry-refused a ne f = eq-no (firstOf (withSound w xs)) 0 a yes (no (firstOf (withSound w xs))) (λ z. ne (passed ∙ z))
-        (f ∙ ap no passed)
+-- an answer by the rows' number
+module _ {A : Type 0} (xs : List Row) (yes : A) (no : ℕ → A) (n : ℕ) (en : n ≡ firstOf xs) where
+  pub entry-refused : (a : A) → (n ≡ 0 → ⊥) → a ≡ no n → a ≡ ifEq (firstOf xs) 0 yes (no (firstOf xs))
+  entry-refused a ne f = eq-no (firstOf xs) 0 a yes (no (firstOf xs)) (λ z. ne (en ∙ z)) (f ∙ ap no en)
 
-    pub entry-accepted : (a : A) → n ≡ 0 → a ≡ yes → a ≡ ifEq (firstOf (withSound w xs)) 0 yes (no (firstOf (withSound w xs)))
-    entry-accepted a ez f = eq-yes (firstOf (withSound w xs)) 0 a yes (no (firstOf (withSound w xs))) (sym passed ∙ ez) f
+  pub entry-accepted : (a : A) → n ≡ 0 → a ≡ yes → a ≡ ifEq (firstOf xs) 0 yes (no (firstOf xs))
+  entry-accepted a ez f = eq-yes (firstOf xs) 0 a yes (no (firstOf xs)) (sym en ∙ ez) f
 
 -- the answers of an event, and of a path choice
 abbrev pub answer : ℕ → World → Answered
@@ -230,20 +235,19 @@ module _ (w : World) (xs : List Row) (after : World) (m : ℕ) (s : Controller) 
       entry-unsound w xs (answer 0 after) (λ n. answer n w) (answered m s (w .slots) (w .times)) e
       (ap₂ (λ k c. answered k c (w .slots) (w .times)) em es)
 
-  module _ (e : sound w ≡ true) (n : ℕ) (en : n ≡ firstOf xs) where
-    pub answer-refused : (n ≡ 0 → ⊥) → s ≡ w .state → m ≡ n → answered m s (w .slots) (w .times)
-        ≡ decided (firstOf (withSound w xs)) w after
+  module _ (n : ℕ) (en : n ≡ firstOf xs) where
+    pub answer-refused : (n ≡ 0 → ⊥) → s ≡ w .state → m ≡ n → answered m s (w .slots) (w .times) ≡ decided (firstOf xs) w after
     unfolding decided
     answer-refused ne es em =
-        entry-refused w xs (answer 0 after) (λ n. answer n w) e n en (answered m s (w .slots) (w .times)) ne
+        entry-refused xs (answer 0 after) (λ n. answer n w) n en (answered m s (w .slots) (w .times)) ne
         (ap₂ (λ k c. answered k c (w .slots) (w .times)) em es)
 
     -- where the step came to this state, this memory and these times
     pub answer-accepted : n ≡ 0 → (c : Controller) (r : Memory) (t : List ℕ) → world c r t ≡ after → s ≡ c → m ≡ 0
-        → answered m s r t ≡ decided (firstOf (withSound w xs)) w after
+        → answered m s r t ≡ decided (firstOf xs) w after
     unfolding decided
     answer-accepted ez c r t ea es em =
-        entry-accepted w xs (answer 0 after) (λ n. answer n w) e n en (answered m s r t) ez
+        entry-accepted xs (answer 0 after) (λ n. answer n w) n en (answered m s r t) ez
         (ap₂ (λ k c. answered k c r t) em es ∙ ap (answer 0) ea)
 
 -- ---- what an ACK or a NACK says of its sample: nothing where its number is not 0
@@ -259,3 +263,39 @@ module _ {number : ℕ} {c : Controller} {r : Memory} {times : List ℕ} {a : An
   pub says-sample : (q : Sampling) {s : Option Sampling} → number ≡ 0 → s ≡ some q → s ≡ says (a .number) q
   unfolding says
   says-sample q {s} z n = eq-yes (a .number) 0 s (some q) none (sym told ∙ z) n
+
+-- ---- an event of a sound world, with its test of number 2 and past it
+
+module _ (w : World) (e : sound w ≡ true) (time : ℕ) where
+  past-decided : (xs : List Row) (after : World) → decided (firstOf xs) w after ≡ decided (firstOf (withSound w xs)) w after
+  past-decided xs after = ap (λ (n : ℕ). decided n w after) (past-sound w e xs)
+
+  pub past-new-data : (bytes : ℕ) → pastNewData time bytes w ≡ onNewData time bytes w
+  unfolding pastNewData onNewData
+  past-new-data bytes = past-decided _ _
+
+  pub past-send : (a : Send) → pastSend time a w ≡ onSend time a w
+  unfolding pastSend onSend
+  past-send a = past-decided _ _
+
+  pub past-ack : (a : Ack) → pastAck time a w ≡ onAck time a w
+  unfolding pastAck onAck
+  past-ack a = past-decided _ _
+
+  pub past-ack-says : (a : Ack) → pastAckSays time a w ≡ ackSays time a w
+  past-ack-says a = ap (λ (x : Answered). says (x .number) (ackSampling time a (viewOf w))) (past-ack a)
+
+  pub past-nack : (a : Nack) → pastNack time a w ≡ onNack time a w
+  unfolding pastNack onNack
+  past-nack a = past-decided _ _
+
+  pub past-nack-says : (a : Nack) → pastNackSays time a w ≡ nackSays time a w
+  past-nack-says a = ap (λ (x : Answered). says (x .number) (nackSampling time a (viewOf w))) (past-nack a)
+
+  pub past-loss : (a : Loss) → pastLoss time a w ≡ onLoss time a w
+  unfolding pastLoss onLoss
+  past-loss a = past-decided _ _
+
+  pub past-path : pastPath time w ≡ onPath time w
+  unfolding pastPath onPath
+  past-path = ap (λ (n : ℕ). ifEq n 0 (taken time w) (untaken n w)) (past-sound w e (pathRows time (w .state)))

@@ -23,14 +23,14 @@ use Rattle.window.proofs.Tests.{ev-count-bounds, range-facts, range-test, windo
 use Rattle.window.proofs.MaxWnd.{max-wnd-high}
 use Rattle.paths.specs.Path.{Early}
 use Rattle.ledger.specs.Ring.{Ring, Ledger, ledger}
-use Rattle.ledger.specs.Sound.{soundLedger, SoundLedger}
+use Rattle.ledger.specs.Sound.{Others, alone, Few, soundLedger, SoundLedger}
 use Rattle.ledger.specs.declared.Flow.{Flow}
 use Rattle.ledger.specs.declared.Totals.{Totals}
 use Rattle.ledger.proofs.Signs.{sound-ledger-flown}
 use Rattle.ledger.proofs.Facts.{sound-ledger-is, sound-ledger-facts}
 use Rattle.sender.specs.World.{World, View, view, viewOf, ledgerIn, ledgerOf}
 use Rattle.sender.specs.Named.{active, phaseOf}
-use Rattle.sender.specs.Sound.{timesOk, namedOk, soundView, sound}
+use Rattle.sender.specs.Sound.{timesOk, namedOk, soundAmong, soundView, sound, Holds}
 use Rattle.sender.specs.Bounds.{Bounded}
 use Rattle.sender.specs.Steps.{stateOf, settled, avoidedIn}
 use Rattle.sender.specs.declared.Controller.{Controller}
@@ -38,9 +38,9 @@ use Rattle.sender.specs.declared.Controller.{Controller}
 -- ---- the state's name
 
 -- it is one of four numbers
-pub phase-high : (mtu cwnd : ℕ) (f : Flow) (t : Totals) → phaseOf mtu cwnd f t ≤ active
+pub phase-high : (mtu cwnd : ℕ) (t : Totals) → phaseOf mtu cwnd t ≤ active
 unfolding phaseOf
-phase-high mtu cwnd f t =
+phase-high mtu cwnd t =
     let P : ℕ → Type 0 = λ n. n ≤ active in
     so-both P _ _ _ (λ _. eq-both P _ _ _ _ (λ _. omega arith) (λ _. omega arith))
     (λ _. so-both P _ _ _ (λ _. omega arith) (λ _. omega arith))
@@ -108,35 +108,35 @@ module _ (on : Bool) (ev time base : ℕ) (times : List ℕ) where
 
 -- ---- number 2
 
--- what a sound view has
-pub record SoundFacts (v : View) : Type 0 where
+-- what a view has that is sound among others
+pub record SoundFacts (o : Others) (v : View) : Type 0 where
   pub range : InRange (v .state .settings)
   pub sound-window : SoundWindow (v .state .settings) (v .state .clock) (v .state .window)
-  pub sound-ledger : soundLedger (v .state .settings .mtu) (v .state .settings .maxwnd) (v .state .clock) (ledgerIn v) ≡ true
+  pub sound-ledger : soundLedger (v .state .settings .mtu) (v .state .settings .maxwnd) (v .state .clock) o (ledgerIn v) ≡ true
   pub clock-ok : v .state .clock < timeEnd
   pub times-long : length (v .times) ≡ v .state .settings .«ev_count»
   pub times-ok : timesOk (v .times) ≡ true
   pub cursor-ok : v .state .cursor < v .state .settings .«ev_count»
-  pub named : v .state .phase ≡ phaseOf (v .state .settings .mtu) (v .state .window .cwnd) (v .state .flow) (v .state .totals)
+  pub named : v .state .phase ≡ phaseOf (v .state .settings .mtu) (v .state .window .cwnd) (v .state .totals)
 
-pub name-facts : (c : Controller) → namedOk c ≡ true → c .phase ≡ phaseOf (c .settings .mtu) (c .window .cwnd) (c .flow) (c .totals)
+pub name-facts : (c : Controller) → namedOk c ≡ true → c .phase ≡ phaseOf (c .settings .mtu) (c .window .cwnd) (c .totals)
 unfolding namedOk
 name-facts c e = eqb-true _ _ e
 
-pub name-test : (c : Controller) → c .phase ≡ phaseOf (c .settings .mtu) (c .window .cwnd) (c .flow) (c .totals) → namedOk c ≡ true
+pub name-test : (c : Controller) → c .phase ≡ phaseOf (c .settings .mtu) (c .window .cwnd) (c .totals) → namedOk c ≡ true
 unfolding namedOk
 name-test c e = eq-eqb _ _ e
 
-pub sound-facts : (v : View) → soundView v ≡ true → SoundFacts v
-unfolding soundView
-sound-facts v e =
+pub among-facts : (o : Others) (v : View) → soundAmong o v ≡ true → SoundFacts o v
+unfolding soundAmong
+among-facts o v e =
     let c = v .state in
     let name = both _ (namedOk c) e in
     let cursor = both _ (ltb (c .cursor) (c .settings .«ev_count»)) (name .0) in
     let times = both _ (timesOk (v .times)) (cursor .0) in
     let long = both _ (eqb (length (v .times)) (c .settings .«ev_count»)) (times .0) in
     let clock = both _ (ltb (c .clock) timeEnd) (long .0) in
-    let ledger = both _ (soundLedger (c .settings .mtu) (c .settings .maxwnd) (c .clock) (ledgerIn v)) (clock .0) in
+    let ledger = both _ (soundLedger (c .settings .mtu) (c .settings .maxwnd) (c .clock) o (ledgerIn v)) (clock .0) in
     let first = both (inRange (c .settings)) (soundWindow (c .settings) (c .clock) (c .window)) (ledger .0) in
     record {
       range = range-facts (c .settings) (first .0);
@@ -149,9 +149,12 @@ sound-facts v e =
       named = name-facts c (name .1);
     }
 
-pub facts-sound : (v : View) → SoundFacts v → soundView v ≡ true
-unfolding soundView
-facts-sound v S =
+pub sound-facts : (v : View) → soundView v ≡ true → SoundFacts alone v
+sound-facts v e = among-facts alone v e
+
+pub facts-among : (o : Others) (v : View) → SoundFacts o v → soundAmong o v ≡ true
+unfolding soundAmong
+facts-among o v S =
     let c = v .state in
     whole
     (whole
@@ -170,61 +173,79 @@ facts-sound v S =
 -- ---- what judging and stepping rely on
 
 -- of the first three tests alone: the last, the state's name, is taken only after them
-module _ (v : View) (R : InRange (v .state .settings))
-    (e : soundLedger (v .state .settings .mtu) (v .state .settings .maxwnd) (v .state .clock) (ledgerIn v) ≡ true) where
+module _ (o : Others) (few : Few o) (v : View) (R : InRange (v .state .settings))
+    (e : soundLedger (v .state .settings .mtu) (v .state .settings .maxwnd) (v .state .clock) o (ledgerIn v) ≡ true) where
   parts-ledger : SoundLedger (ledgerIn v)
   parts-ledger =
-      sound-ledger-is (v .state .settings .mtu) (v .state .settings .maxwnd) (v .state .clock) (ledgerIn v)
-      (omega (arith, R .mtu-high)) (omega (arith, R .maxwnd-high)) e
+      sound-ledger-is (v .state .settings .mtu) (v .state .settings .maxwnd) (v .state .clock) o (ledgerIn v)
+      (omega (arith, R .mtu-high)) (omega (arith, R .maxwnd-high)) few e
 
   parts-bounded : SoundWindow (v .state .settings) (v .state .clock) (v .state .window) → Bounded (v .state)
   parts-bounded H =
       record {
         flown = sound-ledger-flown parts-ledger;
         backlog-high = sound-ledger-facts parts-ledger .backlog;
+        total-high = parts-ledger .backlog-most;
         mtu-high = omega (arith, R .mtu-high);
         evs-high = ev-count-bounds (v .state .settings .«ev_count») (R .evs-allowed) .1;
         cwnd-high = omega (arith, H .cwnd-high, max-wnd-high R (v .state .window .base) (H .base-high), R .maxwnd-high);
       }
 
+pub holds-ledger : (w : World) → Holds w → SoundLedger (ledgerOf w)
+holds-ledger w H =
+    let S = among-facts (H .others) (viewOf w) (H .so) in
+    parts-ledger (H .others) (H .few) (viewOf w) (S .range) (S .sound-ledger)
+
+pub holds-bounded : (w : World) → Holds w → Bounded (w .state)
+holds-bounded w H =
+    let S = among-facts (H .others) (viewOf w) (H .so) in
+    parts-bounded (H .others) (H .few) (viewOf w) (S .range) (S .sound-ledger) (S .sound-window)
+
+-- a flow by itself is one among no others
+pub alone-few : Few alone
+alone-few = record { flying = omega arith; marked = omega arith; bytes = omega arith; backlog = omega arith }
+
+pub sound-holds : (w : World) → sound w ≡ true → Holds w
+sound-holds w e = record { others = alone; few = alone-few; so = e }
+
 pub sound-to-ledger : (w : World) → sound w ≡ true → SoundLedger (ledgerOf w)
-sound-to-ledger w e = let S = sound-facts (viewOf w) e in parts-ledger (viewOf w) (S .range) (S .sound-ledger)
+sound-to-ledger w e = holds-ledger w (sound-holds w e)
 
 pub sound-bounded : (w : World) → sound w ≡ true → Bounded (w .state)
-sound-bounded w e = let S = sound-facts (viewOf w) e in parts-bounded (viewOf w) (S .range) (S .sound-ledger) (S .sound-window)
+sound-bounded w e = holds-bounded w (sound-holds w e)
 
 -- ---- the tests in their order, as the code makes them
 
-module _ (v : View) (range : Bool) (range-is : range ≡ inRange (v .state .settings)) where
-  pub not-range : not range ≡ true → false ≡ soundView v
-  unfolding soundView
+module _ (o : Others) (few : Few o) (v : View) (range : Bool) (range-is : range ≡ inRange (v .state .settings)) where
+  pub not-range : not range ≡ true → false ≡ soundAmong o v
+  unfolding soundAmong
   not-range e = rw (sym range-is ∙ not-true range e)
 
   module _ (r : not range ≡ false) (window-ok : Bool)
       (window-is : window-ok ≡ soundWindow (v .state .settings) (v .state .clock) (v .state .window)) where
-    pub not-window : not window-ok ≡ true → false ≡ soundView v
-    unfolding soundView
+    pub not-window : not window-ok ≡ true → false ≡ soundAmong o v
+    unfolding soundAmong
     not-window e = rw (sym range-is ∙ not-false range r, sym window-is ∙ not-true window-ok e)
 
     module _
         (h : not window-ok ≡ false) (books : Bool)
-        (books-is : books ≡ soundLedger (v .state .settings .mtu) (v .state .settings .maxwnd) (v .state .clock) (ledgerIn v)) where
-      pub not-ledger : not books ≡ true → false ≡ soundView v
-      unfolding soundView
+        (books-is : books ≡ soundLedger (v .state .settings .mtu) (v .state .settings .maxwnd) (v .state .clock) o (ledgerIn v)) where
+      pub not-ledger : not books ≡ true → false ≡ soundAmong o v
+      unfolding soundAmong
       not-ledger e = rw (sym range-is ∙ not-false range r, sym window-is ∙ not-false window-ok h, sym books-is ∙ not-true books e)
 
       module _ (l : not books ≡ false) where
         pub tests-bounded : Bounded (v .state)
         tests-bounded =
-            parts-bounded v (range-facts (v .state .settings) (sym range-is ∙ not-false range r)) (sym books-is ∙ not-false books l)
+            parts-bounded o few v (range-facts (v .state .settings) (sym range-is ∙ not-false range r)) (sym books-is ∙ not-false books l)
             (window-facts (v .state .settings) (v .state .clock) (v .state .window) (sym window-is ∙ not-false window-ok h))
 
         pub tests-left :
             (ok : Bool) (name : ℕ) → ok ≡ timesOk (v .times) →
-            name ≡ phaseOf (v .state .settings .mtu) (v .state .window .cwnd) (v .state .flow) (v .state .totals) →
+            name ≡ phaseOf (v .state .settings .mtu) (v .state .window .cwnd) (v .state .totals) →
             (ltb (v .state .clock) timeEnd && eqb (length (v .times)) (v .state .settings .«ev_count») && ok
-            && ltb (v .state .cursor) (v .state .settings .«ev_count») && eqb (v .state .phase) name) ≡ soundView v
-        unfolding soundView namedOk
+            && ltb (v .state .cursor) (v .state .settings .«ev_count») && eqb (v .state .phase) name) ≡ soundAmong o v
+        unfolding soundAmong namedOk
         tests-left ok name t is =
             rw (sym range-is ∙ not-false range r, sym window-is ∙ not-false window-ok h, sym books-is ∙ not-false books l, t, is)
 
@@ -232,13 +253,13 @@ module _ (v : View) (range : Bool) (range-is : range ≡ inRange (v .state .sett
 
 -- a state that the rule names is sound where its parts are
 pub stated-sound :
-    (s : Settings) (f : Flow) (t : Totals) (v : Window) (time cursor : ℕ) (r : Ring) (times : List ℕ) →
-    InRange s → SoundWindow s time v → soundLedger (s .mtu) (s .maxwnd) time (ledger f t r) ≡ true → time < timeEnd →
+    (o : Others) (s : Settings) (f : Flow) (t : Totals) (v : Window) (time cursor : ℕ) (r : Ring) (times : List ℕ) →
+    InRange s → SoundWindow s time v → soundLedger (s .mtu) (s .maxwnd) time o (ledger f t r) ≡ true → time < timeEnd →
     length times ≡ s .«ev_count» → timesOk times ≡ true → cursor < s .«ev_count»
-    → soundView (view (stateOf s f t v time cursor) r times) ≡ true
+    → soundAmong o (view (stateOf s f t v time cursor) r times) ≡ true
 unfolding stateOf
-stated-sound s f t v time cursor r times range window-ok sound-ledger clock long ok at =
-    facts-sound (view (stateOf s f t v time cursor) r times)
+stated-sound o s f t v time cursor r times range window-ok sound-ledger clock long ok at =
+    facts-among o (view (stateOf s f t v time cursor) r times)
     (record {
       range = range;
       sound-window = window-ok;
@@ -251,10 +272,10 @@ stated-sound s f t v time cursor r times range window-ok sound-ledger clock long
     })
 
 pub settled-sound :
-    (time : ℕ) (c : Controller) (l : Ledger) (v : Window) (times : List ℕ) →
-    InRange (c .settings) → SoundWindow (c .settings) time v → soundLedger (c .settings .mtu) (c .settings .maxwnd) time l ≡ true
+    (o : Others) (time : ℕ) (c : Controller) (l : Ledger) (v : Window) (times : List ℕ) →
+    InRange (c .settings) → SoundWindow (c .settings) time v → soundLedger (c .settings .mtu) (c .settings .maxwnd) time o l ≡ true
     → time < timeEnd →
     length times ≡ c .settings .«ev_count» → timesOk times ≡ true → c .cursor < c .settings .«ev_count»
-    → soundView (settled time c l v times) ≡ true
+    → soundAmong o (settled time c l v times) ≡ true
 unfolding settled
-settled-sound time c l v times = stated-sound (c .settings) (l .flow) (l .totals) v time (c .cursor) (l .slots) times
+settled-sound o time c l v times = stated-sound o (c .settings) (l .flow) (l .totals) v time (c .cursor) (l .slots) times

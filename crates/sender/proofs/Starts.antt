@@ -26,9 +26,9 @@ use Rattle.window.proofs.Tests.{ev-count-bounds, range-facts, fresh-window}
 use Rattle.ledger.specs.Packets.{noPacket, sumOf}
 use Rattle.ledger.specs.Ring.{Ring, ledger, ageOf, capOf, packetAt, queueOf, tabulate, laid, longOf}
 use Rattle.ledger.specs.Memory.{Memory, slotsOf, shown, inWindow, statusOf, wordsAt, statusAt, sizeIn, resentIn}
-use Rattle.ledger.specs.Sound.{isCapacity, isRing, isEven, soundLedger}
+use Rattle.ledger.specs.Sound.{alone, isCapacity, isRing, isEven, soundLedger}
 use Rattle.ledger.proofs.Geometry.{cap-facts, place-lt, laid-queue}
-use Rattle.ledger.proofs.Facts.{ring-even, stands-laid, packets-laid, tallies-test, sound-ledger-whole}
+use Rattle.ledger.proofs.Facts.{ring-even, stands-laid, packets-laid, sound-ledger-whole}
 use Rattle.ledger.proofs.Shows.{shown-cap, shown-at, shown-ring}
 use Rattle.sender.specs.World.{world, viewOf, Answered, answered}
 use Rattle.sender.specs.Named.{idle, phaseOf}
@@ -36,7 +36,7 @@ use Rattle.sender.specs.Sound.{timesOk, sound}
 use Rattle.sender.specs.Rows.{setUpRows}
 use Rattle.sender.specs.Start.{noSettings, freshFlow, freshTotals, freshState, zeros, clearMemory, onSetUp}
 use Rattle.sender.specs.declared.Controller.{Controller}
-use Rattle.sender.proofs.Sounds.{facts-sound}
+use Rattle.sender.proofs.Sounds.{facts-among}
 
 -- ---- zeros over a slice
 
@@ -131,7 +131,7 @@ clear-laid m low e =
 
 fresh-ledger :
     (mtu maxwnd psn : ℕ) (m : Memory) → psn < psns → isEven m ≡ true
-    → soundLedger mtu maxwnd 0 (ledger (freshFlow psn) freshTotals (shown psn psn (clearMemory m))) ≡ true
+    → soundLedger mtu maxwnd 0 alone (ledger (freshFlow psn) freshTotals (shown psn psn (clearMemory m))) ≡ true
 unfolding longOf sumOf
 fresh-ledger mtu maxwnd psn m fits e =
     let f = freshFlow psn in
@@ -139,15 +139,15 @@ fresh-ledger mtu maxwnd psn m fits e =
     let ok = p .0 in
     let n : longOf f ≡ 0 = minus-self psns psn (omega arith) in
     rw (p .1)
-    (sound-ledger-whole mtu maxwnd 0 (ledger f freshTotals (laid (slotsOf m) psn []))
+    (sound-ledger-whole mtu maxwnd 0 alone (ledger f freshTotals (laid (slotsOf m) psn []))
     (stands-laid (slotsOf m) f [] ok mtu 0 (omega arith) (λ k h. absurd (let z : ⊥ = omega arith in z))
     (λ h. absurd (let z : ⊥ = omega arith in z)) n
     fits fits (omega arith) (omega arith))
     (rw (packets-laid (slotsOf m) f [] ok n (omega arith))
-    (tallies-test maxwnd freshTotals [] refl refl refl (record { low = omega arith; high = omega arith }))))
+    (record { flying = refl; marked = refl; bytes = refl; backlog = refl; flown = record { low = omega arith; high = omega arith } })))
 
 module _ (s : Settings) (m : Memory) (times : List ℕ) where
-  fresh-named : phaseOf (s .mtu) (freshOf s .cwnd) (freshFlow (s .«first_psn»)) freshTotals ≡ idle
+  fresh-named : phaseOf (s .mtu) (freshOf s .cwnd) freshTotals ≡ idle
   unfolding phaseOf
   fresh-named = sym (so-yes _ _ _ _ refl (eq-yes _ _ _ _ _ refl refl))
 
@@ -158,7 +158,7 @@ module _ (s : Settings) (m : Memory) (times : List ℕ) where
   fresh-sound range lengths =
       let R = range-facts s range in
       let p = both (isEven m) (eqb (length times) (s .«ev_count»)) lengths in
-      facts-sound (viewOf (world (freshState s) (clearMemory m) (zeros times)))
+      facts-among alone (viewOf (world (freshState s) (clearMemory m) (zeros times)))
       (record {
         range = R;
         sound-window = fresh-window R;

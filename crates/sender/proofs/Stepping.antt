@@ -37,13 +37,13 @@ use Rattle.ledger.specs.Packets.{isFlying, isMarked, isOut}
 use Rattle.ledger.specs.Bounds.{sizeLeast, backlogMost, Flown}
 use Rattle.ledger.specs.Ring.{Ring, Ledger, ledger, capOf, longOf, packets, packetOf}
 use Rattle.ledger.specs.Memory.{Memory, sizeEnd, stored, Kept, kept, keptOf}
-use Rattle.ledger.specs.Sound.{soundLedger}
+use Rattle.ledger.specs.Sound.{Others, soundLedger}
 use Rattle.ledger.specs.Rows.{sendRows, ackRows, markRows}
 use Rattle.ledger.specs.Steps.{supplyOf, pushOf, resendOf, markOf, acknowledgeOf, newlyOf}
 use Rattle.ledger.specs.declared.Flow.{Flow}
 use Rattle.ledger.specs.declared.Totals.{Totals}
 use Rattle.ledger.specs.declared.Packet.{Packet}
-use Rattle.ledger.proofs.Facts.{sound-ledger-parts, sound-ledger-whole, stands-facts, stands-later, tallies-facts, packet-live, packet-some}
+use Rattle.ledger.proofs.Facts.{sound-ledger-parts, sound-ledger-whole, stands-facts, stands-later, packet-live, packet-some}
 use Rattle.ledger.proofs.Signs.{flown-wide, word}
 use Rattle.ledger.proofs.Judging.{resend-facts, mark-facts}
 use Rattle.ledger.proofs.Sends.{supply-keeps, new-room, push-keeps, resend-keeps, flies}
@@ -153,11 +153,11 @@ loss-facts time a c r e =
 
 -- ---- after the ledger's step: what the window's rules and the state's name ask
 
-pub record Ready (s : Settings) (time : ℕ) (v : Window) (l : Ledger) : Type 0 where
+pub record Ready (o : Others) (s : Settings) (time : ℕ) (v : Window) (l : Ledger) : Type 0 where
   pub range : InRange s
   pub sound-window : SoundWindow s time v
   pub early : time < timeEnd
-  pub sound-ledger : soundLedger (s .mtu) (s .maxwnd) time l ≡ true
+  pub sound-ledger : soundLedger (s .mtu) (s .maxwnd) time o l ≡ true
   pub flown : Flown (s .maxwnd) (l .totals .«in_flight»)
 
 -- what is kept of a ledger, part by part
@@ -175,7 +175,7 @@ module _ {f : Flow} {t : Totals} {m : Memory} (l : Ledger) (e : kept f t m ≡ k
   kept-slots = ap (λ (k : Kept). k .slots) e
 
 -- of what the code keeps of that ledger
-module _ {s : Settings} {time : ℕ} {v : Window} {l : Ledger} (R : Ready s time v l) {f : Flow} {t : Totals} {m : Memory}
+module _ {o : Others} {s : Settings} {time : ℕ} {v : Window} {l : Ledger} (R : Ready o s time v l) {f : Flow} {t : Totals} {m : Memory}
     (e : kept f t m ≡ keptOf l) where
   -- in-flight fits the machine's signed word
   pub ready-flown : Flown (2 ^ 26) (t .«in_flight»)
@@ -196,19 +196,19 @@ under : (z : ℤ) (m n : ℕ) → leZ z (pos m) ≡ true → m ≤ n → leZ z (
 under (pos a) m n e l = le-leb a n (omega (arith, leb-true a m e))
 under (negsuc a) m n e l = refl
 
-module _ {v : View} (S : SoundFacts v) where
+module _ {o : Others} {v : View} (S : SoundFacts o v) where
   ready-of : {time : ℕ} (l : Ledger) → Timely time (v .state)
-      → soundLedger (v .state .settings .mtu) (v .state .settings .maxwnd) time l ≡ true
-      → Ready (v .state .settings) time (v .state .window) l
+      → soundLedger (v .state .settings .mtu) (v .state .settings .maxwnd) time o l ≡ true
+      → Ready o (v .state .settings) time (v .state .window) l
   ready-of {time} l t co =
       let s = v .state .settings in
-      let p = sound-ledger-parts (s .mtu) (s .maxwnd) time l co in
+      let p = sound-ledger-parts (s .mtu) (s .maxwnd) time o l co in
       record {
         range = S .range;
         sound-window = window-later (S .sound-window) (t .later);
         early = t .early;
         sound-ledger = co;
-        flown = tallies-facts (s .maxwnd) (l .totals) (packets (l .flow) (l .slots)) (p .1) .3;
+        flown = p .1 .flown;
       }
 
   -- "in-flight + MTU is at most cwnd", which is at most MaxWnd
@@ -226,16 +226,16 @@ module _ {v : View} (S : SoundFacts v) where
 
   -- new data
   pub supply-ready : {time : ℕ} (bytes : ℕ) → Timely time (v .state) → v .state .flow .backlog + bytes ≤ backlogMost
-      → Ready (v .state .settings) time (v .state .window) (ledger (supplyOf bytes (v .state .flow)) (v .state .totals) (v .slots))
-  supply-ready {time} bytes t h = ready-of _ t (supply-keeps _ _ _ time bytes (ledgerIn v) (S .sound-ledger) (t .later) h)
+      → Ready o (v .state .settings) time (v .state .window) (supplyOf bytes (ledgerIn v))
+  supply-ready {time} bytes t h = ready-of _ t (supply-keeps _ _ _ time bytes o (ledgerIn v) (S .sound-ledger) (t .later) h)
 
   -- a path choice
-  pub path-ready : {time : ℕ} → Timely time (v .state) → Ready (v .state .settings) time (v .state .window) (ledgerIn v)
+  pub path-ready : {time : ℕ} → Timely time (v .state) → Ready o (v .state .settings) time (v .state .window) (ledgerIn v)
   path-ready {time} t =
       let s = v .state .settings in
-      let p = sound-ledger-parts (s .mtu) (s .maxwnd) (v .state .clock) (ledgerIn v) (S .sound-ledger) in
+      let p = sound-ledger-parts (s .mtu) (s .maxwnd) (v .state .clock) o (ledgerIn v) (S .sound-ledger) in
       ready-of (ledgerIn v) t
-      (sound-ledger-whole (s .mtu) (s .maxwnd) time (ledgerIn v) (stands-later (s .mtu) (v .state .clock) time _ _ (p .0) (t .later))
+      (sound-ledger-whole (s .mtu) (s .maxwnd) time o (ledgerIn v) (stands-later (s .mtu) (v .state .clock) time _ _ (p .0) (t .later))
       (p .1))
 
   -- a send
@@ -246,33 +246,33 @@ module _ {v : View} (S : SoundFacts v) where
         let c = v .state in
         let p =
         new-room (c .settings .mtu) (c .clock) (c .flow) (v .slots)
-        (stands-facts _ _ _ _ (sound-ledger-parts _ _ _ (ledgerIn v) (S .sound-ledger) .0)) (a .psn) (a .size) (rw e at (A .rows)) in
+        (stands-facts _ _ _ _ (sound-ledger-parts _ _ _ o (ledgerIn v) (S .sound-ledger) .0)) (a .psn) (a .size) (rw e at (A .rows)) in
         ((p .0, omega (arith, A .most, S .range .mtu-high)), p .1)
 
     pub resend-asks : a .resend ≡ true → isMarked (packetOf (v .state .flow) (v .slots) (a .psn)) ≡ true
     resend-asks e = resend-facts (v .state .flow) (v .slots) (a .psn) (a .size) (rw e at (A .rows)) .0
 
-    pub send-ready : Ready (v .state .settings) time (v .state .window)
+    pub send-ready : Ready o (v .state .settings) time (v .state .window)
         (ifSo (a .resend) (resendOf time (a .psn) (ledgerIn v)) (pushOf time (a .size) (ledgerIn v)))
     send-ready =
         let s = v .state .settings in
         let under = room-under (A .room) in
         ready-of _ (A .timely)
-        (so-both (λ (l : Ledger). soundLedger (s .mtu) (s .maxwnd) time l ≡ true) (a .resend) _ _
-        (λ e. resend-keeps (s .mtu) (s .maxwnd) (v .state .clock) time (a .psn) (a .size) (ledgerIn v) (S .sound-ledger)
+        (so-both (λ (l : Ledger). soundLedger (s .mtu) (s .maxwnd) time o l ≡ true) (a .resend) _ _
+        (λ e. resend-keeps (s .mtu) (s .maxwnd) (v .state .clock) time (a .psn) (a .size) o (ledgerIn v) (S .sound-ledger)
         (rw e at (A .rows)) (A .timely .later) under)
         (λ e.
-        push-keeps (s .mtu) (s .maxwnd) (v .state .clock) time (a .psn) (a .size) (ledgerIn v) (S .sound-ledger) (rw e at (A .rows))
+        push-keeps (s .mtu) (s .maxwnd) (v .state .clock) time (a .psn) (a .size) o (ledgerIn v) (S .sound-ledger) (rw e at (A .rows))
         (A .timely .later)
         (A .least) (A .most) under))
 
   -- an ACK
   pub ack-ready : {time : ℕ} {a : Ack} → Ackable time a (v .state)
-      → Ready (v .state .settings) time (v .state .window) (acknowledgeOf (a .cum) (a .map) (a .count) (ledgerIn v))
+      → Ready o (v .state .settings) time (v .state .window) (acknowledgeOf (a .cum) (a .map) (a .count) (ledgerIn v))
   ack-ready {time} {a} A =
       let s = v .state .settings in
       ready-of _ (A .timely)
-      (ack-keeps (a .cum) (a .map) (a .count) (s .mtu) (s .maxwnd) (v .state .clock) time (ledgerIn v) (S .sound-ledger) (A .count-ok)
+      (ack-keeps (a .cum) (a .map) (a .count) (s .mtu) (s .maxwnd) (v .state .clock) time o (ledgerIn v) (S .sound-ledger) (A .count-ok)
       (A .rows)
       (A .timely .later))
 
@@ -285,15 +285,15 @@ module _ {v : View} (S : SoundFacts v) where
     mark-size =
         let c = v .state in
         let F = stands-facts (c .settings .mtu) (c .clock) (c .flow) (v .slots)
-        (sound-ledger-parts _ _ _ (ledgerIn v) (S .sound-ledger) .0) in
+        (sound-ledger-parts _ _ _ o (ledgerIn v) (S .sound-ledger) .0) in
         let h = packet-some (c .flow) (v .slots) psn (omega (arith, flies (packetOf (c .flow) (v .slots) psn) mark-flies)) in
         packet-live (c .settings .mtu) (c .clock) (c .flow) (v .slots) F psn h .size-most
 
-    pub marked-ready : Ready (v .state .settings) time (v .state .window) (markOf psn (ledgerIn v))
+    pub marked-ready : Ready o (v .state .settings) time (v .state .window) (markOf psn (ledgerIn v))
     marked-ready =
         let s = v .state .settings in
         ready-of _ (A .timely)
-        (mark-keeps (s .mtu) (s .maxwnd) (v .state .clock) time psn (ledgerIn v) (S .sound-ledger) (A .rows) (A .timely .later))
+        (mark-keeps (s .mtu) (s .maxwnd) (v .state .clock) time psn o (ledgerIn v) (S .sound-ledger) (A .rows) (A .timely .later))
 
 -- ---- what the code leaves is the definition's world
 

@@ -55,3 +55,33 @@ onPath time w =
     let n = firstOf (withSound w (pathRows time (w .state))) in
     ifEq n 0 (record { number = 0; ev = routeOf time (viewOf w) .ev; after = worldOf (pathStep time (viewOf w)) })
     (record { number = n; ev = 0; after = w })
+
+-- ---- Each event past number 2, for a caller who knows that state and buffers hold together: document 01, "a replay may test it once and
+-- rely on what its steps preserve".
+
+unfoldable pub pastNewData : ℕ → ℕ → World → Answered
+pastNewData time bytes w = decided (firstOf (newDataRows time bytes (w .state))) w (worldOf (newDataStep time bytes (viewOf w)))
+
+unfoldable pub pastSend : ℕ → Send → World → Answered
+pastSend time a w = decided (firstOf (sendAllRows time a (w .state) (ringOf w))) w (worldOf (sendStep time a (viewOf w)))
+
+unfoldable pub pastAck : ℕ → Ack → World → Answered
+pastAck time a w = decided (firstOf (ackAllRows time a (w .state))) w (worldOf (ackStep time a (viewOf w)))
+
+abbrev pub pastAckSays : ℕ → Ack → World → Option Sampling
+pastAckSays time a w = says (pastAck time a w .number) (ackSampling time a (viewOf w))
+
+unfoldable pub pastNack : ℕ → Nack → World → Answered
+pastNack time a w = decided (firstOf (nackAllRows time a (w .state) (ringOf w))) w (worldOf (nackStep time a (viewOf w)))
+
+abbrev pub pastNackSays : ℕ → Nack → World → Option Sampling
+pastNackSays time a w = says (pastNack time a w .number) (nackSampling time a (viewOf w))
+
+unfoldable pub pastLoss : ℕ → Loss → World → Answered
+pastLoss time a w = decided (firstOf (lossAllRows time a (w .state) (ringOf w))) w (worldOf (lossStep time a (viewOf w)))
+
+unfoldable pub pastPath : ℕ → World → Routing
+pastPath time w =
+    let n = firstOf (pathRows time (w .state)) in
+    ifEq n 0 (record { number = 0; ev = routeOf time (viewOf w) .ev; after = worldOf (pathStep time (viewOf w)) })
+    (record { number = n; ev = 0; after = w })

@@ -7,7 +7,6 @@ use lib.Dec.{eqb}
 use lib.IntN.{ℤ, pos, _+ℤ_}
 use lib.Signed.{leZ}
 use Rattle.rules.specs.Branch.{ifSo, ifEq}
-use Rattle.ledger.specs.declared.Flow.{Flow}
 use Rattle.ledger.specs.declared.Totals.{Totals}
 
 -- "in-flight + MTU is at most cwnd"
@@ -27,8 +26,9 @@ ready = 2
 abbrev pub active : ℕ
 active = 3
 
-unfoldable pub phaseOf : ℕ → ℕ → Flow → Totals → ℕ
-phaseOf mtu cwnd f t =
-    ifSo (eqb (f .backlog) 0 && eqb (t .marked) 0)
+-- over all flows (request M-107): the totals tell
+unfoldable pub phaseOf : ℕ → ℕ → Totals → ℕ
+phaseOf mtu cwnd t =
+    ifSo (eqb (t .backlog) 0 && eqb (t .marked) 0)
     (ifEq (t .flying) 0 idle pending)
     (ifSo (hasRoom mtu cwnd (t .«in_flight»)) ready active)

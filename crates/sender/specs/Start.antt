@@ -43,7 +43,7 @@ abbrev pub freshFlow : ℕ → Flow
 freshFlow psn = record { low = psn; next = psn; held = 0; backlog = 0 }
 
 abbrev pub freshTotals : Totals
-freshTotals = record { flying = 0; marked = 0; «marked_bytes» = 0; «in_flight» = pos 0 }
+freshTotals = record { flying = 0; marked = 0; «marked_bytes» = 0; backlog = 0; «in_flight» = pos 0 }
 
 -- the fresh state of settings; of no settings it is the state of zeros
 unfoldable pub freshState : Settings → Controller

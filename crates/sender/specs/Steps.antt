@@ -16,7 +16,7 @@ use Rattle.paths.specs.Path.{withTime, choice}
 use Rattle.paths.specs.declared.Choice.{Choice}
 use Rattle.ledger.specs.Packets.{isOut}
 use Rattle.ledger.specs.Ring.{Ledger, packetOf}
-use Rattle.ledger.specs.Steps.{supplyOf, pushOf, resendOf, markOf, acknowledgeOf, newlyOf}
+use Rattle.ledger.specs.Steps.{supplied, suppliedTotals, pushOf, resendOf, markOf, acknowledgeOf, newlyOf}
 use Rattle.ledger.specs.declared.Flow.{Flow}
 use Rattle.ledger.specs.declared.Totals.{Totals}
 use Rattle.sender.specs.World.{View, view, ledgerIn}
@@ -37,7 +37,7 @@ stateOf s f t v time cursor =
       window = v;
       clock = time;
       cursor = cursor;
-      phase = phaseOf (s .mtu) (v .cwnd) f t;
+      phase = phaseOf (s .mtu) (v .cwnd) t;
     }
 
 -- the view once a ledger, a window and EV times came out
@@ -49,7 +49,8 @@ unfoldable pub avoidedIn : Bool → ℕ → ℕ → ℕ → List ℕ → List �
 avoidedIn on ev time base times = ifSo on (withTime times ev (time + base)) times
 
 unfoldable pub newDataState : ℕ → ℕ → Controller → Controller
-newDataState time bytes c = stateOf (c .settings) (supplyOf bytes (c .flow)) (c .totals) (c .window) time (c .cursor)
+newDataState time bytes c =
+    stateOf (c .settings) (supplied bytes (c .flow)) (suppliedTotals bytes (c .totals)) (c .window) time (c .cursor)
 
 unfoldable pub newDataStep : ℕ → ℕ → View → View
 newDataStep time bytes v = view (newDataState time bytes (v .state)) (v .slots) (v .times)

@@ -20,12 +20,12 @@ pub(crate) fn has_room(mtu: u64, cwnd: u64, in_flight: i64) -> bool
 }
 
 // The name that the rule gives.
-pub(crate) fn phase_of(mtu: u64, cwnd: u64, flow: Flow, totals: Totals) -> u32
+pub(crate) fn phase_of(mtu: u64, cwnd: u64, totals: Totals) -> u32
     requires { ⌜ Flown (2 ^ 26) (totals .«in_flight») ⌝ }
     requires { ⌜ (mtu ≤ 2 ^ 14) × (cwnd ≤ 2 ^ 26) ⌝ }
-    ensures { λ r. ⌜ r ≡ phaseOf mtu cwnd flow totals ⌝ }
+    ensures { λ r. ⌜ r ≡ phaseOf mtu cwnd totals ⌝ }
 {
-    if (flow.backlog == 0) & (totals.marked == 0) {
+    if (totals.backlog == 0) & (totals.marked == 0) {
         if totals.flying == 0 {
             return crate::IDLE;
         }
@@ -50,7 +50,7 @@ pub(crate) fn state_of(
     requires { ⌜ (settings .mtu ≤ 2 ^ 14) × (window .cwnd ≤ 2 ^ 26) ⌝ }
     ensures { λ r. ⌜ r ≡ stateOf settings flow totals window time cursor ⌝ }
 {
-    let phase = phase_of(settings.mtu, window.cwnd, flow, totals);
+    let phase = phase_of(settings.mtu, window.cwnd, totals);
     Controller {
         settings,
         flow,

@@ -17,11 +17,11 @@ use crate::unheard;
 use rules::verdict::Verdict;
 use rules::verdict::is_accepted;
 ghost use mathlib.Core.Path.{_≡_};
-ghost use mathlib.Core.Bool.{true};
 ghost use Rattle.rules.specs.Verdict.{numberOf};
 ghost use Rattle.sender.specs.Lent.{worldGiven, worldBefore, answeredAfter, routedAfter};
-ghost use Rattle.sender.specs.Sound.{sound};
-ghost use Rattle.sender.specs.Events.{saysOf, onNewData, onSend, onAck, ackSays, onNack, nackSays, onLoss, onPath};
+ghost use Rattle.sender.specs.Sound.{Holds};
+ghost use Rattle.sender.specs.Events.{saysOf, pastNewData, pastSend, pastAck, pastAckSays, pastNack, pastNackSays};
+ghost use Rattle.sender.specs.Events.{pastLoss, pastPath};
 
 // New data in the backlog. The ring and the EV times are lent for what is required of them.
 pub fn new_data<'a>(
@@ -34,9 +34,9 @@ pub fn new_data<'a>(
     time: u64,
     bytes: u64,
 ) -> Answer
-    requires { ⌜ sound (worldGiven c outstanding marked sizes sent evs) ≡ true ⌝ }
+    requires { ⌜ Holds (worldGiven c outstanding marked sizes sent evs) ⌝ }
     ensures { λ r. ⌜ answeredAfter (numberOf (r .verdict)) (r .state) outstanding marked sizes sent evs
-        ≡ onNewData time bytes (worldBefore c outstanding marked sizes sent evs) ⌝ }
+        ≡ pastNewData time bytes (worldBefore c outstanding marked sizes sent evs) ⌝ }
 {
     let verdict = judge::judge_new_data(c, time, bytes);
     if !is_accepted(verdict) {
@@ -60,9 +60,9 @@ pub fn send<'a, 'b, 'c, 'd, 'e>(
     time: u64,
     a: Send,
 ) -> Answer
-    requires { ⌜ sound (worldGiven c outstanding marked sizes sent evs) ≡ true ⌝ }
+    requires { ⌜ Holds (worldGiven c outstanding marked sizes sent evs) ⌝ }
     ensures { λ r. ⌜ answeredAfter (numberOf (r .verdict)) (r .state) outstanding marked sizes sent evs
-        ≡ onSend time a (worldBefore c outstanding marked sizes sent evs) ⌝ }
+        ≡ pastSend time a (worldBefore c outstanding marked sizes sent evs) ⌝ }
 {
     let verdict = judge::judge_send(c, outstanding, marked, sizes, sent, time, a);
     if !is_accepted(verdict) {
@@ -86,10 +86,10 @@ pub fn ack<'a, 'b, 'c, 'd, 'e>(
     time: u64,
     a: Ack,
 ) -> Heard
-    requires { ⌜ sound (worldGiven c outstanding marked sizes sent evs) ≡ true ⌝ }
+    requires { ⌜ Holds (worldGiven c outstanding marked sizes sent evs) ⌝ }
     ensures { λ r. ⌜ answeredAfter (numberOf (r .verdict)) (r .state) outstanding marked sizes sent evs
-        ≡ onAck time a (worldBefore c outstanding marked sizes sent evs) ⌝ }
-    ensures { λ r. ⌜ saysOf (r .feedback) ≡ ackSays time a (worldBefore c outstanding marked sizes sent evs) ⌝ }
+        ≡ pastAck time a (worldBefore c outstanding marked sizes sent evs) ⌝ }
+    ensures { λ r. ⌜ saysOf (r .feedback) ≡ pastAckSays time a (worldBefore c outstanding marked sizes sent evs) ⌝ }
 {
     let verdict = judge::judge_ack(c, time, a);
     if !is_accepted(verdict) {
@@ -116,10 +116,10 @@ pub fn nack<'a, 'b, 'c>(
     time: u64,
     a: Nack,
 ) -> Heard
-    requires { ⌜ sound (worldGiven c outstanding marked sizes sent evs) ≡ true ⌝ }
+    requires { ⌜ Holds (worldGiven c outstanding marked sizes sent evs) ⌝ }
     ensures { λ r. ⌜ answeredAfter (numberOf (r .verdict)) (r .state) outstanding marked sizes sent evs
-        ≡ onNack time a (worldBefore c outstanding marked sizes sent evs) ⌝ }
-    ensures { λ r. ⌜ saysOf (r .feedback) ≡ nackSays time a (worldBefore c outstanding marked sizes sent evs) ⌝ }
+        ≡ pastNack time a (worldBefore c outstanding marked sizes sent evs) ⌝ }
+    ensures { λ r. ⌜ saysOf (r .feedback) ≡ pastNackSays time a (worldBefore c outstanding marked sizes sent evs) ⌝ }
 {
     let verdict = judge::judge_nack(c, outstanding, marked, sizes, sent, time, a);
     let mut state = c;
@@ -148,9 +148,9 @@ pub fn loss<'a, 'b, 'c>(
     time: u64,
     a: Loss,
 ) -> Answer
-    requires { ⌜ sound (worldGiven c outstanding marked sizes sent evs) ≡ true ⌝ }
+    requires { ⌜ Holds (worldGiven c outstanding marked sizes sent evs) ⌝ }
     ensures { λ r. ⌜ answeredAfter (numberOf (r .verdict)) (r .state) outstanding marked sizes sent evs
-        ≡ onLoss time a (worldBefore c outstanding marked sizes sent evs) ⌝ }
+        ≡ pastLoss time a (worldBefore c outstanding marked sizes sent evs) ⌝ }
 {
     let verdict = judge::judge_loss(c, outstanding, marked, sizes, sent, time, a);
     let mut state = c;
@@ -170,9 +170,9 @@ pub fn path<'a>(
     evs: &'a [u64],
     time: u64,
 ) -> Routed
-    requires { ⌜ sound (worldGiven c outstanding marked sizes sent evs) ≡ true ⌝ }
+    requires { ⌜ Holds (worldGiven c outstanding marked sizes sent evs) ⌝ }
     ensures { λ r. ⌜ routedAfter (numberOf (r .verdict)) (r .ev) (r .state) outstanding marked sizes sent evs
-        ≡ onPath time (worldBefore c outstanding marked sizes sent evs) ⌝ }
+        ≡ pastPath time (worldBefore c outstanding marked sizes sent evs) ⌝ }
 {
     let verdict = judge::judge_path(c, time);
     if !is_accepted(verdict) {

@@ -57,5 +57,5 @@ pub fn is_sound<'a>(
         & (evs.len() as u64 == settings.ev_count)
         & times_ok(evs)
         & ((c.cursor as u64) < settings.ev_count)
-        & (c.phase == phase_of(settings.mtu, window.cwnd, flow, totals))
+        & (c.phase == phase_of(settings.mtu, window.cwnd, totals))
 }

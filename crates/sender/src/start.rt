@@ -72,6 +72,7 @@ pub fn fresh(settings: Settings) -> Controller
             flying: 0,
             marked: 0,
             marked_bytes: 0,
+            backlog: 0,
             in_flight: 0,
         },
         window: window::bounds::fresh(settings),

@@ -19,7 +19,7 @@ ghost use Rattle.window.specs.Delays.{samplingOf};
 ghost use Rattle.ledger.specs.Packets.{isOut};
 ghost use Rattle.sender.specs.World.{ringOf, viewOf, worldOf};
 ghost use Rattle.sender.specs.Lent.{worldGiven, worldBefore, worldAfter};
-ghost use Rattle.sender.specs.Sound.{timesOk, sound};
+ghost use Rattle.sender.specs.Sound.{timesOk, Holds};
 ghost use Rattle.sender.specs.Rows.{newDataRows, sendAllRows, ackAllRows, nackAllRows, lossAllRows};
 ghost use Rattle.paths.specs.Path.{choice};
 ghost use Rattle.window.specs.Limits.{timeEnd};
@@ -64,10 +64,11 @@ pub(crate) fn new_data(c: Controller, time: u64, bytes: u64) -> Controller
     ensures { λ r. ⌜ r ≡ newDataState time bytes c ⌝ }
 {
     let settings = c.settings;
+    let flow = c.flow;
     let totals = c.totals;
     let window = c.window;
-    let flow = ledger::send::supply(bytes, c.flow);
-    state_of(settings, flow, totals, window, time, c.cursor)
+    let after = ledger::send::supply(bytes, Books { flow, totals });
+    state_of(settings, after.flow, after.totals, window, time, c.cursor)
 }
 
 // A new packet or a resend.
@@ -81,7 +82,7 @@ pub(crate) fn send<'a, 'b, 'c, 'd, 'e>(
     time: u64,
     a: Send,
 ) -> Controller
-    requires { ⌜ sound (worldGiven c outstanding marked sizes sent evs) ≡ true ⌝ }
+    requires { ⌜ Holds (worldGiven c outstanding marked sizes sent evs) ⌝ }
     requires { ⌜ firstOf (sendAllRows time a c (ringOf (worldGiven c outstanding marked sizes sent evs))) ≡ 0 ⌝ }
     ensures { λ r. ⌜ worldAfter r outstanding marked sizes sent evs
         ≡ worldOf (sendStep time a (viewOf (worldBefore c outstanding marked sizes sent evs))) ⌝ }
@@ -110,7 +111,7 @@ pub(crate) fn ack<'a, 'b, 'c, 'd, 'e>(
     time: u64,
     a: Ack,
 ) -> Sensed
-    requires { ⌜ sound (worldGiven c outstanding marked sizes sent evs) ≡ true ⌝ }
+    requires { ⌜ Holds (worldGiven c outstanding marked sizes sent evs) ⌝ }
     requires { ⌜ firstOf (ackAllRows time a c) ≡ 0 ⌝ }
     ensures { λ r. ⌜ worldAfter (r .state) outstanding marked sizes sent evs
         ≡ worldOf (ackStep time a (viewOf (worldBefore c outstanding marked sizes sent evs))) ⌝ }
@@ -154,7 +155,7 @@ pub(crate) fn nack<'a, 'b, 'c>(
     time: u64,
     a: Nack,
 ) -> Sensed
-    requires { ⌜ sound (worldGiven c outstanding marked sizes sent evs) ≡ true ⌝ }
+    requires { ⌜ Holds (worldGiven c outstanding marked sizes sent evs) ⌝ }
     requires { ⌜ firstOf (nackAllRows time a c (ringOf (worldGiven c outstanding marked sizes sent evs))) ≡ 0 ⌝ }
     ensures { λ r. ⌜ worldAfter (r .state) outstanding marked sizes sent evs
         ≡ worldOf (nackStep time a (viewOf (worldBefore c outstanding marked sizes sent evs))) ⌝ }
@@ -197,7 +198,7 @@ pub(crate) fn loss<'a, 'b, 'c>(
     time: u64,
     a: Loss,
 ) -> Controller
-    requires { ⌜ sound (worldGiven c outstanding marked sizes sent evs) ≡ true ⌝ }
+    requires { ⌜ Holds (worldGiven c outstanding marked sizes sent evs) ⌝ }
     requires { ⌜ firstOf (lossAllRows time a c (ringOf (worldGiven c outstanding marked sizes sent evs))) ≡ 0 ⌝ }
     ensures { λ r. ⌜ worldAfter r outstanding marked sizes sent evs
         ≡ worldOf (lossStep time a (viewOf (worldBefore c outstanding marked sizes sent evs))) ⌝ }

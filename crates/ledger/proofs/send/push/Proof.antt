@@ -28,6 +28,12 @@ psn-plus-requires c κs = search needs
 sub-flow : tie.Need-sub-flow
 sub-flow c = search needs
 
+sub-totals : tie.Need-sub-totals
+sub-totals c =
+    let s = c .before .before .before .before .before .before .before .before .before .before .before .before .before .before .before
+    .before .before .before .before .before .before in
+    omega (arith, s .pre .0 .backlog-least, s .pre .1 .0 .0)
+
 add-totals : tie.Need-add-totals
 add-totals c = search needs
 
@@ -68,6 +74,7 @@ push-spec =
     fly-requires
     psn-plus-requires
     sub-flow
+    sub-totals
     add-totals
     more-requires
     same-length

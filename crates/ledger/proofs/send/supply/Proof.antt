@@ -1,16 +1,19 @@
--- `supply` adds to the backlog, and changes nothing else.
+-- `supply` adds to the backlog and to the total, and changes nothing else.
 use mathlib.Core.Path.{refl}
 use borrow.Author.Needs.{needs}
-use Rattle.ledger.specs.Steps.{supplyOf}
+use Rattle.ledger.specs.Steps.{supplied, suppliedTotals}
 use Rattle.ledger.proofs.send.supply.Statement.{statement}
 use Rattle.ledger.proofs.send.supply.Tie as tie
 
-add-f : tie.Need-add-f
-add-f c = search needs
+add-flow : tie.Need-add-flow
+add-flow c = search needs
+
+add-totals : tie.Need-add-totals
+add-totals c = search needs
 
 returns : tie.Need-returns
-unfolding supplyOf
-returns c = refl
+unfolding supplied suppliedTotals
+returns c = (refl, refl)
 
 pub supply-spec : {M : Type 1} → statement M
-supply-spec = tie.close (tie.spec add-f returns)
+supply-spec = tie.close (tie.spec add-flow add-totals returns)

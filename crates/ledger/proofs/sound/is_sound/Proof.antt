@@ -1,136 +1,60 @@
--- `is_sound` makes the tests of `soundLedger`: bad lengths (`not-even`), more packets than slots (`too-long`), else
--- all that is left (`all-tests`).
-use mathlib.Core.Path.{_≡_, sym, ap, ap₂, _∙_}
-use mathlib.Core.Bool.{true, _||_}
+-- `is_sound` asks whether the flow stands (`not-standing`), then whether the totals are those of its tally (`standing`).
+use mathlib.Core.Path.{_≡_, refl, sym, ap, _∙_}
 use mir.Syntax.{w64}
 use mir.Val.{toZ, ofZ}
-use Prim.Native.Nat.{ℕ, _%_, _≤_, _<_}
-use native.Mathlib.Omega.{arith}
-use lib.Dec.{eqb}
-use lib.ListN.{length}
-use borrow.Author.Tests.{not-true, not-false}
-use Rattle.bits.specs.Bits.{bitAt}
-use Rattle.bits.proofs.Words.{word-yes}
-use Rattle.serial.specs.Psn.{psns}
-use Rattle.ledger.specs.Bounds.{inBounds}
-use Rattle.ledger.specs.Memory.{Memory, memory, slotsOf, Words}
-use Rattle.ledger.specs.Sound.{allTo, isCapacity, isEven, Lengths}
-use Rattle.ledger.specs.Stretch.{markOk, slotAt}
-use Rattle.ledger.proofs.Geometry.{cap-facts}
-use Rattle.ledger.proofs.Shows.{slots-even, even-lengths}
-use Rattle.ledger.proofs.Tally.{not-even, too-long, all-tests}
 use borrow.Author.Needs.{needs}
+use borrow.Author.Tests.{not-false}
+use Rattle.ledger.specs.Bounds.{inBounds}
+use Rattle.ledger.specs.Memory.{Memory, memory}
+use Rattle.ledger.specs.Stretch.{totalsOk}
+use Rattle.ledger.specs.declared.sound.Tally.{Tally}
+use Rattle.ledger.proofs.Shows.{stands-lengths}
+use Rattle.ledger.proofs.Tally.{not-standing, standing}
 use Rattle.ledger.proofs.sound.is_sound.Statement.{statement}
 use Rattle.ledger.proofs.sound.is_sound.Tie as tie
 
-is-ring-requires : tie.Need-is-ring-requires
-is-ring-requires c κs = search needs
+abbrev slots : tie.Start → Memory
+slots s = memory (s .args .outstanding .now) (s .args .marked .now) (s .args .sizes .now) (s .args .sent .now)
+
+stands-requires : tie.Need-stands-requires
+stands-requires c κs = search needs
 
 returns : tie.Need-returns
 returns c =
-    let a = c .before .before .before .before .before .before .before .before .args in
-    not-even (a .mtu) (a .maxwnd) (a .clock) (a .books .flow) (a .books .totals)
-    (memory (a .outstanding .now) (a .marked .now) (a .sizes .now) (a .sent .now))
-    (sym (c .before .is-ring .ensures) ∙ not-true _ (c .if1 .taken))
+    let s = c .before .before .before .before .before .before .before .before in
+    let a = s .args in
+    not-standing (a .mtu) (a .maxwnd) (a .clock) (a .books .flow) (a .books .totals) (slots s) _ (c .before .stands .ensures)
+    (c .if1 .taken)
 
-long-requires : tie.Need-long-requires
-long-requires c κs = search needs
+tally-of-requires : tie.Need-tally-of-requires
+tally-of-requires c κs =
+    let s = c .before .before .before .before .before .before .before .before in
+    let a = s .args in
+    stands-lengths (a .mtu) (a .clock) (a .books .flow) (slots s) (sym (c .before .stands .ensures) ∙ not-false _ (c .if1 .left))
 
-cast-if2 : tie.Need-cast-if2
-cast-if2 c = search needs
-
--- past the first test the lengths are even
-abbrev memoryAt : tie.Else1 → Memory
-memoryAt c =
-    let a = c .before .before .before .before .before .before .before .before .args in
-    memory (a .outstanding .now) (a .marked .now) (a .sizes .now) (a .sent .now)
-
-evenly : (c : tie.Else1) → isEven (memoryAt c) ≡ true
-evenly c = sym (c .before .is-ring .ensures) ∙ not-false _ (c .if1 .left)
-
-lengths : (c : tie.Else1) → Lengths (memoryAt c)
-lengths c = even-lengths (memoryAt c) (evenly c)
-
-slots : (c : tie.Else1) → slotsOf (memoryAt c) ≡ length (memoryAt c .sizes)
-slots c = slots-even (memoryAt c) (lengths c) ∙ sym (lengths c .sizes)
-
-capacity : (c : tie.Else1) → isCapacity (length (memoryAt c .sizes)) ≡ true
-capacity c = ap isCapacity (lengths c .sizes) ∙ lengths c .cap
-
-words-few : (c : tie.Else1) → length (memoryAt c .outstanding) ≤ 64
-words-few c = omega (arith, lengths c .sizes, cap-facts (length (memoryAt c .sizes)) (capacity c))
-
--- the bits stand in machine words
-words : (c : tie.Else1) → Words (memoryAt c)
-words c = record {
-  outstanding = λ q h. word-yes _ (c .before .before .before .before .before .before .before .shared-slice-known .given q .fits);
-  marked = λ q h. word-yes _ (c .before .before .before .before .before .before .shared-slice-known2 .given q .fits);
-}
-
--- low and next are words of 32 bits
-low-fits : (c : tie.Else1) → c .before .before .before .before .before .before .before .before .args .books .flow .low < psns
-low-fits c = omega arith
-
-next-fits : (c : tie.Else1) → c .before .before .before .before .before .before .before .before .args .books .flow .next < psns
-next-fits c = omega arith
-
-returns-2 : tie.Need-returns-2
-returns-2 c =
-    let d = c .before .before in
-    let a = d .before .before .before .before .before .before .before .before .args in
-    too-long (a .mtu) (a .maxwnd) (a .clock) (a .books .flow) (a .books .totals) (memoryAt d) (evenly d)
-    (omega (arith, c .if2 .taken, c .before .long .ensures, slots d))
-
-marks-within-requires : tie.Need-marks-within-requires
-marks-within-requires c κs = omega (arith, lengths (c .before .before))
-
-slots-ok-requires : tie.Need-slots-ok-requires
-slots-ok-requires c κs =
-    let d = c .before .before .before in
-    ((capacity d, c .before .if2 .left), (sym (lengths d .sizes), lengths d .sent ∙ sym (lengths d .sizes)))
-
-head-ok-requires : tie.Need-head-ok-requires
-head-ok-requires c κs = let d = c .before .before .before .before in (capacity d, sym (lengths d .sizes), omega (arith, lengths d))
-
-tallies-requires : tie.Need-tallies-requires
-tallies-requires c κs =
-    let d = c .before .before .before .before .before .before .before in
-    ((words-few d, omega (arith, lengths d, words-few d)), omega (arith, lengths d))
+totals-ok-requires : tie.Need-totals-ok-requires
+totals-ok-requires c κs = search needs
 
 in-bounds-requires : tie.Need-in-bounds-requires
 in-bounds-requires c κs = search needs
 
-returns-3 : tie.Need-returns-3
-returns-3 c =
-    let d = c .before .before .before .before .before .before .before .before .before .before in
-    let a = d .before .before .before .before .before .before .before .before .args in
-    let f = a .books .flow in
-    let m = memoryAt d in
-    let z = a .books .totals .«in_flight» in
-    let n = c .before .before .before .before .before .before .before .before .before .long .ensures in
-    let word : toZ w64 (ofZ w64 z) ≡ z = search needs in
-    all-tests (a .mtu) (a .maxwnd) (a .clock) f (a .books .totals) m (lengths d) (words d) (evenly d)
-    (omega (arith, c .before .before .before .before .before .before .before .before .if2 .left, n, slots d)) _ _ _ _ _
-    (c .before .before .before .before .before .before .before .marks-within .ensures
-    ∙ ap (allTo (markOk (m .outstanding) (m .marked))) (sym (slots-even m (lengths d))))
-    (c .before .before .before .before .before .before .slots-ok .ensures
-    ∙ ap₂ (λ (cap n : ℕ). allTo (slotAt (a .mtu) (a .clock) (m .outstanding) (m .sizes) (m .sent) cap (f .low) n) cap) (sym (slots d)) n)
-    (c .before .before .before .before .before .head-ok .ensures
-    ∙ ap₂ (λ (cap n : ℕ). eqb n 0 || bitAt (m .outstanding) (f .low % cap) || bitAt (m .marked) (f .low % cap)) (sym (slots d)) n)
-    (c .before .before .tallies .ensures) (c .in-bounds .ensures ∙ ap (inBounds (a .maxwnd)) word) (low-fits d) (next-fits d)
+returns-2 : tie.Need-returns-2
+returns-2 c =
+    let s = c .before .before .before .before .before .before .before .before .before .before .before .before in
+    let a = s .args in
+    let t = a .books .totals in
+    let word : toZ w64 (ofZ w64 (t .«in_flight»)) ≡ t .«in_flight» = search needs in
+    standing (a .mtu) (a .maxwnd) (a .clock) (a .books .flow) t (slots s) _ (c .before .before .before .before .before .stands .ensures) (c .before .before .before .before .if1 .left) _ _
+    (c .before .before .totals-ok .ensures ∙ ap (totalsOk t) (c .before .before .before .tally-of .ensures .0))
+    (c .in-bounds .ensures ∙ ap (inBounds (a .maxwnd)) word)
 
 pub is-sound-spec : {M : Type 1} → statement M
 is-sound-spec =
     tie.close
     (tie.spec
-    is-ring-requires
+    stands-requires
     returns
-    long-requires
-    cast-if2
-    returns-2
-    marks-within-requires
-    slots-ok-requires
-    head-ok-requires
-    tallies-requires
+    tally-of-requires
+    totals-ok-requires
     in-bounds-requires
-    returns-3)
+    returns-2)

@@ -9,7 +9,8 @@ use Rattle.sender.specs.World.{World, world, viewOf, worldOf}
 use Rattle.sender.specs.Rows.{ackAllRows}
 use Rattle.sender.specs.Steps.{ackSampling, ackStep}
 use Rattle.sender.specs.Events.{onAck}
-use Rattle.sender.proofs.Rowing.{answer-unsound, says-nothing}
+use Rattle.sender.proofs.Sounds.{sound-holds}
+use Rattle.sender.proofs.Rowing.{past-ack, past-ack-says, answer-unsound, says-nothing}
 use Rattle.sender.proofs.Controller.ack.Statement.{statement}
 use Rattle.sender.proofs.Controller.ack.Tie as tie
 
@@ -60,7 +61,7 @@ returns c =
 ack-requires : tie.Need-ack-requires
 ack-requires c κs =
     let e = c .before .before .before .before .before in
-    sym (e .before .is-sound .ensures) ∙ not-false _ (e .if1 .left)
+    sound-holds _ (sym (e .before .is-sound .ensures) ∙ not-false _ (e .if1 .left))
 
 same-length-6 : tie.Need-same-length-6
 same-length-6 c = search needs
@@ -78,7 +79,12 @@ same-length-10 : tie.Need-same-length-10
 same-length-10 c = search needs
 
 returns-2 : tie.Need-returns-2
-returns-2 c = c .before .before .before .before .before .before .before .before .before .before .ack .ensures
+returns-2 c =
+    let k = c .before .before .before .before .before .before .before .before .before .before in
+    let e = k .before .before .before .before .before .before in
+    let s = start (e .before) in
+    let so = sym (e .before .is-sound .ensures) ∙ not-false _ (e .if1 .left) in
+    (k .ack .ensures .0 ∙ past-ack (handed s) so (s .args .time) (s .args .a), k .ack .ensures .1 ∙ past-ack-says (handed s) so (s .args .time) (s .args .a))
 
 pub ack-spec : {M : Type 1} → statement M
 ack-spec =

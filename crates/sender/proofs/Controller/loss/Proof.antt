@@ -8,7 +8,8 @@ use Rattle.sender.specs.World.{World, world, ringOf, viewOf, worldOf}
 use Rattle.sender.specs.Rows.{lossAllRows}
 use Rattle.sender.specs.Steps.{lossStep}
 use Rattle.sender.specs.Events.{onLoss}
-use Rattle.sender.proofs.Rowing.{answer-unsound}
+use Rattle.sender.proofs.Sounds.{sound-holds}
+use Rattle.sender.proofs.Rowing.{past-loss, answer-unsound}
 use Rattle.sender.proofs.Controller.loss.Statement.{statement}
 use Rattle.sender.proofs.Controller.loss.Tie as tie
 
@@ -42,7 +43,7 @@ returns c =
 loss-requires : tie.Need-loss-requires
 loss-requires c κs =
     let e = c .before .before in
-    sym (e .before .is-sound .ensures) ∙ not-false _ (e .if1 .left)
+    sound-holds _ (sym (e .before .is-sound .ensures) ∙ not-false _ (e .if1 .left))
 
 same-length-3 : tie.Need-same-length-3
 same-length-3 c = search needs
@@ -51,7 +52,12 @@ same-length-4 : tie.Need-same-length-4
 same-length-4 c = search needs
 
 returns-2 : tie.Need-returns-2
-returns-2 c = c .before .before .before .before .loss .ensures
+returns-2 c =
+    let k = c .before .before .before .before in
+    let e = k .before .before .before in
+    let s = start (e .before) in
+    let so = sym (e .before .is-sound .ensures) ∙ not-false _ (e .if1 .left) in
+    k .loss .ensures ∙ past-loss (handed s) so (s .args .time) (s .args .a)
 
 pub loss-spec : {M : Type 1} → statement M
 loss-spec =

@@ -9,7 +9,8 @@ use Rattle.sender.specs.World.{World, world, ringOf, viewOf, worldOf}
 use Rattle.sender.specs.Rows.{nackAllRows}
 use Rattle.sender.specs.Steps.{nackSampling, nackStep}
 use Rattle.sender.specs.Events.{onNack}
-use Rattle.sender.proofs.Rowing.{answer-unsound, says-nothing}
+use Rattle.sender.proofs.Sounds.{sound-holds}
+use Rattle.sender.proofs.Rowing.{past-nack, past-nack-says, answer-unsound, says-nothing}
 use Rattle.sender.proofs.Controller.nack.Statement.{statement}
 use Rattle.sender.proofs.Controller.nack.Tie as tie
 
@@ -51,7 +52,7 @@ returns c =
 nack-requires : tie.Need-nack-requires
 nack-requires c κs =
     let e = c .before .before in
-    sym (e .before .is-sound .ensures) ∙ not-false _ (e .if1 .left)
+    sound-holds _ (sym (e .before .is-sound .ensures) ∙ not-false _ (e .if1 .left))
 
 same-length-3 : tie.Need-same-length-3
 same-length-3 c = search needs
@@ -60,7 +61,12 @@ same-length-4 : tie.Need-same-length-4
 same-length-4 c = search needs
 
 returns-2 : tie.Need-returns-2
-returns-2 c = c .before .before .before .before .nack .ensures
+returns-2 c =
+    let k = c .before .before .before .before in
+    let e = k .before .before .before in
+    let s = start (e .before) in
+    let so = sym (e .before .is-sound .ensures) ∙ not-false _ (e .if1 .left) in
+    (k .nack .ensures .0 ∙ past-nack (handed s) so (s .args .time) (s .args .a), k .nack .ensures .1 ∙ past-nack-says (handed s) so (s .args .time) (s .args .a))
 
 pub nack-spec : {M : Type 1} → statement M
 nack-spec =

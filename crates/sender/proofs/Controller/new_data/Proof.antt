@@ -8,7 +8,8 @@ use Rattle.sender.specs.World.{World, world, viewOf, worldOf}
 use Rattle.sender.specs.Rows.{newDataRows}
 use Rattle.sender.specs.Steps.{newDataStep}
 use Rattle.sender.specs.Events.{onNewData}
-use Rattle.sender.proofs.Rowing.{answer-unsound}
+use Rattle.sender.proofs.Sounds.{sound-holds}
+use Rattle.sender.proofs.Rowing.{past-new-data, answer-unsound}
 use Rattle.sender.proofs.Controller.new_data.Statement.{statement}
 use Rattle.sender.proofs.Controller.new_data.Tie as tie
 
@@ -36,10 +37,15 @@ returns c =
 new-data-requires : tie.Need-new-data-requires
 new-data-requires c κs =
     let e = c in
-    sym (e .before .is-sound .ensures) ∙ not-false _ (e .if1 .left)
+    sound-holds _ (sym (e .before .is-sound .ensures) ∙ not-false _ (e .if1 .left))
 
 returns-2 : tie.Need-returns-2
-returns-2 c = c .new-data .ensures
+returns-2 c =
+    let k = c in
+    let e = k .before in
+    let s = start (e .before) in
+    let so = sym (e .before .is-sound .ensures) ∙ not-false _ (e .if1 .left) in
+    k .new-data .ensures ∙ past-new-data (handed s) so (s .args .time) (s .args .bytes)
 
 pub new-data-spec : {M : Type 1} → statement M
 new-data-spec =

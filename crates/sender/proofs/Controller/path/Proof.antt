@@ -7,7 +7,8 @@ use Rattle.rules.specs.Verdict.{numberOf}
 use Rattle.sender.specs.World.{World, world}
 use Rattle.sender.specs.Rows.{pathRows}
 use Rattle.sender.specs.Events.{onPath}
-use Rattle.sender.proofs.Rowing.{entry-unsound, taken, untaken}
+use Rattle.sender.proofs.Sounds.{sound-holds}
+use Rattle.sender.proofs.Rowing.{past-path, entry-unsound, taken, untaken}
 use Rattle.sender.proofs.Controller.path.Statement.{statement}
 use Rattle.sender.proofs.Controller.path.Tie as tie
 
@@ -32,10 +33,15 @@ returns c =
     (sym (c .before .is-sound .ensures) ∙ not-true _ (c .if1 .taken)) refl
 
 path-requires : tie.Need-path-requires
-path-requires c κs = sym (c .before .is-sound .ensures) ∙ not-false _ (c .if1 .left)
+path-requires c κs = sound-holds _ (sym (c .before .is-sound .ensures) ∙ not-false _ (c .if1 .left))
 
 returns-2 : tie.Need-returns-2
-returns-2 c = c .path .ensures
+returns-2 c =
+    let k = c in
+    let e = k .before in
+    let s = start (e .before) in
+    let so = sym (e .before .is-sound .ensures) ∙ not-false _ (e .if1 .left) in
+    k .path .ensures ∙ past-path (handed s) so (s .args .time)
 
 pub path-spec : {M : Type 1} → statement M
 path-spec = tie.close (tie.spec is-sound-requires returns path-requires returns-2)

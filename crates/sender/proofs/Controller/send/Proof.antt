@@ -8,7 +8,8 @@ use Rattle.sender.specs.World.{World, world, ringOf, viewOf, worldOf}
 use Rattle.sender.specs.Rows.{sendAllRows}
 use Rattle.sender.specs.Steps.{sendStep}
 use Rattle.sender.specs.Events.{onSend}
-use Rattle.sender.proofs.Rowing.{answer-unsound}
+use Rattle.sender.proofs.Sounds.{sound-holds}
+use Rattle.sender.proofs.Rowing.{past-send, answer-unsound}
 use Rattle.sender.proofs.Controller.send.Statement.{statement}
 use Rattle.sender.proofs.Controller.send.Tie as tie
 
@@ -48,7 +49,7 @@ returns c =
 send-requires : tie.Need-send-requires
 send-requires c κs =
     let e = c .before .before .before .before in
-    sym (e .before .is-sound .ensures) ∙ not-false _ (e .if1 .left)
+    sound-holds _ (sym (e .before .is-sound .ensures) ∙ not-false _ (e .if1 .left))
 
 same-length-5 : tie.Need-same-length-5
 same-length-5 c = search needs
@@ -63,7 +64,12 @@ same-length-8 : tie.Need-same-length-8
 same-length-8 c = search needs
 
 returns-2 : tie.Need-returns-2
-returns-2 c = c .before .before .before .before .before .before .before .before .send .ensures
+returns-2 c =
+    let k = c .before .before .before .before .before .before .before .before in
+    let e = k .before .before .before .before .before in
+    let s = start (e .before) in
+    let so = sym (e .before .is-sound .ensures) ∙ not-false _ (e .if1 .left) in
+    k .send .ensures ∙ past-send (handed s) so (s .args .time) (s .args .a)
 
 pub send-spec : {M : Type 1} → statement M
 send-spec =

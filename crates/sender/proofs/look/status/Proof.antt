@@ -26,7 +26,7 @@ returns c = look-no _ (handed (c .before .before .before .before .before .before
     ∙ not-true _ (c .if1 .taken))
 
 find-requires : tie.Need-find-requires
-find-requires c κs = sound-lengths (handed (c .before .before .before .before .before .before .before .before)) (sym (c .before
+find-requires c κs = sound-lengths _ (handed (c .before .before .before .before .before .before .before .before)) (sym (c .before
     .before .is-sound .ensures) ∙ not-false _ (c .before .if1 .left))
 
 cast-t14 : tie.Need-cast-t14

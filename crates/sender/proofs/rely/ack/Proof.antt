@@ -1,4 +1,4 @@
--- `ack` judges the rows past 2, then takes the step: each answer is a case of `onAck` of a sound world, by the laws of `Rowing`.
+-- `ack` judges the rows past 2, then takes the step: each answer is a case of `pastAck`, by the laws of `Rowing`.
 use mathlib.Core.Path.{refl, sym, ap, _∙_}
 use mathlib.Core.Option.{some}
 use mathlib.Core.List.{List}
@@ -10,8 +10,8 @@ use Rattle.ledger.specs.Memory.{memory}
 use Rattle.sender.specs.World.{World, world, viewOf, worldOf}
 use Rattle.sender.specs.Rows.{ackAllRows}
 use Rattle.sender.specs.Steps.{ackSampling, ackStep}
-use Rattle.sender.specs.Events.{saysOf, onAck}
-use Rattle.sender.proofs.Sounds.{sound-bounded}
+use Rattle.sender.specs.Events.{saysOf, pastAck}
+use Rattle.sender.proofs.Sounds.{holds-bounded}
 use Rattle.sender.proofs.Rowing.{accepted-number, answer-refused, answer-accepted, says-nothing, says-sample}
 use Rattle.sender.proofs.rely.ack.Statement.{statement}
 use Rattle.sender.proofs.rely.ack.Tie as tie
@@ -34,7 +34,7 @@ start j = j .before .before .before .before .before .before
 judge-ack-requires : tie.Need-judge-ack-requires
 judge-ack-requires c κs =
     let s = c .before .before .before .before .before in
-    sound-bounded (handed s) (s .pre)
+    holds-bounded (handed s) (s .pre)
 
 is-accepted-requires : tie.Need-is-accepted-requires
 is-accepted-requires c κs = search needs
@@ -43,14 +43,14 @@ unheard-requires : tie.Need-unheard-requires
 unheard-requires c κs = search needs
 
 returns : tie.Need-returns
-unfolding onAck
+unfolding pastAck
 returns c =
     let v = c .before .before in
     let j = v .before in
     let s = start j in
     let refused = refused-not _ _ (v .is-accepted .ensures) (not-true _ (c .before .if1 .taken)) in
     let same = ap numberOf (c .unheard .ensures .1) in
-    let answer = answer-refused (handed s) (rows s) (stepped s) _ _ (s .pre) (numberOf (j .judge-ack .result))
+    let answer = answer-refused (handed s) (rows s) (stepped s) _ _ (numberOf (j .judge-ack .result))
     (j .judge-ack .ensures) refused
     (c .unheard .ensures .0) same in (
       answer,
@@ -80,7 +80,7 @@ same-length-5 : tie.Need-same-length-5
 same-length-5 c = search needs
 
 returns-2 : tie.Need-returns-2
-unfolding saysOf onAck
+unfolding saysOf pastAck
 returns-2 c =
     let k = c .before .before .before .before .before .before .before .before .before .before .before in
     let l = k .ack .last in
@@ -88,7 +88,7 @@ returns-2 c =
     let j = e .before .before in
     let s = start j in
     let zero = accepted-zero _ _ (e .before .is-accepted .ensures) (not-false _ (e .if1 .left)) in
-    let answer = answer-accepted (handed s) (rows s) (stepped s) _ _ (s .pre) (numberOf (j .judge-ack .result)) (j .judge-ack .ensures) zero
+    let answer = answer-accepted (handed s) (rows s) (stepped s) _ _ (numberOf (j .judge-ack .result)) (j .judge-ack .ensures) zero
     (k .ack .result .state) (memory (l .1 .0) (l .1 .1 .0) (l .1 .1 .1 .0) (l .1 .1 .1 .1 .0)) (l .1 .1 .1 .1 .1 .0)
     (k .ack .ensures .0) refl accepted-number in (
       answer,

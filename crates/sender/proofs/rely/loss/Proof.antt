@@ -1,4 +1,4 @@
--- `loss` judges the rows past 2, then takes the step: each answer is a case of `onLoss` of a sound world, by the laws of `Rowing`.
+-- `loss` judges the rows past 2, then takes the step: each answer is a case of `pastLoss`, by the laws of `Rowing`.
 use mathlib.Core.Path.{refl, sym, _∙_}
 use mathlib.Core.List.{List}
 use borrow.Author.Needs.{needs}
@@ -8,8 +8,8 @@ use Rattle.ledger.specs.Memory.{memory}
 use Rattle.sender.specs.World.{World, world, ringOf, viewOf, worldOf}
 use Rattle.sender.specs.Rows.{lossAllRows}
 use Rattle.sender.specs.Steps.{lossStep}
-use Rattle.sender.specs.Events.{onLoss}
-use Rattle.sender.proofs.Sounds.{sound-bounded}
+use Rattle.sender.specs.Events.{pastLoss}
+use Rattle.sender.proofs.Sounds.{holds-bounded}
 use Rattle.sender.proofs.Views.{sound-lengths}
 use Rattle.sender.proofs.Rowing.{answer-refused, answer-accepted}
 use Rattle.sender.proofs.rely.loss.Statement.{statement}
@@ -33,7 +33,7 @@ start j = j .before .before .before .before .before .before .before
 judge-loss-requires : tie.Need-judge-loss-requires
 judge-loss-requires c κs =
     let s = c .before .before .before .before .before .before in
-    (sound-bounded (handed s) (s .pre), sound-lengths (handed s) (s .pre))
+    (holds-bounded (handed s) (s .pre), sound-lengths _ (handed s) (s .pre .so))
 
 same-length : tie.Need-same-length
 same-length c = search needs
@@ -51,7 +51,7 @@ same-length-2 : tie.Need-same-length-2
 same-length-2 c = search needs
 
 returns : tie.Need-returns
-unfolding onLoss
+unfolding pastLoss
 returns c =
     let k = c .before .before .before .before in
     let l = k .loss .last in
@@ -59,7 +59,7 @@ returns c =
     let j = e .before .before in
     let s = start j in
     let zero = accepted-zero _ _ (e .before .is-accepted .ensures) (e .if1 .taken) in
-    answer-accepted (handed s) (rows s) (stepped s) _ _ (s .pre) (numberOf (j .judge-loss .result)) (j .judge-loss .ensures) zero
+    answer-accepted (handed s) (rows s) (stepped s) _ _ (numberOf (j .judge-loss .result)) (j .judge-loss .ensures) zero
     (k .loss .result) (memory (s .args .outstanding .now) (l .1 .1 .0) (s .args .sizes .now) (s .args .sent .now)) (l .1 .1 .1 .1 .1 .0)
     (k .loss .ensures) refl zero
 
@@ -67,11 +67,11 @@ same-length-3 : tie.Need-same-length-3
 same-length-3 c = search needs
 
 returns-2 : tie.Need-returns-2
-unfolding onLoss
+unfolding pastLoss
 returns-2 c =
     let j = c .before .before in
     let s = start j in
-    answer-refused (handed s) (rows s) (stepped s) _ _ (s .pre) (numberOf (j .judge-loss .result)) (j .judge-loss .ensures)
+    answer-refused (handed s) (rows s) (stepped s) _ _ (numberOf (j .judge-loss .result)) (j .judge-loss .ensures)
     (refused-not _ _ (c .before .is-accepted .ensures) (c .if1 .left)) refl refl
 
 pub loss-spec : {M : Type 1} → statement M

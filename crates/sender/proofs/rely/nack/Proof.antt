@@ -1,4 +1,4 @@
--- `nack` judges the rows past 2, then takes the step: each answer is a case of `onNack` of a sound world, by the laws of `Rowing`.
+-- `nack` judges the rows past 2, then takes the step: each answer is a case of `pastNack`, by the laws of `Rowing`.
 use mathlib.Core.Path.{refl, sym, ap, _∙_}
 use mathlib.Core.Option.{some}
 use mathlib.Core.List.{List}
@@ -9,8 +9,8 @@ use Rattle.ledger.specs.Memory.{memory}
 use Rattle.sender.specs.World.{World, world, ringOf, viewOf, worldOf}
 use Rattle.sender.specs.Rows.{nackAllRows}
 use Rattle.sender.specs.Steps.{nackSampling, nackStep}
-use Rattle.sender.specs.Events.{saysOf, onNack}
-use Rattle.sender.proofs.Sounds.{sound-bounded}
+use Rattle.sender.specs.Events.{saysOf, pastNack}
+use Rattle.sender.proofs.Sounds.{holds-bounded}
 use Rattle.sender.proofs.Views.{sound-lengths}
 use Rattle.sender.proofs.Rowing.{answer-refused, answer-accepted, says-nothing, says-sample}
 use Rattle.sender.proofs.rely.nack.Statement.{statement}
@@ -34,7 +34,7 @@ start j = j .before .before .before .before .before .before .before
 judge-nack-requires : tie.Need-judge-nack-requires
 judge-nack-requires c κs =
     let s = c .before .before .before .before .before .before in
-    (sound-bounded (handed s) (s .pre), sound-lengths (handed s) (s .pre))
+    (holds-bounded (handed s) (s .pre), sound-lengths _ (handed s) (s .pre .so))
 
 same-length : tie.Need-same-length
 same-length c = search needs
@@ -52,7 +52,7 @@ same-length-2 : tie.Need-same-length-2
 same-length-2 c = search needs
 
 returns : tie.Need-returns
-unfolding saysOf onNack
+unfolding saysOf pastNack
 returns c =
     let k = c .before .before .before .before .before in
     let l = k .nack .last in
@@ -60,7 +60,7 @@ returns c =
     let j = e .before .before in
     let s = start j in
     let zero = accepted-zero _ _ (e .before .is-accepted .ensures) (e .if1 .taken) in
-    let answer = answer-accepted (handed s) (rows s) (stepped s) _ _ (s .pre) (numberOf (j .judge-nack .result))
+    let answer = answer-accepted (handed s) (rows s) (stepped s) _ _ (numberOf (j .judge-nack .result))
     (j .judge-nack .ensures) zero
     (k .nack .result .state)
     (memory (s .args .outstanding .now) (l .1 .1 .0) (s .args .sizes .now) (s .args .sent .now)) (l .1 .1 .1 .1 .1 .0)
@@ -73,12 +73,12 @@ same-length-3 : tie.Need-same-length-3
 same-length-3 c = search needs
 
 returns-2 : tie.Need-returns-2
-unfolding saysOf onNack
+unfolding saysOf pastNack
 returns-2 c =
     let j = c .before .before in
     let s = start j in
     let refused = refused-not _ _ (c .before .is-accepted .ensures) (c .if1 .left) in
-    let answer = answer-refused (handed s) (rows s) (stepped s) _ _ (s .pre) (numberOf (j .judge-nack .result))
+    let answer = answer-refused (handed s) (rows s) (stepped s) _ _ (numberOf (j .judge-nack .result))
     (j .judge-nack .ensures) refused refl refl in
     (answer, says-nothing answer (nackSampling (s .args .time) (s .args .a) (viewOf (handed s))) refused refl)
 

@@ -1,4 +1,4 @@
--- `new_data` judges the rows past 2, then takes the step: each answer is a case of `onNewData` of a sound world, by the laws of `Rowing`.
+-- `new_data` judges the rows past 2, then takes the step: each answer is a case of `pastNewData`, by the laws of `Rowing`.
 use mathlib.Core.Path.{refl, sym, ap₂, _∙_}
 use mathlib.Core.List.{List}
 use borrow.Author.Needs.{needs}
@@ -9,9 +9,9 @@ use Rattle.ledger.specs.Memory.{Memory, memory}
 use Rattle.sender.specs.World.{World, world, viewOf, worldOf}
 use Rattle.sender.specs.Rows.{newDataRows}
 use Rattle.sender.specs.Steps.{newDataStep}
-use Rattle.sender.specs.Events.{onNewData}
+use Rattle.sender.specs.Events.{pastNewData}
 use Rattle.sender.specs.declared.Controller.{Controller}
-use Rattle.sender.proofs.Sounds.{sound-bounded}
+use Rattle.sender.proofs.Sounds.{holds-bounded}
 use Rattle.sender.proofs.Views.{stored-ring}
 use Rattle.sender.proofs.Rowing.{accepted-number, answer-refused, answer-accepted}
 use Rattle.sender.proofs.rely.new_data.Statement.{statement}
@@ -35,38 +35,38 @@ start j = j .before .before .before .before .before .before
 judge-new-data-requires : tie.Need-judge-new-data-requires
 judge-new-data-requires c κs =
     let s = c .before .before .before .before .before in
-    sound-bounded (handed s) (s .pre)
+    holds-bounded (handed s) (s .pre)
 
 is-accepted-requires : tie.Need-is-accepted-requires
 is-accepted-requires c κs = search needs
 
 returns : tie.Need-returns
-unfolding onNewData
+unfolding pastNewData
 returns c =
     let j = c .before .before in
     let s = start j in
-    answer-refused (handed s) (rows s) (stepped s) _ _ (s .pre) (numberOf (j .judge-new-data .result)) (j .judge-new-data .ensures)
+    answer-refused (handed s) (rows s) (stepped s) _ _ (numberOf (j .judge-new-data .result)) (j .judge-new-data .ensures)
     (refused-not _ _ (c .before .is-accepted .ensures) (not-true _ (c .if1 .taken))) refl refl
 
 new-data-requires : tie.Need-new-data-requires
 new-data-requires c κs =
     let j = c .before .before in
     let s = start j in (
-      sound-bounded (handed s) (s .pre),
+      holds-bounded (handed s) (s .pre),
       sym (j .judge-new-data .ensures) ∙ accepted-zero _ _ (c .before .is-accepted .ensures)
           (not-false _ (c .if1 .left)),
     )
 
 returns-2 : tie.Need-returns-2
-unfolding onNewData newDataStep
+unfolding pastNewData newDataStep
 returns-2 c =
     let e = c .before in
     let j = e .before .before in
     let s = start j in
     let zero = accepted-zero _ _ (e .before .is-accepted .ensures) (not-false _ (e .if1 .left)) in
-    answer-accepted (handed s) (rows s) (stepped s) _ _ (s .pre) (numberOf (j .judge-new-data .result)) (j .judge-new-data .ensures) zero
+    answer-accepted (handed s) (rows s) (stepped s) _ _ (numberOf (j .judge-new-data .result)) (j .judge-new-data .ensures) zero
     (c .new-data .result) (handed s .slots) (handed s .times)
-    (ap₂ (λ (x : Controller) (m : Memory). world x m (handed s .times)) (c .new-data .ensures) (sym (stored-ring (handed s) (s .pre)))) refl
+    (ap₂ (λ (x : Controller) (m : Memory). world x m (handed s .times)) (c .new-data .ensures) (sym (stored-ring _ (handed s) (s .pre .so)))) refl
     accepted-number
 
 pub new-data-spec : {M : Type 1} → statement M

@@ -1,4 +1,4 @@
--- `path` judges the time, then chooses: each answer is a case of `onPath` of a sound world, by the laws of `Rowing`.
+-- `path` judges the time, then chooses: each answer is a case of `pastPath`, by the laws of `Rowing`.
 use mathlib.Core.Path.{refl, sym, ap, ap₂, _∙_}
 use mathlib.Core.List.{[]}
 use Prim.Native.Nat.{ℕ}
@@ -10,9 +10,9 @@ use Rattle.ledger.specs.Memory.{Memory, memory}
 use Rattle.sender.specs.World.{World, world, viewOf, routed}
 use Rattle.sender.specs.Rows.{pathRows}
 use Rattle.sender.specs.Steps.{routeOf, pathState, pathStep}
-use Rattle.sender.specs.Events.{onPath}
+use Rattle.sender.specs.Events.{pastPath}
 use Rattle.sender.specs.declared.Controller.{Controller}
-use Rattle.sender.proofs.Sounds.{sound-facts, sound-bounded}
+use Rattle.sender.proofs.Sounds.{among-facts, holds-bounded}
 use Rattle.sender.proofs.Views.{stored-ring}
 use Rattle.sender.proofs.Stepping.{time-facts}
 use Rattle.sender.proofs.Rowing.{accepted-number, entry-refused, entry-accepted, taken, untaken}
@@ -35,26 +35,26 @@ is-accepted-requires : tie.Need-is-accepted-requires
 is-accepted-requires c κs = search needs
 
 returns : tie.Need-returns
-unfolding onPath
+unfolding pastPath
 returns c =
     let j = c .before .before .judge-path in
     let s = start (c .before .before) in
     let w = handed s in
     let time = s .args .time in
-    entry-refused w (pathRows time (w .state)) (taken time w) (λ n. untaken n w) (s .pre) (numberOf (j .result)) (j .ensures)
+    entry-refused (pathRows time (w .state)) (taken time w) (λ n. untaken n w) (numberOf (j .result)) (j .ensures)
     (untaken (numberOf (j .result)) w) (refused-not _ _ (c .before .is-accepted .ensures) (not-true _ (c .if1 .taken))) refl
 
 path-requires : tie.Need-path-requires
 path-requires c κs =
     let s = start (c .before .before) in
-    let f = sound-facts (viewOf (handed s)) (s .pre) in
+    let f = among-facts _ (viewOf (handed s)) (s .pre .so) in
     let j = c .before .before .judge-path in
     let zero = accepted-zero _ _ (c .before .is-accepted .ensures) (not-false _ (c .if1 .left)) in
     let t = time-facts (s .args .time) (s .args .c) [] (sym (j .ensures) ∙ zero) .0 in
-    (sound-bounded (handed s) (s .pre), ((f .times-long, f .cursor-ok), (f .times-ok, t .early)))
+    (holds-bounded (handed s) (s .pre), ((f .times-long, f .cursor-ok), (f .times-ok, t .early)))
 
 returns-2 : tie.Need-returns-2
-unfolding onPath pathStep
+unfolding pastPath pathStep
 returns-2 c =
     let p = c .before .path in
     let e = c .before .before in
@@ -63,12 +63,12 @@ returns-2 c =
     let w = handed s in
     let time = s .args .time in
     let zero = accepted-zero _ _ (e .before .is-accepted .ensures) (not-false _ (e .if1 .left)) in
-    entry-accepted w (pathRows time (w .state)) (taken time w) (λ n. untaken n w) (s .pre) (numberOf (j .result)) (j .ensures)
+    entry-accepted (pathRows time (w .state)) (taken time w) (λ n. untaken n w) (numberOf (j .result)) (j .ensures)
     (routed (numberOf Accepted) (p .result .ev) (p .result .state) (w .slots) (w .times)) zero
     (ap (λ (n : ℕ). routed n (p .result .ev) (p .result .state) (w .slots) (w .times)) accepted-number
     ∙ ap₂ (λ (e : ℕ) (x : Controller). routed 0 e x (w .slots) (w .times)) (p .ensures .1) (p .ensures .0)
     ∙ ap (λ (m : Memory). routed 0 (routeOf time (viewOf w) .ev) (pathState time (routeOf time (viewOf w) .cursor) (w .state)) m (w .times))
-    (sym (stored-ring w (s .pre))))
+    (sym (stored-ring _ w (s .pre .so))))
 
 pub path-spec : {M : Type 1} → statement M
 path-spec = tie.close (tie.spec judge-path-requires is-accepted-requires returns path-requires returns-2)

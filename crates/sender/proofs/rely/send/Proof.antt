@@ -1,4 +1,4 @@
--- `send` judges the rows past 2, then takes the step: each answer is a case of `onSend` of a sound world, by the laws of `Rowing`.
+-- `send` judges the rows past 2, then takes the step: each answer is a case of `pastSend`, by the laws of `Rowing`.
 use mathlib.Core.Path.{refl, sym, _∙_}
 use mathlib.Core.List.{List}
 use borrow.Author.Needs.{needs}
@@ -9,8 +9,8 @@ use Rattle.ledger.specs.Memory.{memory}
 use Rattle.sender.specs.World.{World, world, ringOf, viewOf, worldOf}
 use Rattle.sender.specs.Rows.{sendAllRows}
 use Rattle.sender.specs.Steps.{sendStep}
-use Rattle.sender.specs.Events.{onSend}
-use Rattle.sender.proofs.Sounds.{sound-bounded}
+use Rattle.sender.specs.Events.{pastSend}
+use Rattle.sender.proofs.Sounds.{holds-bounded}
 use Rattle.sender.proofs.Views.{sound-lengths}
 use Rattle.sender.proofs.Rowing.{accepted-number, answer-refused, answer-accepted}
 use Rattle.sender.proofs.rely.send.Statement.{statement}
@@ -34,7 +34,7 @@ start j = j .before .before .before .before .before .before .before .before .bef
 judge-send-requires : tie.Need-judge-send-requires
 judge-send-requires c κs =
     let s = c .before .before .before .before .before .before .before .before .before in
-    (sound-bounded (handed s) (s .pre), sound-lengths (handed s) (s .pre))
+    (holds-bounded (handed s) (s .pre), sound-lengths _ (handed s) (s .pre .so))
 
 same-length : tie.Need-same-length
 same-length c = search needs
@@ -52,11 +52,11 @@ is-accepted-requires : tie.Need-is-accepted-requires
 is-accepted-requires c κs = search needs
 
 returns : tie.Need-returns
-unfolding onSend
+unfolding pastSend
 returns c =
     let j = c .before .before in
     let s = start j in
-    answer-refused (handed s) (rows s) (stepped s) _ _ (s .pre) (numberOf (j .judge-send .result)) (j .judge-send .ensures)
+    answer-refused (handed s) (rows s) (stepped s) _ _ (numberOf (j .judge-send .result)) (j .judge-send .ensures)
     (refused-not _ _ (c .before .is-accepted .ensures) (not-true _ (c .if1 .taken))) refl refl
 
 send-requires : tie.Need-send-requires
@@ -78,7 +78,7 @@ same-length-8 : tie.Need-same-length-8
 same-length-8 c = search needs
 
 returns-2 : tie.Need-returns-2
-unfolding onSend
+unfolding pastSend
 returns-2 c =
     let k = c .before .before .before .before .before .before .before .before in
     let l = k .send .last in
@@ -86,7 +86,7 @@ returns-2 c =
     let j = e .before .before in
     let s = start j in
     let zero = accepted-zero _ _ (e .before .is-accepted .ensures) (not-false _ (e .if1 .left)) in
-    answer-accepted (handed s) (rows s) (stepped s) _ _ (s .pre) (numberOf (j .judge-send .result)) (j .judge-send .ensures) zero
+    answer-accepted (handed s) (rows s) (stepped s) _ _ (numberOf (j .judge-send .result)) (j .judge-send .ensures) zero
     (k .send .result) (memory (l .1 .0) (l .1 .1 .0) (l .1 .1 .1 .0) (l .1 .1 .1 .1 .0)) (handed s .times)
     (k .send .ensures) refl accepted-number
 

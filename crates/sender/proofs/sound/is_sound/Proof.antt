@@ -5,8 +5,9 @@ use borrow.Author.Needs.{needs}
 use borrow.Author.Tests.{not-false}
 use Rattle.window.proofs.Tests.{range-facts}
 use Rattle.ledger.specs.Memory.{memory}
+use Rattle.ledger.specs.Sound.{alone}
 use Rattle.sender.specs.World.{world, View, viewOf}
-use Rattle.sender.proofs.Sounds.{not-range, not-window, not-ledger, tests-bounded, tests-left}
+use Rattle.sender.proofs.Sounds.{alone-few, not-range, not-window, not-ledger, tests-bounded, tests-left}
 use Rattle.sender.proofs.sound.is_sound.Statement.{statement}
 use Rattle.sender.proofs.sound.is_sound.Tie as tie
 
@@ -20,7 +21,7 @@ in-range-requires : tie.Need-in-range-requires
 in-range-requires c κs = search needs
 
 returns : tie.Need-returns
-returns c = not-range (given (c .before)) _ (c .before .in-range .ensures) (c .if1 .taken)
+returns c = not-range alone alone-few (given (c .before)) _ (c .before .in-range .ensures) (c .if1 .taken)
 
 is-sound-requires : tie.Need-is-sound-requires
 is-sound-requires c κs = range-facts _ (sym (c .before .in-range .ensures) ∙ not-false _ (c .if1 .left))
@@ -28,7 +29,7 @@ is-sound-requires c κs = range-facts _ (sym (c .before .in-range .ensures) ∙ 
 returns-2 : tie.Need-returns-2
 returns-2 c =
     let r = c .before .before in
-    not-window (given (r .before)) _ (r .before .in-range .ensures) (r .if1 .left) _ (c .before .is-sound .ensures) (c .if2 .taken)
+    not-window alone alone-few (given (r .before)) _ (r .before .in-range .ensures) (r .if1 .left) _ (c .before .is-sound .ensures) (c .if2 .taken)
 
 is-sound-requires-2 : tie.Need-is-sound-requires-2
 is-sound-requires-2 c κs = search needs
@@ -37,7 +38,7 @@ returns-3 : tie.Need-returns-3
 returns-3 c =
     let h = c .before .before in
     let r = h .before .before in
-    not-ledger (given (r .before)) _ (r .before .in-range .ensures) (r .if1 .left) _ (h .before .is-sound .ensures) (h .if2 .left) _
+    not-ledger alone alone-few (given (r .before)) _ (r .before .in-range .ensures) (r .if1 .left) _ (h .before .is-sound .ensures) (h .if2 .left) _
     (c .before .is-sound2 .ensures) (c .if3 .taken)
 
 times-ok-requires : tie.Need-times-ok-requires
@@ -52,7 +53,7 @@ phase-of-requires c κs =
     let h = l .before .before in
     let r = h .before .before in
     let B =
-    tests-bounded (given (r .before)) _ (r .before .in-range .ensures) (r .if1 .left) _ (h .before .is-sound .ensures) (h .if2 .left) _
+    tests-bounded alone alone-few (given (r .before)) _ (r .before .in-range .ensures) (r .if1 .left) _ (h .before .is-sound .ensures) (h .if2 .left) _
     (l .before .is-sound2 .ensures) (l .if3 .left) in
     (B .flown, (B .mtu-high, B .cwnd-high))
 
@@ -61,7 +62,7 @@ returns-4 c =
     let l = c .before .before .before .before .before .before .before in
     let h = l .before .before in
     let r = h .before .before in
-    tests-left (given (r .before)) _ (r .before .in-range .ensures) (r .if1 .left) _ (h .before .is-sound .ensures) (h .if2 .left) _
+    tests-left alone alone-few (given (r .before)) _ (r .before .in-range .ensures) (r .if1 .left) _ (h .before .is-sound .ensures) (h .if2 .left) _
     (l .before .is-sound2 .ensures) (l .if3 .left) _ _ (c .before .before .before .before .times-ok .ensures) (c .before .phase-of .ensures)
 
 pub is-sound-spec : {M : Type 1} → statement M

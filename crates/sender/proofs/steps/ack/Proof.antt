@@ -6,7 +6,7 @@ use Rattle.ledger.specs.Ring.{Ledger}
 use Rattle.ledger.specs.Memory.{memory, Kept, kept}
 use Rattle.ledger.specs.Steps.{acknowledgeOf}
 use Rattle.sender.specs.World.{World, world, viewOf, ledgerOf}
-use Rattle.sender.proofs.Sounds.{SoundFacts, sound-facts, sound-to-ledger}
+use Rattle.sender.proofs.Sounds.{SoundFacts, among-facts, holds-ledger}
 use Rattle.sender.proofs.Views.{sound-lengths}
 use Rattle.sender.proofs.Stepping.{Ackable, ack-facts, avoid-asks, Ready, ready-above, ready-word, state-asks, ack-ready, sample-at}
 use Rattle.sender.proofs.Stepping.{sampled-at, ack-is, ack-says}
@@ -19,8 +19,8 @@ world-in s =
     world (s .args .c) (memory (s .args .outstanding .now) (s .args .marked .now) (s .args .sizes .now) (s .args .sent .now))
     (s .args .evs .now)
 
-facts : (s : tie.Start) → SoundFacts (viewOf (world-in s))
-facts s = sound-facts (viewOf (world-in s)) (s .pre .0)
+facts : (s : tie.Start) → SoundFacts (s .pre .0 .others) (viewOf (world-in s))
+facts s = among-facts _ (viewOf (world-in s)) (s .pre .0 .so)
 
 accepted : (s : tie.Start) → Ackable (s .args .time) (s .args .a) (s .args .c)
 accepted s = ack-facts (s .args .time) (s .args .a) (s .args .c) (s .pre .1)
@@ -40,7 +40,7 @@ kept-out p =
 abbrev ledger-out : tie.After-acknowledge → Ledger
 ledger-out p = acknowledgeOf (entry p .args .a .cum) (entry p .args .a .map) (entry p .args .a .count) (ledgerOf (world-in (entry p)))
 
-after : (p : tie.After-acknowledge) → Ready (entry p .args .c .settings) (entry p .args .time) (entry p .args .c .window) (ledger-out p)
+after : (p : tie.After-acknowledge) → Ready (entry p .pre .0 .others) (entry p .args .c .settings) (entry p .args .time) (entry p .args .c .window) (ledger-out p)
 after p = ack-ready (facts (entry p)) (accepted (entry p))
 
 newly-requires : tie.Need-newly-requires
@@ -49,7 +49,7 @@ newly-requires c κs = search needs
 find-requires : tie.Need-find-requires
 find-requires c κs = let s =
     c .before .before .before .before .before .before .before .before .before .before .before .before .before .before in
-    sound-lengths (world-in s) (s .pre .0)
+    sound-lengths _ (world-in s) (s .pre .0 .so)
 
 cast-sampled : tie.Need-cast-sampled
 cast-sampled c = search needs
@@ -63,7 +63,7 @@ sample-in-requires c κs = search needs
 acknowledge-requires : tie.Need-acknowledge-requires
 acknowledge-requires c κs = let s =
     c .before .before .before .before .before .before .before .before .before .before .before .before .before .before .before .before
-    .before .before .before .before .before .before in (sound-to-ledger (world-in s) (s .pre .0), accepted s .rows)
+    .before .before .before .before .before .before in (holds-ledger (world-in s) (s .pre .0), accepted s .rows)
 
 ack-requires : tie.Need-ack-requires
 ack-requires c κs =

@@ -5,7 +5,7 @@ use Rattle.ledger.specs.Ring.{Ledger}
 use Rattle.ledger.specs.Memory.{memory, Kept, kept}
 use Rattle.ledger.specs.Steps.{markOf}
 use Rattle.sender.specs.World.{World, world, ringOf, viewOf, ledgerOf}
-use Rattle.sender.proofs.Sounds.{SoundFacts, sound-facts, sound-to-ledger}
+use Rattle.sender.proofs.Sounds.{SoundFacts, among-facts, holds-ledger}
 use Rattle.sender.proofs.Views.{sound-lengths}
 use Rattle.sender.proofs.Stepping.{Markable, nack-facts, avoid-asks, Ready, ready-above, ready-word, state-asks, mark-flies}
 use Rattle.sender.proofs.Stepping.{mark-size, marked-ready, sample-at, sampled-at, nack-is, nack-says}
@@ -18,8 +18,8 @@ world-in s =
     world (s .args .c) (memory (s .args .outstanding .now) (s .args .marked .now) (s .args .sizes .now) (s .args .sent .now))
     (s .args .evs .now)
 
-facts : (s : tie.Start) → SoundFacts (viewOf (world-in s))
-facts s = sound-facts (viewOf (world-in s)) (s .pre .0)
+facts : (s : tie.Start) → SoundFacts (s .pre .0 .others) (viewOf (world-in s))
+facts s = among-facts _ (viewOf (world-in s)) (s .pre .0 .so)
 
 accepted : (s : tie.Start) → Markable (s .args .time) (s .args .a .psn) (s .args .a .ev) (s .args .c) (ringOf (world-in s))
 accepted s = nack-facts (s .args .time) (s .args .a) (s .args .c) (ringOf (world-in s)) (s .pre .1)
@@ -40,12 +40,12 @@ kept-out p =
 abbrev ledger-out : tie.After-mark → Ledger
 ledger-out p = markOf (entry p .args .a .psn) (ledgerOf (world-in (entry p)))
 
-after : (p : tie.After-mark) → Ready (entry p .args .c .settings) (entry p .args .time) (entry p .args .c .window) (ledger-out p)
+after : (p : tie.After-mark) → Ready (entry p .pre .0 .others) (entry p .args .c .settings) (entry p .args .time) (entry p .args .c .window) (ledger-out p)
 after p = marked-ready (facts (entry p)) (accepted (entry p))
 
 find-requires : tie.Need-find-requires
 find-requires c κs = let s = c .before .before .before .before .before .before .before .before .before .before in
-    sound-lengths (world-in s) (s .pre .0)
+    sound-lengths _ (world-in s) (s .pre .0 .so)
 
 sampled-requires : tie.Need-sampled-requires
 sampled-requires c κs = search needs
@@ -56,7 +56,7 @@ sample-in-requires c κs = search needs
 mark-requires : tie.Need-mark-requires
 mark-requires c κs = let s =
     c .before .before .before .before .before .before .before .before .before .before .before .before .before .before in
-    (sound-to-ledger (world-in s) (s .pre .0), mark-flies (facts s) (accepted s))
+    (holds-ledger (world-in s) (s .pre .0), mark-flies (facts s) (accepted s))
 
 cast-nack : tie.Need-cast-nack
 cast-nack c = search needs

@@ -9,7 +9,7 @@ use Rattle.ledger.specs.Steps.{pushOf, resendOf}
 use Rattle.ledger.proofs.Shows.{shown-cap}
 use Rattle.sender.specs.World.{World, world, ringOf, viewOf, ledgerOf}
 use Rattle.sender.specs.Steps.{sendStep}
-use Rattle.sender.proofs.Sounds.{SoundFacts, sound-facts, sound-to-ledger}
+use Rattle.sender.proofs.Sounds.{SoundFacts, among-facts, holds-ledger}
 use Rattle.sender.proofs.Stepping.{Sendable, send-facts, Ready, state-asks, push-asks, resend-asks, send-ready, settles}
 use Rattle.sender.proofs.steps.send.Statement.{statement}
 use Rattle.sender.proofs.steps.send.Tie as tie
@@ -20,8 +20,8 @@ world-in s =
     world (s .args .c) (memory (s .args .outstanding .now) (s .args .marked .now) (s .args .sizes .now) (s .args .sent .now))
     (s .args .evs .now)
 
-facts : (s : tie.Start) → SoundFacts (viewOf (world-in s))
-facts s = sound-facts (viewOf (world-in s)) (s .pre .0)
+facts : (s : tie.Start) → SoundFacts (s .pre .0 .others) (viewOf (world-in s))
+facts s = among-facts _ (viewOf (world-in s)) (s .pre .0 .so)
 
 accepted : (s : tie.Start) → Sendable (s .args .time) (s .args .a) (s .args .c) (ringOf (world-in s))
 accepted s = send-facts (s .args .time) (s .args .a) (s .args .c) (ringOf (world-in s)) (s .pre .1)
@@ -32,7 +32,7 @@ sent-of s =
     ifSo (s .args .a .resend) (resendOf (s .args .time) (s .args .a .psn) (ledgerOf (world-in s)))
     (pushOf (s .args .time) (s .args .a .size) (ledgerOf (world-in s)))
 
-ready : (s : tie.Start) → Ready (s .args .c .settings) (s .args .time) (s .args .c .window) (sent-of s)
+ready : (s : tie.Start) → Ready (s .pre .0 .others) (s .args .c .settings) (s .args .time) (s .args .c .window) (sent-of s)
 ready s = send-ready (facts s) (accepted s)
 
 -- either call gives that ledger
@@ -64,7 +64,7 @@ resend-requires : tie.Need-resend-requires
 resend-requires c κs =
     let t = c .before .before .before .before in
     let s = t .before .before .before .before .before .before .before .before .before .before in
-    (sound-to-ledger (world-in s) (s .pre .0), resend-asks (facts s) (accepted s) (t .if1 .taken))
+    (holds-ledger (world-in s) (s .pre .0), resend-asks (facts s) (accepted s) (t .if1 .taken))
 
 state-of-requires : tie.Need-state-of-requires
 state-of-requires c κs =
@@ -97,7 +97,7 @@ push-requires c κs =
     let s = t .before .before .before .before .before .before .before .before .before .before in
     let w = world-in s in
     let asks = push-asks (facts s) (accepted s) (t .if1 .left) in
-    (sound-to-ledger w (s .pre .0), (asks .0, rw (shown-cap (w .state .flow .low) (w .state .flow .next) (w .slots)) at (asks .1)))
+    (holds-ledger w (s .pre .0), (asks .0, rw (shown-cap (w .state .flow .low) (w .state .flow .next) (w .slots)) at (asks .1)))
 
 state-of-requires-2 : tie.Need-state-of-requires-2
 state-of-requires-2 c κs =
