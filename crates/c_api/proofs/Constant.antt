@@ -11,6 +11,7 @@ use Rattle.rules.specs.Branch.{so-both, eq-both}
 use Rattle.rules.specs.Rows.{Row, firstOf, first-here, first-later}
 use Rattle.serial.specs.Psn.{psns}
 use Rattle.ledger.specs.Ring.{packetOf}
+use Rattle.ledger.specs.Sound.{alone}
 use Rattle.ledger.specs.Memory.{Memory, stored, Kept, keptOf}
 use Rattle.ledger.specs.Steps.{markOf}
 use Rattle.ledger.proofs.Marks.{mark-some}
@@ -91,7 +92,7 @@ module _ (time : ℕ) (w : World) where
 
   new-data-slots : (bytes : ℕ) → onNewData time bytes w .after .slots ≡ w .slots
   unfolding onNewData newDataStep
-  new-data-slots bytes = decided-keeps (λ (v : World). v .slots) w _ _ (λ none. stored-ring w (none-sound w _ none (sound w) refl .0))
+  new-data-slots bytes = decided-keeps (λ (v : World). v .slots) w _ _ (λ none. stored-ring alone w (none-sound w _ none (sound w) refl .0))
 
   new-data-times : (bytes : ℕ) → onNewData time bytes w .after .times ≡ w .times
   unfolding onNewData newDataStep
@@ -104,7 +105,7 @@ module _ (time : ℕ) (w : World) where
   path-slots : onPath time w .after .slots ≡ w .slots
   unfolding onPath pathStep
   path-slots =
-      eq-both (λ (a : Routing). a .after .slots ≡ w .slots) _ 0 _ _ (λ none. stored-ring w (none-sound w _ none (sound w) refl .0))
+      eq-both (λ (a : Routing). a .after .slots ≡ w .slots) _ 0 _ _ (λ none. stored-ring alone w (none-sound w _ none (sound w) refl .0))
       (λ _. refl)
 
   path-times : onPath time w .after .times ≡ w .times

@@ -14,7 +14,7 @@ use Rattle.rules.specs.Test.{inside}
 use Rattle.window.specs.Range.{inRange}
 use Rattle.ledger.specs.Memory.{Memory}
 use Rattle.sender.specs.World.{World, world, Answered}
-use Rattle.sender.specs.Sound.{sound, soundView}
+use Rattle.sender.specs.Sound.{sound, soundAmong}
 use Rattle.sender.specs.Events.{onNewData, onSend, onLoss}
 use Rattle.sender.specs.Start.{noSettings, freshState, onSetUp}
 use Rattle.sender.specs.declared.Controller.{Controller}
@@ -143,7 +143,7 @@ module _ (ws : List ℕ) (r : Memory) (t : List ℕ) where
 
 -- a state of zeros does not hold together: its MTU is out of range
 zeros-unsound : (r : Memory) (t : List ℕ) → sound (world (freshState noSettings) r t) ≡ false
-unfolding soundView inRange inside freshState noSettings
+unfolding soundAmong inRange inside freshState noSettings
 zeros-unsound r t = refl
 
 and-no : (b : Bool) → (b && false) ≡ false

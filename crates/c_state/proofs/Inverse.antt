@@ -9,11 +9,12 @@ use native.Mathlib.Omega.{arith}
 use lib.ListN.{length}
 use lib.Seq.{ext-getD}
 use Rattle.ledger.specs.Ring.{tabulate}
+use Rattle.ledger.specs.Sound.{alone}
 use Rattle.ledger.proofs.Signs.{sound-ledger-flown}
 use Rattle.ledger.proofs.Walks.{length-tabulate, getD-tabulate}
-use Rattle.ledger.proofs.Facts.{sound-ledger-facts}
+use Rattle.ledger.proofs.Facts.{sound-ledger-facts, sound-ledger-parts}
 use Rattle.sender.specs.Sound.{sound}
-use Rattle.sender.specs.World.{World, viewOf}
+use Rattle.sender.specs.World.{World, viewOf, ledgerOf}
 use Rattle.sender.specs.declared.Controller.{Controller}
 use Rattle.sender.proofs.Sounds.{sound-facts, sound-to-ledger, sound-bounded, phase-high}
 use Rattle.c_state.specs.Places as place
@@ -65,7 +66,7 @@ module _ (c : Controller) (M : Machine c) where
 
   state-back : stateFrom (stateWords c) ≡ c
   unfolding stateWords stateFrom settingsFrom flowFrom totalsFrom windowFrom
-  state-back = rw (word-back (c .totals .«in_flight») (M .flown))
+  state-back = rw (word-back (c .totals .«in_flight») (M .flown), M .backlog)
 
   pub unpack-pack : (wordsOk (stateWords c) ≡ true) × (stateFrom (stateWords c) ≡ c)
   unpack-pack = (facts-words (stateWords c) machine-facts, state-back)
@@ -83,9 +84,10 @@ sound-machine w e =
       next = F .next-psn;
       flying = omega (arith, C .flying-most);
       marked = omega (arith, C .marked-most);
+      backlog = omega (arith, sound-ledger-parts _ _ _ alone (ledgerOf w) (S .sound-ledger) .1 .backlog);
       fast = omega (arith, S .sound-window .fast-high);
       trigger = omega (arith, S .sound-window .trigger-high);
       cursor = omega (arith, S .cursor-ok, sound-bounded w e .evs-high);
-      phase = rw (S .named) (omega (arith, phase-high (w .state .settings .mtu) (w .state .window .cwnd) (w .state .flow) (w .state .totals)));
+      phase = rw (S .named) (omega (arith, phase-high (w .state .settings .mtu) (w .state .window .cwnd) (w .state .totals)));
       flown = sound-ledger-flown C;
     }

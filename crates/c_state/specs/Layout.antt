@@ -128,6 +128,7 @@ totalsFrom ws =
       flying = word ws place.flying;
       marked = word ws place.marked;
       «marked_bytes» = word ws place.markedBytes;
+      backlog = word ws place.backlog;
       «in_flight» = pos (word ws place.inFlight) -ℤ pos inFlightAdded;
     }
 

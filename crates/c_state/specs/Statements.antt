@@ -32,6 +32,8 @@ pub record Machine (c : Controller) : Type 0 where
   pub next : c .flow .next < fieldEnd
   pub flying : c .totals .flying < fieldEnd
   pub marked : c .totals .marked < fieldEnd
+  -- of one flow, whose backlog is the total: one word says both
+  pub backlog : c .totals .backlog ≡ c .flow .backlog
   pub fast : c .window .fast < fieldEnd
   pub trigger : c .window .trigger < fieldEnd
   pub cursor : c .cursor < fieldEnd

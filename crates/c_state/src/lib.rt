@@ -168,6 +168,7 @@ fn totals_from(ws: &[u64]) -> Totals
         flying: ws[places::FLYING] as u32,
         marked: ws[places::MARKED] as u32,
         marked_bytes: ws[places::MARKED_BYTES],
+        backlog: ws[places::BACKLOG],
         in_flight: ws[places::IN_FLIGHT] as i64 - IN_FLIGHT_ADDED,
     }
 }

@@ -27,7 +27,7 @@ use Rattle.ledger.specs.Memory.{stored}
 use Rattle.ledger.specs.Sound.{allTo, isCapacity, isRing, isLive, isZero, slotOk, headOk, stands, tallies, soundLedger}
 use Rattle.ledger.specs.Steps.{heldOf, newlyOf, acknowledgeOf}
 use Rattle.sender.specs.Named.{hasRoom, phaseOf}
-use Rattle.sender.specs.Sound.{timesOk, namedOk, soundView}
+use Rattle.sender.specs.Sound.{timesOk, namedOk, soundAmong}
 use Rattle.sender.specs.Steps.{stateOf, settled, ackStep, pathState, pathStep}
 use Rattle.sender.specs.Events.{decided, onSend, onAck, onPath}
 use Rattle.demands.specs.Burst.{isDelivered}
@@ -41,7 +41,7 @@ unfolding agree same cases settingsE windowOf ticksOf measuredBy worldWith deliv
     proportionalIncreaseOf factorOf mayDecrease multiplicativeDecreaseOf respondOf enoughReceived periodPassed fulfillAdjustmentOf adjustOf
     avoids avoided firstFree steps landed choice isFlying isDone isOut flyingOne markedOne markedSize sumOf coverOne coverAll doneRun
     inBounds sinks packetAt tabulate placeOf ageOf lay laid queueOf longOf packets offsetOf packetOf allTo isCapacity isRing isLive isZero
-    slotOk headOk stands tallies soundLedger heldOf newlyOf acknowledgeOf hasRoom phaseOf isOn isMode timesOk namedOk soundView stateOf
+    slotOk headOk stands tallies soundLedger heldOf newlyOf acknowledgeOf hasRoom phaseOf isOn isMode timesOk namedOk soundAmong stateOf
     settled ackStep
     pathState pathStep decided onSend onAck onPath bit isWord bitAt one valueOf wordsOf packed sizeIn resentIn slotsOf inWindow statusOf
     wordsAt statusAt shown isOutStatus isMarkStatus stored

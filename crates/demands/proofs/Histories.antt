@@ -16,7 +16,7 @@ use Rattle.window.specs.declared.Settings.{Settings}
 use Rattle.ledger.specs.Ring.{Ledger, packetOf}
 use Rattle.ledger.specs.Memory.{Memory}
 use Rattle.ledger.specs.Rows.{markRows}
-use Rattle.ledger.specs.Steps.{pushOf, resendOf, markOf, acknowledgeOf}
+use Rattle.ledger.specs.Steps.{suppliedTotals, pushOf, resendOf, markOf, acknowledgeOf}
 use Rattle.ledger.proofs.Judging.{resend-facts, mark-facts}
 use Rattle.ledger.proofs.Sends.{flies}
 use Rattle.sender.specs.World.{World, ringOf, ledgerOf}
@@ -49,7 +49,7 @@ marked-moves p l psn rows A =
 -- an accepted event moves in-flight by what it sends, reports and takes out as lost
 moves : (e : Event) (w : World) (p : Past) → firstOf (rowsOf e w) ≡ 0 → Agrees p (ledgerOf w)
     → ledgerStep e (ledgerOf w) .totals .«in_flight» ≡ moved (w .state .totals .«in_flight») (sentBy e p) (reportedBy e p) (lostBy e p)
-unfolding sentBy reportedBy lostBy pushOf resendOf acknowledgeOf
+unfolding sentBy reportedBy lostBy suppliedTotals pushOf resendOf acknowledgeOf
 moves (newData time bytes) w p rows A = simp +ℤ-idr
 moves (send time a) w p rows A =
     let z = w .state .totals .«in_flight» in

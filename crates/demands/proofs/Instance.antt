@@ -39,11 +39,11 @@ use Rattle.ledger.specs.Ring.{packetOf}
 use Rattle.ledger.specs.Memory.{Memory, memory, packed, sizeIn, resentIn, slotsOf, inWindow, statusOf, wordsAt, statusAt, shown}
 use Rattle.ledger.specs.Memory.{isOutStatus, isMarkStatus, stored}
 use Rattle.ledger.specs.Sound.{allTo, isCapacity, isRing, isEven, isLive, isZero, slotOk, headOk, stands, tallies, soundLedger}
-use Rattle.ledger.specs.Steps.{changed, supplyOf, pushOf, resendOf, markOf, heldOf, newlyOf, acknowledgeOf}
+use Rattle.ledger.specs.Steps.{changed, supplied, suppliedTotals, pushOf, resendOf, markOf, heldOf, newlyOf, acknowledgeOf}
 use Rattle.ledger.specs.declared.Packet.{Packet}
 use Rattle.sender.specs.World.{World, world, Answered, ledgerOf}
 use Rattle.sender.specs.Named.{hasRoom, phaseOf}
-use Rattle.sender.specs.Sound.{timesOk, namedOk, soundView, sound}
+use Rattle.sender.specs.Sound.{timesOk, namedOk, soundAmong, sound}
 use Rattle.sender.specs.Rows.{setUpRows}
 use Rattle.sender.specs.Start.{freshState, onSetUp}
 use Rattle.sender.specs.Steps.{stateOf, settled, avoidedIn, newDataState, newDataStep, sendStep, ackSample, ackStep, lossStep}
@@ -120,8 +120,8 @@ unfolding fresh freshState settingsE sum remember sentBy reportedBy lostBy ifSo 
     enoughReceived periodPassed fulfillAdjustmentOf adjustOf goOnOf reactOf window.ackOf shrinkOf lossOf isFlying isMarked isDone isOut
     flyingOne markedOne markedSize sumOf coverOne coverAll coveredSum doneRun inBounds sinks packetAt tabulate placeOf ageOf lay laid
     queueOf longOf packets offsetOf packetOf allTo isCapacity isRing isLive isZero slotOk headOk stands tallies soundLedger changed
-    supplyOf
-    pushOf resendOf markOf heldOf newlyOf acknowledgeOf hasRoom phaseOf isOn isMode timesOk namedOk soundView stateOf settled avoidedIn
+    supplied suppliedTotals
+    pushOf resendOf markOf heldOf newlyOf acknowledgeOf hasRoom phaseOf isOn isMode timesOk namedOk soundAmong stateOf settled avoidedIn
     newDataState newDataStep sendStep ackSample ackStep lossStep decided onNewData onSend onAck onLoss
     bit isWord bitAt one valueOf wordsOf packed sizeIn resentIn slotsOf inWindow statusOf wordsAt statusAt shown isOutStatus isMarkStatus
     stored
@@ -137,13 +137,13 @@ start =
     world
     (stateOf settingsE
     (record { low = 4294967294; next = 2; held = 16777214; backlog = 8192 })
-    (record { flying = 3; marked = 1; «marked_bytes» = 4096; «in_flight» = pos 12288 })
+    (record { flying = 3; marked = 1; «marked_bytes» = 4096; backlog = 8192; «in_flight» = pos 12288 })
     (freshOf settingsE) 100 0)
     (stored (laid 64 4294967294 (sentAt 10 1 ∷ sentAt 20 2 ∷ sentAt 30 1 ∷ sentAt 40 1 ∷ [])))
     (replicate 256 0)
 
 start-sound : sound start ≡ true
-unfolding start settingsE soundView isEvCount inRange inside soundWindow maxWndOf freshOf soundLedger stands isRing isCapacity longOf minus
+unfolding start settingsE soundAmong isEvCount inRange inside soundWindow maxWndOf freshOf soundLedger stands isRing isCapacity longOf minus
     allTo
     slotOk ifLt ifSo ifEq isLive isZero headOk tallies sumOf flyingOne markedOne markedSize inBounds packets queueOf tabulate packetAt
     placeOf plus ageOf lay laid isDone timesOk namedOk phaseOf isOn isMode hasRoom stateOf

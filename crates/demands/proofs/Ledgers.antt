@@ -84,6 +84,7 @@ settledBy cov held z l =
       flying = t .flying - coveredSum flyingOne cov (f .low) xs;
       marked = t .marked - coveredSum markedOne cov (f .low) xs;
       «marked_bytes» = t .«marked_bytes» - coveredSum markedSize cov (f .low) xs;
+      backlog = t .backlog;
       «in_flight» = z;
     })
     (laid (capOf (l .slots)) (plus (f .low) (goneOf cov (f .low) xs)) (leftOf cov (f .low) xs))
@@ -96,13 +97,13 @@ unfolding acknowledgeOf settledBy
 acked-settled cum map count l = refl
 
 -- two ledgers of this form are equal where their parts are
-same : (next held backlog : ℕ) (z : ℤ) {low low' fl fl' mk mk' by by' cap cap' : ℕ} {xs ys : List Packet}
+same : (next held backlog all : ℕ) (z : ℤ) {low low' fl fl' mk mk' by by' cap cap' : ℕ} {xs ys : List Packet}
     → low ≡ low' → fl ≡ fl' → mk ≡ mk' → by ≡ by' → cap ≡ cap' → xs ≡ ys
     → ledger (record { low = low; next = next; held = held; backlog = backlog })
-    (record { flying = fl; marked = mk; «marked_bytes» = by; «in_flight» = z }) (laid cap low xs)
+    (record { flying = fl; marked = mk; «marked_bytes» = by; backlog = all; «in_flight» = z }) (laid cap low xs)
     ≡ ledger (record { low = low'; next = next; held = held; backlog = backlog })
-    (record { flying = fl'; marked = mk'; «marked_bytes» = by'; «in_flight» = z }) (laid cap' low' ys)
-same next held backlog z a b c d e f = rw (a, b, c, d, e, f)
+    (record { flying = fl'; marked = mk'; «marked_bytes» = by'; backlog = all; «in_flight» = z }) (laid cap' low' ys)
+same next held backlog all z a b c d e f = rw (a, b, c, d, e, f)
 
 module _ (mtu clock : ℕ) (l : Ledger) (F : Facts mtu clock (l .flow) (l .slots)) where
   abbrev xs : List Packet
@@ -119,7 +120,7 @@ module _ (mtu clock : ℕ) (l : Ledger) (F : Facts mtu clock (l .flow) (l .slots
     pub settled-same : (held : ℕ) (z : ℤ) → settledBy c held z l ≡ settledBy d held z l
     unfolding settledBy
     settled-same held z =
-        same (l .flow .next) held (l .flow .backlog) z (ap (λ (ys : List Packet). plus low (doneRun ys)) e)
+        same (l .flow .next) held (l .flow .backlog) (l .totals .backlog) z (ap (λ (ys : List Packet). plus low (doneRun ys)) e)
         (ap (λ (n : ℕ). l .totals .flying - n) (sums flyingOne flying-out))
         (ap (λ (n : ℕ). l .totals .marked - n) (sums markedOne marked-out))
         (ap (λ (n : ℕ). l .totals .«marked_bytes» - n) (sums markedSize bytes-out))
@@ -155,7 +156,7 @@ module _ (mtu clock : ℕ) (l : Ledger) (F : Facts mtu clock (l .flow) (l .slots
         let q = plus low (goneOf c low xs) in
         let t = settle-twice c d low xs (F .low-psn) in
         rw settled-packets
-        (same (l .flow .next) held' (l .flow .backlog) z'
+        (same (l .flow .next) held' (l .flow .backlog) (l .totals .backlog) z'
         (plus-plus low (goneOf c low xs) (goneOf d q (leftOf c low xs)) ∙ ap (plus low) (t .0))
         (omega (arith, covered-twice c d flyingOne flying-out low xs (F .low-psn)))
         (omega (arith, covered-twice c d markedOne marked-out low xs (F .low-psn)))
@@ -172,7 +173,7 @@ module _ (mtu clock : ℕ) (l : Ledger) (F : Facts mtu clock (l .flow) (l .slots
       let g : goneOf (λ psn. false) low xs ≡ 0 = ap doneRun e ∙ run-zero xs (λ h. F .head (omega arith)) in
       let sums : (adds : Packet → ℕ) → OfOut adds → coveredSum adds (λ psn. false) low xs ≡ 0 =
       λ adds z. omega (arith, cover-sum adds z (λ psn. false) low xs, ap (sumOf adds) e) in
-      same (l .flow .next) (l .flow .held) (l .flow .backlog) (l .totals .«in_flight»)
+      same (l .flow .next) (l .flow .held) (l .flow .backlog) (l .totals .backlog) (l .totals .«in_flight»)
       (ap (plus low) g ∙ plus-none low (F .low-psn))
       (omega (arith, sums flyingOne flying-out))
       (omega (arith, sums markedOne marked-out))

@@ -22,7 +22,7 @@ use Rattle.ledger.specs.Packets.{noPacket, markedStatus, doneStatus, withStatus
 use Rattle.ledger.specs.Ring.{Ledger, ledger, capOf, laid, longOf, packets, offsetOf, packetOf}
 use Rattle.ledger.specs.Memory.{Memory}
 use Rattle.ledger.specs.Sound.{isCapacity}
-use Rattle.ledger.specs.Steps.{changed, newPacket, resentPacket, supplyOf, pushOf, resendOf, markOf, acknowledgeOf, heldOf}
+use Rattle.ledger.specs.Steps.{changed, newPacket, resentPacket, supplied, suppliedTotals, supplyOf, pushOf, resendOf, markOf, acknowledgeOf, heldOf}
 use Rattle.ledger.specs.declared.Flow.{Flow}
 use Rattle.ledger.specs.declared.Totals.{Totals}
 use Rattle.ledger.specs.declared.Packet.{Packet}
@@ -110,8 +110,8 @@ module _ {mtu clock : ℕ} {p : Past} (l : Ledger) (F : Facts mtu clock (l .flow
   sized k h = A .sizes k (omega (arith, long))
 
   -- new data
-  supplied-agrees : (bytes : ℕ) → Agrees p (ledger (supplyOf bytes (l .flow)) (l .totals) (l .slots))
-  unfolding supplyOf longOf packets
+  supplied-agrees : (bytes : ℕ) → Agrees p (supplyOf bytes l)
+  unfolding supplied suppliedTotals longOf packets
   supplied-agrees bytes = record { count-is = A .count-is; sizes = A .sizes }
 
   -- one packet changed, but not its size: a resend, a NACK, a loss

@@ -104,7 +104,7 @@ path-taken time w =
 
 -- what an accepted event does to the ledger
 abbrev pub ledgerStep : Event → Ledger → Ledger
-ledgerStep (newData time bytes) l = ledger (supplyOf bytes (l .flow)) (l .totals) (l .slots)
+ledgerStep (newData time bytes) l = supplyOf bytes l
 ledgerStep (send time a) l = ifSo (a .resend) (resendOf time (a .psn) l) (pushOf time (a .size) l)
 ledgerStep (ack time a) l = acknowledgeOf (a .cum) (a .map) (a .count) l
 ledgerStep (nack time a) l = markOf (a .psn) l

@@ -8,6 +8,7 @@ use Prim.Native.Nat.{ℕ}
 use Rattle.rules.specs.Rows.{firstOf}
 use Rattle.window.specs.declared.Settings.{Settings}
 use Rattle.ledger.specs.Memory.{Memory}
+use Rattle.ledger.specs.Sound.{alone}
 use Rattle.ledger.proofs.Facts.{Facts}
 use Rattle.ledger.proofs.Sends.{sound-ledger-tells}
 use Rattle.sender.specs.World.{World, ringOf, viewOf, ledgerIn, ledgerOf}
@@ -35,26 +36,26 @@ use Rattle.demands.proofs.Runs.{rowsOf, ledgerStep, view-ledger}
 
 -- the ledger of a sound world, fact by fact
 pub ledger-facts : (w : World) → sound w ≡ true → Facts (w .state .settings .mtu) (w .state .clock) (w .state .flow) (ringOf w)
-ledger-facts w h = sound-ledger-tells _ _ _ (ledgerOf w) (sound-facts (viewOf w) h .sound-ledger) .0
+ledger-facts w h = sound-ledger-tells _ _ _ alone (ledgerOf w) (sound-facts (viewOf w) h .sound-ledger) .0
 
 -- ---- an accepted event
 
 -- what it steps to holds together ..
 pub viewed-sound : (e : Event) (w : World) → sound w ≡ true → firstOf (rowsOf e w) ≡ 0 → soundView (viewStep e (viewOf w)) ≡ true
-viewed-sound (newData time bytes) w = new-data-kept time bytes (viewOf w)
-viewed-sound (send time a) w = send-kept time a (viewOf w)
-viewed-sound (ack time a) w = ack-kept time a (viewOf w)
-viewed-sound (nack time a) w = nack-kept time a (viewOf w)
-viewed-sound (loss time a) w = loss-kept time a (viewOf w)
-viewed-sound (path time) w = path-kept time (viewOf w)
+viewed-sound (newData time bytes) w = new-data-kept alone time bytes (viewOf w)
+viewed-sound (send time a) w = send-kept alone time a (viewOf w)
+viewed-sound (ack time a) w = ack-kept alone time a (viewOf w)
+viewed-sound (nack time a) w = nack-kept alone time a (viewOf w)
+viewed-sound (loss time a) w = loss-kept alone time a (viewOf w)
+viewed-sound (path time) w = path-kept alone time (viewOf w)
 
 module _ (e : Event) (w : World) (h : sound w ≡ true) (rows : firstOf (rowsOf e w) ≡ 0) where
   -- .. and so is what the world shows that keeps it, whose ledger is the ledger's own step
   pub step-view : viewOf (stepOf e w) ≡ viewStep e (viewOf w)
-  step-view = view-world (viewStep e (viewOf w)) (viewed-sound e w h rows)
+  step-view = view-world alone (viewStep e (viewOf w)) (viewed-sound e w h rows)
 
   pub step-sound : sound (stepOf e w) ≡ true
-  step-sound = world-sound (viewStep e (viewOf w)) (viewed-sound e w h rows)
+  step-sound = world-sound alone (viewStep e (viewOf w)) (viewed-sound e w h rows)
 
   pub step-ledger : ledgerOf (stepOf e w) ≡ ledgerStep e (ledgerOf w)
   step-ledger = ap ledgerIn step-view ∙ view-ledger e (viewOf w)

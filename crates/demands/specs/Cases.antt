@@ -88,7 +88,8 @@ measuredBy d = d .delay ∷ d .window .avg ∷ []
 unfoldable pub worldWith : Flow → ℕ → ℕ → List ℕ → World
 worldWith f n inFlight times =
     world
-    (stateOf settingsE f (record { flying = n; marked = 0; «marked_bytes» = 0; «in_flight» = pos inFlight }) (freshOf settingsE) 0 0)
+    (stateOf settingsE f
+    (record { flying = n; marked = 0; «marked_bytes» = 0; backlog = f .backlog; «in_flight» = pos inFlight }) (freshOf settingsE) 0 0)
     (stored (laid 64 (f .low) (replicate n (newPacket 0 4096))))
     times
 

@@ -27,9 +27,9 @@ use Rattle.ledger.specs.Ring.{packetAt, tabulate, placeOf, ageOf, lay, laid, qu
 use Rattle.ledger.specs.Memory.{memory, packed, sizeIn, resentIn, slotsOf, inWindow, statusOf, wordsAt, statusAt, shown, isOutStatus}
 use Rattle.ledger.specs.Memory.{isMarkStatus, stored}
 use Rattle.ledger.specs.Sound.{allTo, isCapacity, isRing, isEven, isLive, isZero, slotOk, headOk, stands, tallies, soundLedger}
-use Rattle.ledger.specs.Steps.{changed, supplyOf, pushOf, heldOf, newlyOf, acknowledgeOf}
+use Rattle.ledger.specs.Steps.{changed, supplied, suppliedTotals, pushOf, heldOf, newlyOf, acknowledgeOf}
 use Rattle.sender.specs.Named.{hasRoom, phaseOf}
-use Rattle.sender.specs.Sound.{timesOk, namedOk, soundView}
+use Rattle.sender.specs.Sound.{timesOk, namedOk, soundAmong}
 use Rattle.sender.specs.Steps.{stateOf, settled, newDataState, newDataStep, sendStep, ackStep}
 use Rattle.sender.specs.Events.{decided, onNewData, onSend, onAck}
 use Rattle.sender.specs.World.{World, world, Answered}
@@ -127,7 +127,7 @@ given-numbers : map (λ (a : Answered). a .number) given ≡ 0 ∷ 0 ∷ 0 ∷ 8
 unfolding lent settingsE answers onSetUp freshState freshOf firstOf inRange inside isEvCount isRing isEven isCapacity ifSo ifEq ifLt
     onNewData onSend onAck bit isWord bitAt one valueOf wordsOf packed sizeIn resentIn slotsOf inWindow statusOf wordsAt statusAt shown
     isOutStatus isMarkStatus stored
-    decided newDataStep newDataState sendStep settled stateOf supplyOf pushOf changed soundView soundWindow maxWndOf soundLedger
+    decided newDataStep newDataState sendStep settled stateOf supplied suppliedTotals pushOf changed soundAmong soundWindow maxWndOf soundLedger
     stands longOf minus
     allTo slotOk isLive isZero headOk tallies sumOf flyingOne markedOne markedSize inBounds packets queueOf tabulate packetAt placeOf
     plus ageOf lay
@@ -139,7 +139,7 @@ given-flights : map (λ (a : Answered). a .after .state .totals .«in_flight») 
 unfolding lent settingsE answers onSetUp freshState freshOf firstOf inRange inside isEvCount isRing isEven isCapacity ifSo ifEq ifLt
     onNewData onSend onAck bit isWord bitAt one valueOf wordsOf packed sizeIn resentIn slotsOf inWindow statusOf wordsAt statusAt shown
     isOutStatus isMarkStatus stored
-    decided newDataStep newDataState sendStep settled stateOf supplyOf pushOf changed soundView soundWindow maxWndOf soundLedger
+    decided newDataStep newDataState sendStep settled stateOf supplied suppliedTotals pushOf changed soundAmong soundWindow maxWndOf soundLedger
     stands longOf minus
     allTo slotOk isLive isZero headOk tallies sumOf flyingOne markedOne markedSize inBounds packets queueOf tabulate packetAt placeOf
     plus ageOf lay
@@ -156,7 +156,7 @@ given-sums : summed sentBy ∷ summed reportedBy ∷ summed lostBy ∷ [] ≡ 40
 unfolding lent settingsE answers onSetUp freshState freshOf firstOf inRange inside isEvCount isRing isEven isCapacity ifSo ifEq ifLt
     onNewData onSend onAck bit isWord bitAt one valueOf wordsOf packed sizeIn resentIn slotsOf inWindow statusOf wordsAt statusAt shown
     isOutStatus isMarkStatus stored
-    decided newDataStep newDataState sendStep settled stateOf supplyOf pushOf changed soundView soundWindow maxWndOf soundLedger
+    decided newDataStep newDataState sendStep settled stateOf supplied suppliedTotals pushOf changed soundAmong soundWindow maxWndOf soundLedger
     stands longOf minus
     allTo slotOk isLive isZero headOk tallies sumOf flyingOne markedOne markedSize inBounds packets queueOf tabulate packetAt placeOf
     plus ageOf lay

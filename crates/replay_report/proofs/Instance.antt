@@ -34,10 +34,10 @@ use Rattle.ledger.specs.Memory.{memory, slotsOf, inWindow, statusOf, wordsAt, s
 use Rattle.ledger.specs.Memory.{stored, packed, isOutStatus, isMarkStatus}
 use Rattle.ledger.specs.Ring.{packetAt, tabulate, placeOf, ageOf, lay, laid, queueOf, longOf, packets, offsetOf, packetOf}
 use Rattle.ledger.specs.Sound.{allTo, isCapacity, isRing, isEven, isLive, isZero, slotOk, headOk, stands, tallies, soundLedger}
-use Rattle.ledger.specs.Steps.{changed, supplyOf, pushOf, resendOf, markOf, newlyOf}
+use Rattle.ledger.specs.Steps.{changed, supplied, suppliedTotals, pushOf, resendOf, markOf, newlyOf}
 use Rattle.sender.specs.World.{World, world}
 use Rattle.sender.specs.Named.{hasRoom, phaseOf}
-use Rattle.sender.specs.Sound.{timesOk, namedOk, soundView}
+use Rattle.sender.specs.Sound.{timesOk, namedOk, soundAmong}
 use Rattle.sender.specs.Start.{noSettings, freshState, onSetUp}
 use Rattle.sender.specs.Steps.{stateOf, settled, avoidedIn, newDataState, newDataStep, sendStep, ackSampling, lossStep}
 use Rattle.sender.specs.Events.{decided, says, onNewData, onSend, onAck, onLoss}
@@ -221,7 +221,7 @@ unfolding resentLog onceLog lent recordBytes bytesOf littleEndian numberAt lookU
     markedSize sumOf inBounds
     sinks packetAt tabulate placeOf ageOf lay laid queueOf longOf packets offsetOf packetOf isLive isZero slotOk headOk stands tallies
     soundLedger changed
-    supplyOf pushOf resendOf markOf newlyOf hasRoom phaseOf isOn isMode modeOf timesOk namedOk soundView stateOf settled avoidedIn
+    supplied suppliedTotals pushOf resendOf markOf newlyOf hasRoom phaseOf isOn isMode modeOf timesOk namedOk soundAmong stateOf settled avoidedIn
     newDataState newDataStep
     sendStep ackSampling lossStep decided says onNewData onSend onAck onLoss howMany kindTest isAck ackStands mayDiffer
     isEven slotsOf inWindow statusOf wordsAt statusAt shown sizeIn resentIn stored packed isOutStatus isMarkStatus bit isWord bitAt one

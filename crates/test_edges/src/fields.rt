@@ -81,6 +81,7 @@ fn totals_with(t: Totals, word: u32, n: u64) -> Totals {
         flying: pick_32(word, words::FLYING, n, t.flying),
         marked: pick_32(word, words::MARKED, n, t.marked),
         marked_bytes: pick(word, words::MARKED_BYTES, n, t.marked_bytes),
+        backlog: pick(word, words::BACKLOG, n, t.backlog),
         in_flight: pick_signed(word, words::IN_FLIGHT, n, t.in_flight),
     }
 }

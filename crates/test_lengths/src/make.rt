@@ -82,6 +82,7 @@ fn quiet_window(cwnd: u64, base: u64) -> Window {
 // No packet flying or marked, and the window that settings start with.
 fn quiet(settings: Settings, flow: Flow, clock: u64, cursor: u32, phase: u32) -> Controller {
     let window = quiet_window(settings.maxwnd, settings.config_base_rtt);
+    let backlog = flow.backlog;
     Controller {
         settings,
         flow,
@@ -89,6 +90,7 @@ fn quiet(settings: Settings, flow: Flow, clock: u64, cursor: u32, phase: u32) ->
             flying: 0,
             marked: 0,
             marked_bytes: 0,
+            backlog,
             in_flight: 0,
         },
         window,

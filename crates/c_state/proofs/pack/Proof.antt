@@ -33,7 +33,7 @@ cast-t13 : tie.Need-cast-t13
 cast-t13 c = search needs
 
 cast-t14 : tie.Need-cast-t14
-cast-t14 c = search needs
+cast-t14 c = omega (arith, c .struct-known8 .given)
 
 cast-t15 : tie.Need-cast-t15
 cast-t15 c = search needs

@@ -29,20 +29,23 @@ shared-slice-read-t9 c = search needs
 shared-slice-read-t11 : tie.Need-shared-slice-read-t11
 shared-slice-read-t11 c = search needs
 
-cast-t12 : tie.Need-cast-t12
-cast-t12 c = search needs
+shared-slice-read-t13 : tie.Need-shared-slice-read-t13
+shared-slice-read-t13 c = search needs
 
-sub-t13 : tie.Need-sub-t13
-sub-t13 c =
-    let w = getD (c .before .before .before .before .args .ws .now) place.inFlight 0 in
-    let P = c .before .before .before .before .pre in
+cast-t14 : tie.Need-cast-t14
+cast-t14 c = search needs
+
+sub-t15 : tie.Need-sub-t15
+sub-t15 c =
+    let w = getD (c .before .before .before .before .before .args .ws .now) place.inFlight 0 in
+    let P = c .before .before .before .before .before .pre in
     rw (toZ-pos w64 w (omega (arith, P .in-flight))) (lowered-fits w (P .in-flight))
 
 returns : tie.Need-returns
 unfolding totalsFrom
 returns c =
-    let w = getD (c .before .before .before .before .args .ws .now) place.inFlight 0 in
-    let P = c .before .before .before .before .pre in
+    let w = getD (c .before .before .before .before .before .args .ws .now) place.inFlight 0 in
+    let P = c .before .before .before .before .before .pre in
     rw (toZ-pos w64 w (omega (arith, P .in-flight)), toZ-ofZ w64 (pos w -ℤ pos inFlightAdded) (lowered-fits w (P .in-flight)))
 
 pub totals-from-spec : {M : Type 1} → statement M
@@ -55,6 +58,7 @@ totals-from-spec =
     cast-t7
     shared-slice-read-t9
     shared-slice-read-t11
-    cast-t12
-    sub-t13
+    shared-slice-read-t13
+    cast-t14
+    sub-t15
     returns)
