@@ -1,0 +1,2 @@
+-- The laws that the proofs of `flow_table` share.
+pub mod Places

@@ -1,0 +1,2 @@
+-- What the contracts of `flow_table` cite.
+pub mod Words
