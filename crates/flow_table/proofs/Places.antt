@@ -92,7 +92,8 @@ module _ (ws : List ℕ) (k : ℕ) (f : Flow) where
       ∙ getD-set-other w₁ _ _ _ 0 (λ e. omega arith) ∙ getD-set-same ws _ _ 0 (omega arith) in
       let e₂ : getD w₄ (wordPlace k nextPlace) 0 ≡ f .next =
       getD-set-other w₃ _ _ _ 0 (λ e. omega arith) ∙ getD-set-other w₂ _ _ _ 0 (λ e. omega arith) ∙ getD-set-same w₁ _ _ 0 (omega arith) in
-      let e₃ : getD w₄ (wordPlace k heldPlace) 0 ≡ f .held = getD-set-other w₃ _ _ _ 0 (λ e. omega arith) ∙ getD-set-same w₂ _ _ 0 (omega arith) in
+      let e₃ : getD w₄ (wordPlace k heldPlace) 0 ≡ f .held =
+      getD-set-other w₃ _ _ _ 0 (λ e. omega arith) ∙ getD-set-same w₂ _ _ 0 (omega arith) in
       let e₄ : getD w₄ (wordPlace k backlogPlace) 0 ≡ f .backlog = getD-set-same w₃ _ _ 0 (omega arith) in
       rw (e₁, e₂, e₃, e₄)
 

@@ -1,2 +1,3 @@
 -- What the contracts of `flow_table` cite.
 pub mod Words
+pub mod Parts

@@ -9,6 +9,7 @@ use lib.Dec.{ltb, eqb}
 use lib.ListN.{length, getD, set}
 use Rattle.rules.specs.Test.{inside}
 use Rattle.serial.specs.Psn.{psns}
+use Rattle.ledger.specs.Ring.{tabulate}
 use Rattle.ledger.specs.declared.Flow.{Flow}
 
 -- the words of a flow
@@ -70,6 +71,17 @@ fitsAt ws k = ltb (flowAt ws k .low) psns && ltb (flowAt ws k .next) psns
 unfoldable pub wordsOf : List Flow → List ℕ
 wordsOf [] = []
 wordsOf (f ∷ fs) = f .low ∷ f .next ∷ f .held ∷ f .backlog ∷ wordsOf fs
+
+-- and back: the records of the first n flows, and of all
+unfoldable pub firstFlows : ℕ → List ℕ → List Flow
+firstFlows n ws = tabulate (flowAt ws) n
+
+abbrev pub flowsOf : List ℕ → List Flow
+flowsOf ws = firstFlows (countOf ws) ws
+
+-- a record of zeros: what a table shows past its end
+abbrev pub idle : Flow
+idle = record { low = 0; next = 0; held = 0; backlog = 0 }
 
 -- the test of a table, as facts
 pub record Table (ws : List ℕ) : Type 0 where
