@@ -344,6 +344,32 @@ module _ (maxwnd : ℕ) (o : Others) (t : Totals) (f : Flow) (xs : List Packet) 
       (whole (whole (whole (eq-eqb _ _ (T .flying)) (eq-eqb _ _ (T .marked))) (eq-eqb _ _ (T .bytes))) (eq-eqb _ _ (T .backlog)))
       (flown-test maxwnd (t .«in_flight») (T .flown))
 
+-- at most 4,096 packets, each of at most 2^14 bytes
+module _ {mtu clock : ℕ} {f : Flow} {r : Ring} where
+  few-sum : (adds : Packet → ℕ) (b : ℕ) → Facts mtu clock f r → ((x : Packet) → x .size ≤ mtu → adds x ≤ b)
+      → sumOf adds (packets f r) ≤ 4096 * b
+  few-sum adds b F h =
+      let n = packets-long f r in
+      let s = sum-bound adds b (packets f r) (λ k i. h _ (F .live k (omega arith) .size-most)) in
+      let m : length (packets f r) ≤ 4096 = omega (arith, F .fits, F .even .few) in
+      omega (arith, s, mul-le-mul m (le-refl b))
+
+  pub few-flying : Facts mtu clock f r → sumOf flyingOne (packets f r) ≤ 4096
+  unfolding flyingOne
+  few-flying F =
+      few-sum flyingOne 1 F (λ x s. eq-both (λ (a : ℕ). a ≤ 1) (x .status) 1 1 0 (λ q. omega arith) (λ q. omega arith))
+
+  pub few-marked : Facts mtu clock f r → sumOf markedOne (packets f r) ≤ 4096
+  unfolding markedOne
+  few-marked F =
+      few-sum markedOne 1 F (λ x s. eq-both (λ (a : ℕ). a ≤ 1) (x .status) 2 1 0 (λ q. omega arith) (λ q. omega arith))
+
+  pub few-bytes : mtu ≤ 2 ^ 14 → Facts mtu clock f r → sumOf markedSize (packets f r) ≤ 4096 * 2 ^ 14
+  unfolding markedSize
+  few-bytes hm F =
+      few-sum markedSize (2 ^ 14) F
+      (λ x s. eq-both (λ (a : ℕ). a ≤ 2 ^ 14) (x .status) 2 (x .size) 0 (λ q. omega arith) (λ q. omega arith))
+
 -- ---- the ledger
 
 module _ (mtu maxwnd clock : ℕ) (o : Others) (l : Ledger) where
@@ -360,17 +386,7 @@ module _ (mtu maxwnd clock : ℕ) (o : Others) (l : Ledger) where
   unfolding soundLedger
   sound-ledger-whole e T = whole e (tallies-test maxwnd o (l .totals) (l .flow) (packets (l .flow) (l .slots)) T)
 
-  -- at most 4,096 packets, each of at most 2^14 bytes
-  few-sum : (adds : Packet → ℕ) (b : ℕ) → Facts mtu clock (l .flow) (l .slots) → ((x : Packet) → x .size ≤ mtu → adds x ≤ b)
-      → sumOf adds (packets (l .flow) (l .slots)) ≤ 4096 * b
-  few-sum adds b F h =
-      let n = packets-long (l .flow) (l .slots) in
-      let s = sum-bound adds b (packets (l .flow) (l .slots)) (λ k i. h _ (F .live k (omega arith) .size-most)) in
-      let m : length (packets (l .flow) (l .slots)) ≤ 4096 = omega (arith, F .fits, F .even .few) in
-      omega (arith, s, mul-le-mul m (le-refl b))
-
   pub sound-ledger-is : mtu ≤ 2 ^ 14 → maxwnd ≤ 2 ^ 26 → Few o → soundLedger mtu maxwnd clock o l ≡ true → SoundLedger l
-  unfolding flyingOne markedOne markedSize
   sound-ledger-is hm hw few e =
       let p = sound-ledger-parts e in
       let F = stands-facts mtu clock (l .flow) (l .slots) (p .0) in
@@ -383,30 +399,11 @@ module _ (mtu maxwnd clock : ℕ) (o : Others) (l : Ledger) where
         maxwnd-high = hw;
         stands-so = p .0;
         flying-least = omega (arith, T .flying);
-        flying-most = omega (
-          arith,
-          T .flying,
-          few .flying,
-          few-sum flyingOne 1 F
-              (λ x s. eq-both (λ (a : ℕ). a ≤ 1) (x .status) 1 1 0 (λ q. omega arith) (λ q. omega arith)),
-        );
+        flying-most = omega (arith, T .flying, few .flying, few-flying F);
         marked-least = omega (arith, T .marked);
-        marked-most = omega (
-          arith,
-          T .marked,
-          few .marked,
-          few-sum markedOne 1 F
-              (λ x s. eq-both (λ (a : ℕ). a ≤ 1) (x .status) 2 1 0 (λ q. omega arith) (λ q. omega arith)),
-        );
+        marked-most = omega (arith, T .marked, few .marked, few-marked F);
         bytes-least = omega (arith, T .bytes);
-        bytes-most =
-            omega (
-              arith,
-              T .bytes,
-              few .bytes,
-              few-sum markedSize (2 ^ 14) F (λ x s. eq-both (λ (a : ℕ). a ≤ 2 ^ 14) (x .status) 2 (x .size) 0
-                  (λ q. omega arith) (λ q. omega arith)),
-            );
+        bytes-most = omega (arith, T .bytes, few .bytes, few-bytes hm F);
         backlog-least = omega (arith, T .backlog);
         backlog-most = omega (arith, T .backlog, few .backlog, F .backlog);
         flown = T .flown;

@@ -1,0 +1,110 @@
+-- One flow of a sound context: where its part lies, what is lent of it, and that it is put back in its place.
+-- Assumes nothing.
+use mathlib.Core.Path.{_≡_, refl, sym, ap, ap₂, _∙_}
+use mathlib.Core.List.{List, _++_}
+use Prim.Native.Nat.{ℕ, _+_, _-_, _*_, _/_, _≤_, _<_}
+use native.Mathlib.Nat.{mul-le-mul}
+use native.Mathlib.Omega.{arith}
+use lib.ListN.{length, take, drop}
+use Rattle.ledger.specs.Memory.{Memory, memory}
+use Rattle.ledger.specs.declared.Flow.{Flow}
+use Rattle.ledger.proofs.Geometry.{cap-facts}
+use Rattle.flow_table.specs.Words.{flowsMost, flowAt, withFlow, Fits}
+use Rattle.flow_table.specs.Parts.{wordsIn, part, around, partOf, putPart}
+use Rattle.flow_table.proofs.Places.{with-same}
+use Rattle.flow_table.proofs.Cuts.{part-in, lent-part, lent-around, put-part}
+use Rattle.sender.specs.World.{World, world}
+use Rattle.sender.specs.declared.Controller.{Controller as Sender}
+use Rattle.context.specs.Context.{Context, context, flowCount, capIn, flowIn, memoryIn, joinedOf, sharedOf, worldAt, putWorld}
+use Rattle.context.specs.declared.Controller.{Controller}
+use Rattle.context.proofs.Sounds.{SoundContext, flow-facts}
+
+-- the bits of flow k's part are the words from..end-1, its slots at..to-1
+pub record Lies (x : Context) (k from end at to : ℕ) : Type 0 where
+  pub from-is : from ≡ k * wordsIn (capIn x)
+  pub end-is : end ≡ from + wordsIn (capIn x)
+  pub at-is : at ≡ k * capIn x
+  pub to-is : to ≡ at + capIn x
+  pub outstanding : end ≤ length (x .slots .outstanding)
+  pub marked : end ≤ length (x .slots .marked)
+  pub sizes : to ≤ length (x .slots .sizes)
+  pub sent : to ≤ length (x .slots .sent)
+  pub few-words : end ≤ 32768
+  pub few-slots : to ≤ 32768
+
+module _ (x : Context) (S : SoundContext x) where
+  -- eight rings of 4,096 slots
+  pub few-slots : length (x .slots .sizes) ≤ 32768
+  few-slots =
+      let m : flowCount x * capIn x ≤ 8 * 4096 = mul-le-mul {m₂ = 4096} (S .table .few) (cap-facts (capIn x) (S .cap) .most) in
+      omega (arith, S .cut .sizes)
+
+  module _ (k : ℕ) (h : k < flowCount x) where
+    pub flow-fits : Fits (x .flows) k
+    flow-fits = let F = flow-facts x S k h in record { low = F .low-psn; next = F .next-psn }
+
+    pub lies : (from end at to : ℕ) → (from ≡ k * wordsIn (capIn x)) × (end ≡ k * wordsIn (capIn x) + wordsIn (capIn x))
+        × (at ≡ k * capIn x) × (to ≡ k * capIn x + capIn x) → Lies x k from end at to
+    lies from end at to p =
+        let w = part-in k (flowCount x) (wordsIn (capIn x)) h in
+        let c = part-in k (flowCount x) (capIn x) h in
+        let words : flowCount x * wordsIn (capIn x) ≤ 8 * 64 =
+        mul-le-mul {m₂ = 64} (S .table .few) (omega (arith, cap-facts (capIn x) (S .cap) .most)) in
+        record {
+          from-is = p .0;
+          end-is = omega (arith, p .0, p .1);
+          at-is = p .2;
+          to-is = omega (arith, p .2, p .3);
+          outstanding = omega (arith, p .1, w, S .cut .outstanding);
+          marked = omega (arith, p .1, w, S .cut .marked);
+          sizes = omega (arith, p .3, c, S .cut .sizes);
+          sent = omega (arith, p .3, c, S .cut .sent);
+          few-words = omega (arith, p .1, w, words);
+          few-slots = omega (arith, p .3, c, few-slots, S .cut .sizes);
+        }
+
+    -- a flow put back as it was
+    pub put-same : putWorld k x (worldAt k x) ≡ x
+    unfolding putWorld worldAt joinedOf sharedOf
+    put-same =
+        ap₂ (λ (f : List ℕ) (m : Memory). context (x .state) f m (x .times)) (with-same (x .flows) k)
+        (put-part (flowCount x) (capIn x) k (x .slots) (S .cut) h)
+
+-- what is lent of the context is what flow k's step sees
+module _ {x : Context} {k from end at to : ℕ} (L : Lies x k from end at to) where
+  pub lent-world : {s : Sender} {f : Flow} → f ≡ flowIn x k → s ≡ joinedOf (x .state) f
+      → world s
+      (memory (take (end - from) (drop from (x .slots .outstanding))) (take (end - from) (drop from (x .slots .marked)))
+      (take (to - at) (drop at (x .slots .sizes))) (take (to - at) (drop at (x .slots .sent))))
+      (x .times)
+      ≡ worldAt k x
+  unfolding worldAt partOf
+  lent-world ef es =
+      rw (
+        es,
+        ef,
+        lent-part from end (wordsIn (capIn x)) (x .slots .outstanding) (L .end-is),
+        lent-part from end (wordsIn (capIn x)) (x .slots .marked) (L .end-is),
+        lent-part at to (capIn x) (x .slots .sizes) (L .to-is),
+        lent-part at to (capIn x) (x .slots .sent) (L .to-is),
+        L .from-is,
+        L .at-is,
+      )
+
+  -- and what comes back stands in its place
+  pub put-slots : (o m z t : List ℕ)
+      → memory (take from (x .slots .outstanding) ++ (o ++ drop (end - from) (drop from (x .slots .outstanding))))
+      (take from (x .slots .marked) ++ (m ++ drop (end - from) (drop from (x .slots .marked))))
+      (take at (x .slots .sizes) ++ (z ++ drop (to - at) (drop at (x .slots .sizes))))
+      (take at (x .slots .sent) ++ (t ++ drop (to - at) (drop at (x .slots .sent))))
+      ≡ putPart (capIn x) k (x .slots) (memory o m z t)
+  unfolding putPart
+  put-slots o m z t =
+      rw (
+        lent-around from end (wordsIn (capIn x)) (x .slots .outstanding) (L .end-is) o,
+        lent-around from end (wordsIn (capIn x)) (x .slots .marked) (L .end-is) m,
+        lent-around at to (capIn x) (x .slots .sizes) (L .to-is) z,
+        lent-around at to (capIn x) (x .slots .sent) (L .to-is) t,
+        L .from-is,
+        L .at-is,
+      )

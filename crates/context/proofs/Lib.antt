@@ -1,0 +1,5 @@
+-- The laws that the proofs of `context` share.
+pub mod Sums
+pub mod Sounds
+pub mod Joins
+pub mod Lifts

@@ -1,0 +1,127 @@
+-- The answer of flow k's step, lifted to the context: number and context are those of the event's definition.
+-- Assumes nothing.
+use mathlib.Core.Path.{_≡_, refl, sym, ap, ap₂, _∙_}
+use mathlib.Core.Bool.{Bool, true, false, not, _||_}
+use mathlib.Core.List.{List, [], _∷_}
+use mathlib.Core.Option.{Option, none, some}
+use Prim.Native.Nat.{ℕ, _≤_, _<_}
+use native.Mathlib.Omega.{arith}
+use lib.Dec.{ltb, leb}
+use borrow.Author.Tests.{le-leb, lt-leb}
+use Rattle.rules.specs.Branch.{ifSo, ifEq, eq-yes, eq-no, so-both, eq-both}
+use Rattle.rules.specs.Rows.{Row, row, firstOf, first-here, first-later}
+use Rattle.window.specs.Limits.{timeEnd}
+use Rattle.window.specs.declared.Sampling.{Sampling}
+use Rattle.ledger.specs.Memory.{Memory}
+use Rattle.sender.specs.World.{World, world}
+use Rattle.sender.specs.World.{Answered as OneAnswered, answered as oneAnswered, Routing as OneRouting, routed as oneRouted}
+use Rattle.sender.specs.Events.{says}
+use Rattle.sender.specs.Events.{decided as oneDecided}
+use Rattle.sender.specs.Rows.{timeRow}
+use Rattle.sender.specs.declared.Controller.{Controller as Sender}
+use Rattle.flow_table.specs.Words.{withFlow}
+use Rattle.flow_table.specs.Parts.{putPart}
+use Rattle.context.specs.Context.{Context, context, Answered, answered, Routing, routed, flowCount, capIn, sharedOf, worldAt, putWorld}
+use Rattle.context.specs.Rows.{flowRow, withFlowRow}
+use Rattle.context.specs.Events.{decided, chosen}
+use Rattle.context.specs.declared.Controller.{Controller}
+
+-- ---- the row of the flow
+
+module _ (k : ℕ) (x : Context) (late : Bool) (rows : List Row) where
+  -- a flow in range: the row is passed
+  pub flow-passed : k < flowCount x → firstOf (row late 3 ∷ rows) ≡ firstOf (row late 3 ∷ flowRow k x ∷ rows)
+  unfolding firstOf
+  flow-passed h = ap (ifSo late 3) (first-later (firstOf rows) 25 (leb (flowCount x) k) rows (lt-leb (flowCount x) k h) refl)
+
+  -- a flow out of range: 3, then 25
+  pub flow-refused : flowCount x ≤ k → _≡_ {A = ℕ} (ifSo late 3 25) (firstOf (row late 3 ∷ flowRow k x ∷ rows))
+  unfolding firstOf
+  flow-refused h = ap (ifSo late 3) (first-here 25 25 (leb (flowCount x) k) rows (le-leb (flowCount x) k h) refl)
+
+late-refused : (late : Bool) → _≡_ {A = ℕ} (ifSo late 3 25) 0 → ⊥
+late-refused late = so-both (λ (n : ℕ). n ≡ 0 → ⊥) late 3 25 (λ _ e. omega (arith, e)) (λ _ e. omega (arith, e))
+
+pub not-zero : (late : Bool) {m : ℕ} → m ≡ ifSo late 3 25 → m ≡ 0 → ⊥
+not-zero late e z = late-refused late (sym e ∙ z)
+
+-- a flow out of range, as the code answers it: the context as it was
+module _ (k : ℕ) (x : Context) (late : Bool) (rows : List Row) (h : flowCount x ≤ k) {m : ℕ} (e : m ≡ ifSo late 3 25) where
+  number-is : m ≡ firstOf (row late 3 ∷ flowRow k x ∷ rows)
+  number-is = e ∙ flow-refused k x late rows h
+
+  pub no-flow-decided : (after : Context) → answered m (x .state) (x .flows) (x .slots) (x .times)
+      ≡ decided (firstOf (row late 3 ∷ flowRow k x ∷ rows)) x after
+  unfolding decided
+  no-flow-decided after =
+      eq-no _ 0 _ _ _ (λ z. not-zero late e (number-is ∙ z)) (ap (λ (n : ℕ). record { number = n; after = x }) number-is)
+
+  pub no-flow-chosen : (ev : ℕ) (after : Context) → routed m 0 (x .state) (x .flows) (x .slots) (x .times)
+      ≡ chosen (firstOf (row late 3 ∷ flowRow k x ∷ rows)) ev x after
+  unfolding chosen
+  no-flow-chosen ev after =
+      eq-no _ 0 _ _ _ (λ z. not-zero late e (number-is ∙ z)) (ap (λ (n : ℕ). record { number = n; ev = 0; after = x }) number-is)
+
+-- ---- the step's answer
+
+-- lifted
+abbrev lifted : ℕ → Context → OneAnswered → Answered
+lifted k x a = record { number = a .number; after = putWorld k x (a .after) }
+
+abbrev liftedPath : ℕ → Context → OneRouting → Routing
+liftedPath k x a = record { number = a .number; ev = a .ev; after = putWorld k x (a .after) }
+
+module _ (k : ℕ) (x : Context) (same : putWorld k x (worldAt k x) ≡ x) where
+  lift-decided : (n : ℕ) (w : World) → lifted k x (oneDecided n (worldAt k x) w) ≡ decided n x (putWorld k x w)
+  unfolding oneDecided decided
+  lift-decided n w =
+      eq-both (λ (a : OneAnswered). lifted k x a ≡ decided n x (putWorld k x w)) n 0 _ _
+      (λ z. yes z)
+      (λ z. no z)
+    where
+      yes : n ≡ 0 → record { number = 0; after = putWorld k x w } ≡ decided n x (putWorld k x w)
+      yes z = eq-yes n 0 _ _ _ z refl
+
+      no : (n ≡ 0 → ⊥) → record { number = n; after = putWorld k x (worldAt k x) } ≡ decided n x (putWorld k x w)
+      no z = eq-no n 0 _ _ _ z (ap (λ (y : Context). record { number = n; after = y }) same)
+
+  lift-chosen : (n ev : ℕ) (w : World) → liftedPath k x (ifEq n 0 (record { number = 0; ev = ev; after = w })
+      (record { number = n; ev = 0; after = worldAt k x }))
+      ≡ chosen n ev x (putWorld k x w)
+  unfolding chosen
+  lift-chosen n ev w =
+      eq-both (λ (a : OneRouting). liftedPath k x a ≡ chosen n ev x (putWorld k x w)) n 0 _ _
+      (λ z. eq-yes n 0 _ _ _ z refl)
+      (λ z. eq-no n 0 _ _ _ z (ap (λ (y : Context). record { number = n; ev = 0; after = y }) same))
+
+  -- AN EVENT OF FLOW k, as the code leaves the context: the step's answer on what flow k sees, put back
+  module _ (h : k < flowCount x) (late : Bool) (rows : List Row) (w : World) {m : ℕ} {s : Sender} {p slots : Memory} {times flows : List ℕ}
+      {c : Controller} (ec : c ≡ sharedOf s) (ef : flows ≡ withFlow (x .flows) k (s .flow))
+      (es : slots ≡ putPart (capIn x) k (x .slots) p) where
+    pub lift-answer : oneAnswered m s p times ≡ oneDecided (firstOf (row late 3 ∷ rows)) (worldAt k x) w
+        → answered m c flows slots times ≡ decided (firstOf (row late 3 ∷ flowRow k x ∷ rows)) x (putWorld k x w)
+    unfolding putWorld
+    lift-answer e =
+        rw (ec, ef, es) (ap (lifted k x) e) ∙ lift-decided (firstOf (row late 3 ∷ rows)) w
+        ∙ ap (λ (n : ℕ). decided n x (putWorld k x w)) (flow-passed k x late rows h)
+
+    pub lift-route : {ev : ℕ} (route : ℕ) → oneRouted m ev s p times
+        ≡ ifEq (firstOf (row late 3 ∷ rows)) 0 (record { number = 0; ev = route; after = w })
+        (record { number = firstOf (row late 3 ∷ rows); ev = 0; after = worldAt k x })
+        → routed m ev c flows slots times ≡ chosen (firstOf (row late 3 ∷ flowRow k x ∷ rows)) route x (putWorld k x w)
+    unfolding putWorld
+    lift-route route e =
+        rw (ec, ef, es) (ap (liftedPath k x) e) ∙ lift-chosen (firstOf (row late 3 ∷ rows)) route w
+        ∙ ap (λ (n : ℕ). chosen n route x (putWorld k x w)) (flow-passed k x late rows h)
+
+-- what an ACK or a NACK says: by the number, which is the step's
+pub lift-says : {m : ℕ} {a : OneAnswered} {b : Answered} {s : Sender} {p slots : Memory} {times ys flows : List ℕ} {c : Controller}
+    {q : Option Sampling} (sampling : Sampling) → oneAnswered m s p times ≡ a → answered m c flows slots ys ≡ b
+    → q ≡ says (a .number) sampling → q ≡ says (b .number) sampling
+lift-says sampling e f g =
+    g ∙ ap (λ (n : ℕ). says n sampling) (sym (ap (λ (r : OneAnswered). r .number) e) ∙ ap (λ (r : Answered). r .number) f)
+
+pub no-flow-says : {m : ℕ} {b : Answered} {slots : Memory} {times flows : List ℕ} {c : Controller} (sampling : Sampling)
+    → answered m c flows slots times ≡ b → (m ≡ 0 → ⊥) → none ≡ says (b .number) sampling
+unfolding says
+no-flow-says sampling f h = eq-no _ 0 none (some sampling) none (λ z. h (ap (λ (r : Answered). r .number) f ∙ z)) refl

@@ -1,0 +1,6 @@
+-- What the contracts of `context` cite.
+pub mod Context
+pub mod Sound
+pub mod Rows
+pub mod Events
+pub mod Lent

@@ -1,0 +1,99 @@
+// One flow of a context: its record beside what is shared, and where its part of the ring buffer lies.
+use crate::Controller;
+use ledger::Flow;
+use rules::verdict::Verdict;
+ghost use mathlib.Core.Path.{_≡_};
+ghost use Prim.Native.Nat.{_+_, _*_, _/_, _<_, _≤_};
+ghost use Rattle.rules.specs.Branch.{ifSo};
+ghost use Rattle.rules.specs.Verdict.{numberOf};
+ghost use mathlib.Core.Bool.{_||_};
+ghost use lib.Dec.{ltb, leb};
+ghost use Rattle.window.specs.Limits.{timeEnd};
+ghost use Rattle.flow_table.specs.Parts.{wordsIn};
+ghost use Rattle.flow_table.specs.Words.{flowsMost};
+ghost use Rattle.context.specs.Context.{joinedOf, sharedOf};
+
+// What is shared, with a flow's record: what the step of one flow works on.
+pub(crate) fn joined(c: Controller, flow: Flow) -> sender::Controller
+    ensures { λ r. ⌜ r ≡ joinedOf c flow ⌝ }
+{
+    let settings = c.settings;
+    let totals = c.totals;
+    let window = c.window;
+    sender::Controller {
+        settings,
+        flow,
+        totals,
+        window,
+        clock: c.clock,
+        cursor: c.cursor,
+        phase: c.phase,
+    }
+}
+
+// And back: all but the flow's record.
+pub(crate) fn shared(s: sender::Controller) -> Controller
+    ensures { λ r. ⌜ r ≡ sharedOf s ⌝ }
+{
+    let settings = s.settings;
+    let totals = s.totals;
+    let window = s.window;
+    Controller {
+        settings,
+        totals,
+        window,
+        clock: s.clock,
+        cursor: s.cursor,
+        phase: s.phase,
+    }
+}
+
+// Slots in equal shares. One and eight are what contexts mostly have; the compiler divides by these without a division.
+fn share(slots: usize, n: usize) -> usize
+    requires { ⌜ 0 < n ⌝ }
+    ensures { λ r. ⌜ r ≡ slots / n ⌝ }
+{
+    if n == 1 {
+        return slots;
+    }
+    if n == flow_table::FLOWS_MOST {
+        return slots / flow_table::FLOWS_MOST;
+    }
+    slots / n
+}
+
+// Where flow k's part lies: its bits are the words from..end-1, its slots at..to-1.
+pub(crate) struct Cut {
+    pub from: usize,
+    pub end: usize,
+    pub at: usize,
+    pub to: usize,
+}
+
+// The cut of flow k, of n flows that share so many slots.
+pub(crate) fn cut_of(slots: usize, n: usize, k: usize) -> Cut
+    requires { ⌜ (k < n) × (n ≤ flowsMost) × (slots ≤ 32768) ⌝ }
+    ensures { λ r. ⌜ (r .from ≡ k * wordsIn (slots / n)) × (r .end ≡ k * wordsIn (slots / n) + wordsIn (slots / n))
+        × (r .at ≡ k * (slots / n)) × (r .to ≡ k * (slots / n) + slots / n) ⌝ }
+{
+    let cap = share(slots, n);
+    let words = cap / bits::WORD_BITS;
+    let from = k * words;
+    let at = k * cap;
+    Cut {
+        from,
+        end: from + words,
+        at,
+        to: at + cap,
+    }
+}
+
+// A flow out of range: 3, then 25.
+pub(crate) fn no_flow(time: u64, clock: u64) -> Verdict
+    ensures { λ r. ⌜ numberOf r ≡ ifSo (ltb time clock || leb timeEnd time) 3 25 ⌝ }
+{
+    if (time < clock) | (sender::TIME_END <= time) {
+        return Verdict::Time;
+    }
+    Verdict::Flow
+}

@@ -1,0 +1,75 @@
+// Each event of a flow for a caller who knows that state and buffers hold together: the sender's step on that flow's record and its part of the
+// ring buffer. A replay tests once; what an event leaves holds together again, whatever it answers.
+use crate::Answer;
+use crate::Controller;
+use crate::Heard;
+use crate::Routed;
+use crate::join::cut_of;
+use crate::join::joined;
+use crate::join::no_flow;
+use crate::join::shared;
+use sender::Ack;
+use sender::Feedback;
+use sender::Loss;
+use sender::Nack;
+use sender::Send;
+ghost use mathlib.Core.Path.{_≡_};
+ghost use mathlib.Core.Bool.{true};
+ghost use Rattle.rules.specs.Verdict.{numberOf};
+ghost use Rattle.sender.specs.Events.{saysOf};
+ghost use Rattle.context.specs.Lent.{contextGiven, contextBefore, answeredAfter, routedAfter};
+ghost use Rattle.context.specs.Sound.{soundContext};
+ghost use Rattle.context.specs.Events.{pastNewData, pastSend, pastAck, pastAckSays, pastNack, pastNackSays, pastLoss, pastPath};
+
+// An ACK of a flow.
+pub fn ack<'a, 'b, 'c, 'd, 'e, 'f>(
+    c: Controller,
+    flows: &'a mut [u64],
+    outstanding: &'b mut [u64],
+    marked: &'c mut [u64],
+    sizes: &'d mut [u32],
+    sent: &'e mut [u64],
+    evs: &'f mut [u64],
+    time: u64,
+    flow: usize,
+    a: Ack,
+) -> Heard
+    requires { ⌜ soundContext (contextGiven c flows outstanding marked sizes sent evs) ≡ true ⌝ }
+    ensures { λ r. ⌜ answeredAfter (numberOf (r .verdict)) (r .state) flows outstanding marked sizes sent evs
+        ≡ pastAck time flow a (contextBefore c flows outstanding marked sizes sent evs) ⌝ }
+    ensures { λ r. ⌜ saysOf (r .feedback) ≡ pastAckSays time flow a (contextBefore c flows outstanding marked sizes sent evs) ⌝ }
+{
+    let n = flow_table::count(flows);
+    if n <= flow {
+        return Heard {
+            state: c,
+            verdict: no_flow(time, c.clock),
+            feedback: Feedback::Nothing,
+        };
+    }
+    let p = cut_of(sizes.len(), n, flow);
+    let from = p.from;
+    let end = p.end;
+    let at = p.at;
+    let to = p.to;
+    let s = joined(c, flow_table::flow_at(flows, flow));
+    let heard = sender::rely::ack(
+        s,
+        &mut outstanding[from..end],
+        &mut marked[from..end],
+        &mut sizes[at..to],
+        &mut sent[at..to],
+        evs,
+        time,
+        a,
+    );
+    let after = heard.state;
+    let verdict = heard.verdict;
+    let feedback = heard.feedback;
+    flow_table::put(flows, flow, after.flow);
+    Heard {
+        state: shared(after),
+        verdict,
+        feedback,
+    }
+}
