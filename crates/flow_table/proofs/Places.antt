@@ -1,15 +1,15 @@
 -- Laws of the table as words: a record that is stored is read back, and no other changes.
 -- Assumes nothing.
-use mathlib.Core.Path.{_≡_, refl, sym, ap, _∙_}
-use mathlib.Core.Bool.{true}
+use mathlib.Core.Path.{_≡_, refl, _∙_}
+use mathlib.Core.Bool.{Bool, true, false}
 use mathlib.Core.Logic.{_≢_}
 use mathlib.Core.List.{List}
-use Prim.Native.Nat.{ℕ, _+_, _*_, _<_}
+use Prim.Native.Nat.{ℕ, _*_, _<_}
 use native.Mathlib.Omega.{arith}
 use lib.Dec.{ltb, eqb}
 use lib.ListN.{length, getD, set, length-set}
 use lib.Seq.{getD-set-same, getD-set-other, set-getD}
-use borrow.Author.Tests.{ltb-true, lt-ltb, eqb-true, eq-eqb}
+use borrow.Author.Tests.{ltb-true, lt-ltb, eqb-true, eqb-false, eq-eqb}
 use Rattle.rules.specs.Test.{both, whole, inside, inside-tells, inside-yes}
 use Rattle.serial.specs.Psn.{psns}
 use Rattle.ledger.specs.declared.Flow.{Flow}
@@ -101,3 +101,18 @@ module _ (ws : List ℕ) (k : ℕ) (f : Flow) where
 pub with-same : (ws : List ℕ) (k : ℕ) → withFlow ws k (flowAt ws k) ≡ ws
 unfolding flowAt withFlow
 with-same ws k = simp set-getD
+
+-- where f's low and next are PSNs, flow j's are too, whether it is the flow that becomes f or another
+module _ (ws : List ℕ) (k : ℕ) (f : Flow) (there : wordPlace k backlogPlace < length ws) (low : f .low < psns) (next : f .next < psns)
+    (j : ℕ) (others : j ≢ k → Fits ws j) where
+  by : (t : Bool) → eqb j k ≡ t → Fits (withFlow ws k f) j
+  by true e =
+      let s : flowAt (withFlow ws k f) j ≡ f = rw (eqb-true j k e) (flow-same ws k f there) in
+      record { low = rw s low; next = rw s next }
+  by false e =
+      let s = flow-other ws k f j (eqb-false j k e) in
+      let o = others (eqb-false j k e) in
+      record { low = rw s (o .low); next = rw s (o .next) }
+
+  pub fits-with : Fits (withFlow ws k f) j
+  fits-with = by (eqb j k) refl

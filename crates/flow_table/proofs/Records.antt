@@ -3,12 +3,10 @@
 -- Assumes nothing.
 use mathlib.Core.Path.{_≡_, refl, sym, ap, _∙_}
 use mathlib.Core.List.{List, [], _∷_, _++_}
-use Prim.Native.Nat.{ℕ, zero, suc, _+_, _*_, _/_, _%_, _≤_, _<_}
-use native.Mathlib.Nat.{mod-lt}
+use Prim.Native.Nat.{ℕ, zero, suc, _+_, _*_, _/_, _%_, _<_}
 use native.Mathlib.Omega.{arith}
 use lib.ListN.{length, getD, set, take, List·getD-append}
 use lib.Seq.{ext-getD, take-nil}
-use Rattle.ledger.specs.Ring.{tabulate}
 use Rattle.ledger.specs.declared.Flow.{Flow}
 use Rattle.ledger.proofs.Walks.{length-tabulate, getD-tabulate}
 use Rattle.flow_table.specs.Words.{flowWords, wordPlace, countOf, flowAt, withFlow, wordsOf, firstFlows, flowsOf, idle}

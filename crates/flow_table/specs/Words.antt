@@ -93,3 +93,7 @@ pub record Table (ws : List ℕ) : Type 0 where
 pub record Fits (ws : List ℕ) (k : ℕ) : Type 0 where
   pub low : flowAt ws k .low < psns
   pub next : flowAt ws k .next < psns
+
+-- those of the first n flows are
+abbrev pub AllFit : ℕ → List ℕ → Type 0
+AllFit n ws = (k : ℕ) → k < n → Fits ws k

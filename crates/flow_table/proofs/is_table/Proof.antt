@@ -1,5 +1,4 @@
 -- `is_table` makes the tests of `isTable`, of the count that `count` gives.
-use mathlib.Core.Path.{refl}
 use mathlib.Core.Bool.{and-assoc}
 use Rattle.rules.specs.Test.{inside}
 use Rattle.flow_table.specs.Words.{isTable}
