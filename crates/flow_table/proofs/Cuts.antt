@@ -16,7 +16,7 @@ use Rattle.bits.specs.Bits.{wordBits}
 use Rattle.ledger.specs.Memory.{Memory, memory}
 use Rattle.ledger.specs.Sound.{isCapacity, Lengths}
 use Rattle.ledger.proofs.Geometry.{cap-facts}
-use Rattle.flow_table.specs.Parts.{part, around, wordsIn, partOf, putPart, Rings}
+use Rattle.flow_table.specs.Parts.{part, around, wordsIn, partOf, putPart, Rings, Within}
 
 -- ---- lists
 
@@ -131,7 +131,17 @@ module _ (n cap k : ℕ) (m : Memory) (M : Rings n cap m) (l : k < n) where
   slots-in : k * cap + cap ≤ n * cap
   slots-in = part-in k n cap l
 
-  -- flow k's part is a ring
+  -- flow k's part lies in each of the four slices
+  pub ring-within : Within cap k m
+  ring-within =
+      record {
+        outstanding = omega (arith, words-in, M .outstanding);
+        marked = omega (arith, words-in, M .marked);
+        sizes = omega (arith, slots-in, M .sizes);
+        sent = omega (arith, slots-in, M .sent);
+      }
+
+  -- and is a ring
   pub ring-lengths : Rings 1 cap (partOf cap k m)
   unfolding partOf
   ring-lengths =

@@ -2,14 +2,19 @@
 -- from the other.
 -- Assumes nothing.
 use mathlib.Core.Path.{_≡_, refl, sym, ap, _∙_}
+use mathlib.Core.Bool.{false, and-false}
 use mathlib.Core.List.{List, [], _∷_, _++_}
 use Prim.Native.Nat.{ℕ, zero, suc, _+_, _*_, _/_, _%_, _<_}
 use native.Mathlib.Omega.{arith}
+use lib.Dec.{leb}
 use lib.ListN.{length, getD, set, take, List·getD-append}
 use lib.Seq.{ext-getD, take-nil}
+use borrow.Author.Tests.{eq-eqb, lt-leb}
+use Rattle.rules.specs.Test.{inside}
 use Rattle.ledger.specs.declared.Flow.{Flow}
 use Rattle.ledger.proofs.Walks.{length-tabulate, getD-tabulate}
-use Rattle.flow_table.specs.Words.{flowWords, wordPlace, countOf, flowAt, withFlow, wordsOf, firstFlows, flowsOf, idle}
+use Rattle.flow_table.specs.Words.{flowWords, flowsMost, wordPlace, countOf, isTable, flowAt, withFlow}
+use Rattle.flow_table.specs.Words.{wordsOf, firstFlows, flowsOf, noFlow}
 
 -- ---- the words of records
 
@@ -21,11 +26,22 @@ words-length (f ∷ fs) = omega (arith, words-length fs)
 pub words-count : (fs : List Flow) → countOf (wordsOf fs) ≡ length fs
 words-count fs = omega (arith, words-length fs)
 
+-- they are those of a table where there are one to eight records
+pub words-table : (fs : List Flow) → isTable (wordsOf fs) ≡ inside 1 (length fs) flowsMost
+unfolding isTable
+words-table fs =
+    let e : length (wordsOf fs) ≡ flowWords * countOf (wordsOf fs) = omega (arith, words-length fs) in
+    rw (eq-eqb _ _ e, words-count fs)
+
+pub many-no-table : (fs : List Flow) → flowsMost < length fs → isTable (wordsOf fs) ≡ false
+unfolding inside
+many-no-table fs many = words-table fs ∙ rw (lt-leb (length fs) flowsMost many) (and-false (leb 1 (length fs)))
+
 -- a word of flow k + 1 is one of flow k, four words on
 later : (k i : ℕ) → wordPlace (suc k) i ≡ suc (suc (suc (suc (wordPlace k i))))
 later k i = omega arith
 
-pub words-flow : (fs : List Flow) (k : ℕ) → flowAt (wordsOf fs) k ≡ getD fs k idle
+pub words-flow : (fs : List Flow) (k : ℕ) → flowAt (wordsOf fs) k ≡ getD fs k noFlow
 unfolding flowAt wordsOf
 words-flow [] k = refl
 words-flow (f ∷ fs) zero = refl
@@ -71,9 +87,9 @@ pub first-length : (n : ℕ) (ws : List ℕ) → length (firstFlows n ws) ≡ n
 unfolding firstFlows
 first-length n ws = length-tabulate (flowAt ws) n
 
-pub first-at : (n : ℕ) (ws : List ℕ) (k : ℕ) → k < n → getD (firstFlows n ws) k idle ≡ flowAt ws k
+pub first-at : (n : ℕ) (ws : List ℕ) (k : ℕ) → k < n → getD (firstFlows n ws) k noFlow ≡ flowAt ws k
 unfolding firstFlows
-first-at n ws k l = getD-tabulate (flowAt ws) idle n k l
+first-at n ws k l = getD-tabulate (flowAt ws) noFlow n k l
 
 -- the first flows' words are the words
 pub first-words : (n : ℕ) (ws : List ℕ) → length ws ≡ flowWords * n → wordsOf (firstFlows n ws) ≡ ws
@@ -87,14 +103,14 @@ words-flows ws e = first-words (countOf ws) ws e
 pub flows-words : (fs : List Flow) → flowsOf (wordsOf fs) ≡ fs
 flows-words fs =
     let n = first-length (countOf (wordsOf fs)) (wordsOf fs) ∙ words-count fs in
-    ext-getD idle (flowsOf (wordsOf fs)) fs n (λ k l. first-at (countOf (wordsOf fs)) (wordsOf fs) k (omega (arith, words-count fs))
+    ext-getD noFlow (flowsOf (wordsOf fs)) fs n (λ k l. first-at (countOf (wordsOf fs)) (wordsOf fs) k (omega (arith, words-count fs))
     ∙ words-flow fs k)
 
 -- the first flows stand in the first words
 pub first-front : (n : ℕ) (ws vs : List ℕ) → length ws ≡ flowWords * n → firstFlows n (ws ++ vs) ≡ firstFlows n ws
 unfolding flowAt
 first-front n ws vs e =
-    ext-getD idle (firstFlows n (ws ++ vs)) (firstFlows n ws) (first-length n (ws ++ vs) ∙ sym (first-length n ws)) (λ k l.
+    ext-getD noFlow (firstFlows n (ws ++ vs)) (firstFlows n ws) (first-length n (ws ++ vs) ∙ sym (first-length n ws)) (λ k l.
     let h : k < n = omega (arith, first-length n (ws ++ vs)) in
     let front : (i : ℕ) → i < flowWords → getD (ws ++ vs) (wordPlace k i) 0 ≡ getD ws (wordPlace k i) 0 =
     λ i m. List·getD-append ws vs 0 (wordPlace k i) (omega arith) in

@@ -11,31 +11,31 @@ use lib.Seq.{length-take-le, take-all, take-suc, drop-cons, set-at}
 use Rattle.serial.specs.Psn.{psns}
 use Rattle.ledger.specs.declared.Flow.{Flow}
 use Rattle.flow_table.specs.Words.{flowWords, flowsMost, backlogPlace, wordPlace, flowAt, withFlow, wordsOf}
-use Rattle.flow_table.specs.Words.{firstFlows, idle, AllFit}
+use Rattle.flow_table.specs.Words.{firstFlows, noFlow, AllFit}
 use Rattle.flow_table.specs.Lent.{filled, overFirst, withRecord}
 use Rattle.flow_table.specs.declared.lent.Flows.{Flows}
 use Rattle.flow_table.proofs.Places.{fits-with}
 use Rattle.flow_table.proofs.Records.{words-length, words-set, first-length, first-at}
 
--- idle records up to eight are one and the rest
-one-more : (i : ℕ) → i < flowsMost → replicate (flowsMost - i) idle ≡ idle ∷ replicate (flowsMost - (i + 1)) idle
+-- records of zeros up to eight are one and the rest
+one-more : (i : ℕ) → i < flowsMost → replicate (flowsMost - i) noFlow ≡ noFlow ∷ replicate (flowsMost - (i + 1)) noFlow
 one-more i l = let e : flowsMost - i ≡ suc (flowsMost - (i + 1)) = omega arith in rw e
 
-pub filled-next : (i : ℕ) (ys : List Flow) → i < length ys → i < flowsMost → set (filled i ys) i (getD ys i idle) ≡ filled (i + 1) ys
+pub filled-next : (i : ℕ) (ys : List Flow) → i < length ys → i < flowsMost → set (filled i ys) i (getD ys i noFlow) ≡ filled (i + 1) ys
 filled-next i ys l r =
-    let rest = replicate (flowsMost - (i + 1)) idle in
-    let left : set (filled i ys) i (getD ys i idle) ≡ take i ys ++ getD ys i idle ∷ rest =
-    rw (one-more i r) (set-at (take i ys) idle rest (getD ys i idle) i (length-take-le i ys (omega arith))) in
-    let more : take (i + 1) ys ≡ take i ys ++ (getD ys i idle ∷ []) = rw add-one (take-suc ys i idle l) in
+    let rest = replicate (flowsMost - (i + 1)) noFlow in
+    let left : set (filled i ys) i (getD ys i noFlow) ≡ take i ys ++ getD ys i noFlow ∷ rest =
+    rw (one-more i r) (set-at (take i ys) noFlow rest (getD ys i noFlow) i (length-take-le i ys (omega arith))) in
+    let more : take (i + 1) ys ≡ take i ys ++ (getD ys i noFlow ∷ []) = rw add-one (take-suc ys i noFlow l) in
     left ∙ rw more (simp append-assoc)
 
 pub over-next : (i : ℕ) (fs ys : List Flow) → i < length fs → i < length ys
-    → set (overFirst i fs ys) i (getD fs i idle) ≡ overFirst (i + 1) fs ys
+    → set (overFirst i fs ys) i (getD fs i noFlow) ≡ overFirst (i + 1) fs ys
 over-next i fs ys l r =
-    let left : set (overFirst i fs ys) i (getD fs i idle) ≡ take i fs ++ getD fs i idle ∷ drop (suc i) ys =
-    rw (drop-cons ys i idle r)
-    (set-at (take i fs) (getD ys i idle) (drop (suc i) ys) (getD fs i idle) i (length-take-le i fs (omega arith))) in
-    let more : take (i + 1) fs ≡ take i fs ++ (getD fs i idle ∷ []) = rw add-one (take-suc fs i idle l) in
+    let left : set (overFirst i fs ys) i (getD fs i noFlow) ≡ take i fs ++ getD fs i noFlow ∷ drop (suc i) ys =
+    rw (drop-cons ys i noFlow r)
+    (set-at (take i fs) (getD ys i noFlow) (drop (suc i) ys) (getD fs i noFlow) i (length-take-le i fs (omega arith))) in
+    let more : take (i + 1) fs ≡ take i fs ++ (getD fs i noFlow ∷ []) = rw add-one (take-suc fs i noFlow l) in
     left ∙ rw (more, add-one) (simp append-assoc)
 
 pub length-over : (i : ℕ) (fs ys : List Flow) → i ≤ length fs → i ≤ length ys → length (overFirst i fs ys) ≡ length ys
@@ -72,17 +72,17 @@ module _ (at : List Flow) (long : length at ≡ flowsMost) where
         ∙ ap (λ (n : ℕ). flowWords * n) (filled-length k at (omega (arith, s .few)) (s .few))
 
     -- a turn: the next record's words
-    pub spelt-next : (f : Flow) → k < flowsMost → f ≡ getD at k idle → f .low < psns → f .next < psns → (vs : List ℕ)
+    pub spelt-next : (f : Flow) → k < flowsMost → f ≡ getD at k noFlow → f .low < psns → f .next < psns → (vs : List ℕ)
         → vs ≡ withFlow ws k f → Spelt at (k + 1) vs
     spelt-next f m g low next vs e =
         let there : wordPlace k backlogPlace < length ws = omega (arith, spelt-length) in
         record {
           few = omega arith;
-          words = rw (e, s .words, g) (words-set (filled k at) k (getD at k idle) ∙ ap wordsOf (filled-next k at (omega arith) m));
+          words = rw (e, s .words, g) (words-set (filled k at) k (getD at k noFlow) ∙ ap wordsOf (filled-next k at (omega arith) m));
           fit = λ j h. rw e (fits-with ws k f there low next j (λ ne. s .fit j (omega (arith, ne))));
         }
 
--- ---- `from_words` after k turns: k records are read, and the others are idle
+-- ---- `from_words` after k turns: k records are read, and the others are zeros
 
 abbrev pub firstRead : ℕ → List ℕ → ℕ → Flows
 firstRead n ws k = record { n = n; at = filled k (firstFlows n ws) }
@@ -90,6 +90,6 @@ firstRead n ws k = record { n = n; at = filled k (firstFlows n ws) }
 pub read-next : (n : ℕ) (ws : List ℕ) (k : ℕ) (fs : Flows) (f : Flow) → n ≤ flowsMost → k < n → fs ≡ firstRead n ws k → f ≡ flowAt ws k
     → withRecord fs k f ≡ firstRead n ws (k + 1)
 read-next n ws k fs f few l e g =
-    let h : f ≡ getD (firstFlows n ws) k idle = g ∙ sym (first-at n ws k l) in
+    let h : f ≡ getD (firstFlows n ws) k noFlow = g ∙ sym (first-at n ws k l) in
     rw (e, h) (ap (λ (at : List Flow). record { n = n; at = at }) (filled-next k (firstFlows n ws) (omega (arith, first-length n ws))
     (omega arith)))

@@ -5,16 +5,16 @@ use mathlib.Core.List.{List, _++_}
 use Prim.Native.Nat.{ℕ, _-_, min}
 use lib.ListN.{length, take, drop, set, replicate}
 use Rattle.ledger.specs.declared.Flow.{Flow}
-use Rattle.flow_table.specs.Words.{flowsMost, wordsOf, firstFlows, idle}
+use Rattle.flow_table.specs.Words.{flowsMost, wordsOf, firstFlows, noFlow}
 use Rattle.flow_table.specs.declared.lent.Flows.{Flows}
 
 -- how many records of a table of n are taken over: all of them, in a table that is none too long
 abbrev pub room : ℕ → ℕ
 room n = min n flowsMost
 
--- the first i records of a table, and idle ones up to eight
+-- the first i records of a table, and records of zeros up to eight
 abbrev pub filled : ℕ → List Flow → List Flow
-filled i ys = take i ys ++ replicate (flowsMost - i) idle
+filled i ys = take i ys ++ replicate (flowsMost - i) noFlow
 
 -- the lent table, by value
 abbrev pub loaded : List Flow → Flows
@@ -28,9 +28,9 @@ overFirst i fs ys = take i fs ++ drop i ys
 abbrev pub saved : Flows → List Flow → List Flow
 saved fs ys = overFirst (room (length ys)) (fs .at) ys
 
--- eight idle records, in a table of n
-abbrev pub allIdle : ℕ → Flows
-allIdle n = record { n = n; at = replicate flowsMost idle }
+-- eight records of zeros, in a table of n
+abbrev pub noFlows : ℕ → Flows
+noFlows n = record { n = n; at = replicate flowsMost noFlow }
 
 -- the table by value with another record for flow k
 abbrev pub withRecord : Flows → ℕ → Flow → Flows
@@ -41,5 +41,5 @@ abbrev pub valueWords : Flows → List ℕ
 valueWords fs = wordsOf (fs .at)
 
 -- the table by value of the first n flows' words
-abbrev pub valueOf : ℕ → List ℕ → Flows
-valueOf n ws = record { n = n; at = filled n (firstFlows n ws) }
+abbrev pub valueFrom : ℕ → List ℕ → Flows
+valueFrom n ws = record { n = n; at = filled n (firstFlows n ws) }

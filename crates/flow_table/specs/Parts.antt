@@ -3,7 +3,7 @@
 -- Assumes nothing.
 use mathlib.Core.Path.{_≡_}
 use mathlib.Core.List.{List, _++_}
-use Prim.Native.Nat.{ℕ, _*_, _/_}
+use Prim.Native.Nat.{ℕ, _+_, _*_, _/_, _≤_}
 use lib.ListN.{length, take, drop}
 use Rattle.bits.specs.Bits.{wordBits}
 use Rattle.ledger.specs.Memory.{Memory, memory}
@@ -39,3 +39,10 @@ pub record Rings (n cap : ℕ) (m : Memory) : Type 0 where
   pub marked : length (m .marked) ≡ n * wordsIn cap
   pub sizes : length (m .sizes) ≡ n * cap
   pub sent : length (m .sent) ≡ n * cap
+
+-- flow k's part lies in each of the four slices
+pub record Within (cap k : ℕ) (m : Memory) : Type 0 where
+  pub outstanding : k * wordsIn cap + wordsIn cap ≤ length (m .outstanding)
+  pub marked : k * wordsIn cap + wordsIn cap ≤ length (m .marked)
+  pub sizes : k * cap + cap ≤ length (m .sizes)
+  pub sent : k * cap + cap ≤ length (m .sent)

@@ -80,8 +80,8 @@ abbrev pub flowsOf : List ℕ → List Flow
 flowsOf ws = firstFlows (countOf ws) ws
 
 -- a record of zeros: what a table shows past its end
-abbrev pub idle : Flow
-idle = record { low = 0; next = 0; held = 0; backlog = 0 }
+abbrev pub noFlow : Flow
+noFlow = record { low = 0; next = 0; held = 0; backlog = 0 }
 
 -- the test of a table, as facts
 pub record Table (ws : List ℕ) : Type 0 where

@@ -5,8 +5,8 @@ use ledger::Flow;
 ghost use mathlib.Core.Path.{_≡_};
 ghost use Prim.Native.Nat.{_*_, _<_, _≤_};
 ghost use lib.ListN.{length, getD};
-ghost use Rattle.flow_table.specs.Words.{flowWords, flowsMost, AllFit, idle};
-ghost use Rattle.flow_table.specs.Lent.{room, loaded, saved, allIdle, withRecord, valueWords, valueOf};
+ghost use Rattle.flow_table.specs.Words.{flowWords, flowsMost, AllFit, noFlow};
+ghost use Rattle.flow_table.specs.Lent.{room, loaded, saved, noFlows, withRecord, valueWords, valueFrom};
 
 // The words of eight flows.
 pub const WORDS_MOST: usize = 32;
@@ -20,13 +20,13 @@ pub struct Flows {
 // The record of flow k. An inner step: the caller proves that there is room for it.
 pub fn nth(fs: Flows, k: usize) -> Flow
     requires { ⌜ k < flowsMost ⌝ }
-    ensures { λ r. ⌜ r ≡ getD (fs .at) k idle ⌝ }
+    ensures { λ r. ⌜ r ≡ getD (fs .at) k noFlow ⌝ }
 {
     fs.at[k]
 }
 
 // The record of flow k becomes f. An inner step: the caller proves that there is room for it.
-pub fn with_flow(fs: Flows, k: usize, f: Flow) -> Flows
+pub fn with_record(fs: Flows, k: usize, f: Flow) -> Flows
     requires { ⌜ k < flowsMost ⌝ }
     ensures { λ r. ⌜ r ≡ withRecord fs k f ⌝ }
 {
@@ -35,9 +35,9 @@ pub fn with_flow(fs: Flows, k: usize, f: Flow) -> Flows
     next
 }
 
-// Eight idle records, in a table of n.
-pub fn idle_flows(n: usize) -> Flows
-    ensures { λ r. ⌜ r ≡ allIdle n ⌝ }
+// Eight records of zeros, in a table of n.
+pub fn no_flows(n: usize) -> Flows
+    ensures { λ r. ⌜ r ≡ noFlows n ⌝ }
 {
     let f = Flow {
         low: 0,
@@ -61,10 +61,10 @@ pub fn load(table: &mut [Flow]) -> Flows
 {
     let n = table.len();
     let m = taken(n);
-    let mut fs = idle_flows(n);
+    let mut fs = no_flows(n);
     let mut i = 0;
     while i < m {
-        fs = with_flow(fs, i, table[i]);
+        fs = with_record(fs, i, table[i]);
         i += 1;
     }
     fs
@@ -101,13 +101,13 @@ pub fn to_words(fs: Flows) -> [u64; WORDS_MOST]
 pub fn from_words(n: usize, words: &[u64]) -> Flows
     requires { ⌜ (n ≤ flowsMost) × (flowWords * n ≤ length (now words)) ⌝ }
     requires { ⌜ AllFit n (now words) ⌝ }
-    ensures { λ r. ⌜ r ≡ valueOf n (now (words .entry)) ⌝ }
+    ensures { λ r. ⌜ r ≡ valueFrom n (now (words .entry)) ⌝ }
 {
-    let mut fs = idle_flows(n);
+    let mut fs = no_flows(n);
     let mut k = 0;
     while k < n {
         let f = crate::flow_at(words, k);
-        fs = with_flow(fs, k, f);
+        fs = with_record(fs, k, f);
         k += 1;
     }
     fs

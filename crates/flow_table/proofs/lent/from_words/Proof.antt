@@ -13,11 +13,11 @@ Inv-loop n words fs₀ k₀ fs k = (k ≤ n) × (fs ≡ firstRead n words k)
 abbrev μ-loop : tie.MeasureT-loop
 μ-loop n words fs₀ k₀ fs k = n - k
 
-idle-flows-requires : tie.Need-idle-flows-requires Inv-loop μ-loop
-idle-flows-requires c κs = search needs
+no-flows-requires : tie.Need-no-flows-requires Inv-loop μ-loop
+no-flows-requires c κs = search needs
 
 loop-holds : tie.Need-loop-holds Inv-loop μ-loop
-loop-holds c = (omega arith, c .idle-flows .ensures)
+loop-holds c = (omega arith, c .no-flows .ensures)
 
 flow-at-requires : tie.Need-flow-at-requires Inv-loop μ-loop
 flow-at-requires c κs =
@@ -25,8 +25,8 @@ flow-at-requires c κs =
     let a = l .before .before .before in
     (omega (arith, a .pre .0 .1), a .pre .1 (l .loop .k) (omega arith))
 
-with-flow-requires : tie.Need-with-flow-requires Inv-loop μ-loop
-with-flow-requires c κs =
+with-record-requires : tie.Need-with-record-requires Inv-loop μ-loop
+with-record-requires c κs =
     let a = c .before .before .before .before .before in
     omega (arith, a .pre .0 .0)
 
@@ -41,7 +41,7 @@ loop-again c =
     let l = c .before .before .before in
     let a = l .before .before .before in (
       omega arith,
-      c .with-flow .ensures ∙ read-next (a .args .n) (a .args .words .now) (l .loop .k) (l .loop .fs)
+      c .with-record .ensures ∙ read-next (a .args .n) (a .args .words .now) (l .loop .k) (l .loop .fs)
           (c .before .flow-at .result)
           (a .pre .0 .0) (omega arith) (l .loop .inv .1) (c .before .flow-at .ensures),
     )
@@ -59,10 +59,10 @@ from-words-spec =
     (tie.spec
     Inv-loop
     μ-loop
-    idle-flows-requires
+    no-flows-requires
     loop-holds
     flow-at-requires
-    with-flow-requires
+    with-record-requires
     add-k
     loop-less
     loop-again

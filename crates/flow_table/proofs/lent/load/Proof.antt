@@ -1,5 +1,5 @@
 -- `lent::load` meets its contract: a walk of its MIR, by hand. The borrow is opened once, before the loop; a turn takes record i out of the
--- row, reads it, puts it back and hands it to `with_flow`; after the loop the borrow is closed at the same list.
+-- row, reads it, puts it back and hands it to `with_record`; after the loop the borrow is closed at the same list.
 -- The loop's variant is a number t, and i is what m has over it. What the table by value owns is facts alone, which are carried round.
 -- Assumes nothing.
 use mathlib.Core.Path.{_≡_, refl, sym, ap, _∙_, subst}
@@ -52,7 +52,7 @@ use denote.Triple.Table.{entered, cited}
 use denote.Triple.Walked.{says, Stays, stay-slice, walkOf, goes-slice, Walks, ends-at, walked, walk-meets}
 use Rattle.ledger.specs.declared.Flow.{Flow}
 use Rattle.flow_table.specs.declared.lent.Flows.{Flows}
-use Rattle.flow_table.specs.Words.{idle}
+use Rattle.flow_table.specs.Words.{noFlow}
 use Rattle.flow_table.specs.Lent.{room, filled, withRecord}
 use Rattle.flow_table.proofs.Turns.{filled-next}
 use Rattle.flow_table.proofs.Plain.{flow-bytes, calls-plain, outcome}
@@ -64,14 +64,14 @@ use Rattle.flow_table.proofs.lent.taken as taken
 use Rattle.flow_table.proofs.lent.taken.Symbol as taken-def
 use Rattle.flow_table.proofs.lent.taken.Symbol.{name as #taken}
 use Rattle.flow_table.proofs.lent.taken.Met as taken-thm
-use Rattle.flow_table.proofs.lent.idle_flows as idle-flows
-use Rattle.flow_table.proofs.lent.idle_flows.Symbol as idle-flows-def
-use Rattle.flow_table.proofs.lent.idle_flows.Symbol.{name as #idle-flows}
-use Rattle.flow_table.proofs.lent.idle_flows.Met as idle-flows-thm
-use Rattle.flow_table.proofs.lent.with_flow as with-flow
-use Rattle.flow_table.proofs.lent.with_flow.Symbol as with-flow-def
-use Rattle.flow_table.proofs.lent.with_flow.Symbol.{name as #with-flow}
-use Rattle.flow_table.proofs.lent.with_flow.Met as with-flow-thm
+use Rattle.flow_table.proofs.lent.no_flows as no-flows
+use Rattle.flow_table.proofs.lent.no_flows.Symbol as no-flows-def
+use Rattle.flow_table.proofs.lent.no_flows.Symbol.{name as #no-flows}
+use Rattle.flow_table.proofs.lent.no_flows.Met as no-flows-thm
+use Rattle.flow_table.proofs.lent.with_record as with-record
+use Rattle.flow_table.proofs.lent.with_record.Symbol as with-record-def
+use Rattle.flow_table.proofs.lent.with_record.Symbol.{name as #with-record}
+use Rattle.flow_table.proofs.lent.with_record.Met as with-record-thm
 use Rattle.flow_table.proofs.lent.load.Key.{name as #load}
 use Rattle.flow_table.proofs.lent.load as load′
 use Rattle.flow_table.proofs.lent.load.Statement as stated
@@ -95,11 +95,11 @@ module _ {M : Type 1} (𝓤 : URA M) (H : Heap 𝓤) (A : Atoms 𝓤) (mem : Mem
   abbrev Taken : Contract 𝓤
   Taken = tripleOf 𝓤 H A taken.signature (taken.spec 𝓤 H A mem run)
 
-  abbrev IdleFlows : Contract 𝓤
-  IdleFlows = tripleOf 𝓤 H A idle-flows.signature (idle-flows.spec 𝓤 H A mem run)
+  abbrev NoFlows : Contract 𝓤
+  NoFlows = tripleOf 𝓤 H A no-flows.signature (no-flows.spec 𝓤 H A mem run)
 
-  abbrev WithFlow : Contract 𝓤
-  WithFlow = tripleOf 𝓤 H A with-flow.signature (with-flow.spec 𝓤 H A mem run)
+  abbrev WithRecord : Contract 𝓤
+  WithRecord = tripleOf 𝓤 H A with-record.signature (with-record.spec 𝓤 H A mem run)
 
 module _ {M : Type 1} (𝓤 : URA M) (H : Heap 𝓤) (A : Atoms 𝓤) (W : Given 𝓤 H A) (mem : Memory → SProp 𝓤) (run : Routine → Fun 𝓤) (κ : Lft)
     (q : Share) (b o : ℕ) (γ : GName) (ys : List Flow) (space : Room T.the-row (length ys)) where
@@ -138,13 +138,13 @@ module _ {M : Type 1} (𝓤 : URA M) (H : Heap 𝓤) (A : Atoms 𝓤) (W : Given
   to-taken = qed W [] ∵ nothing ! $ owned ! usize (Is usize) (uint-makes 𝓤 H A W w64) n _ (refl, space .0) $ fjoin ! $ nothing ! $ join ! $
       nothing ! $ move ! (1 ∷ 0 ∷ []) $ join ! $ done !
 
-  to-idle : ent 𝓤 (emp 𝓤) (IdleFlows 𝓤 H A mem run .pre ((tt, tt, tt, (n, tt), (vint w64 n ∷ [], tt)), tt))
-  to-idle = qed W [] ∵ nothing ! $ owned ! usize (Is usize) (uint-makes 𝓤 H A W w64) n _ (refl, space .0) $ fjoin ! $ nothing ! $ join ! $
+  to-none : ent 𝓤 (emp 𝓤) (NoFlows 𝓤 H A mem run .pre ((tt, tt, tt, (n, tt), (vint w64 n ∷ [], tt)), tt))
+  to-none = qed W [] ∵ nothing ! $ owned ! usize (Is usize) (uint-makes 𝓤 H A W w64) n _ (refl, space .0) $ fjoin ! $ nothing ! $ join ! $
       nothing ! $ move ! (1 ∷ 0 ∷ []) $ join ! $ done !
 
   to-with : (i : ℕ) (f : Flow) → i < 8 → Is F.the-row (partly i) (fvals (partly i)) → Is T.the-row f (vals f)
       → ent 𝓤 (emp 𝓤)
-      (WithFlow 𝓤 H A mem run .pre ((tt, tt, tt, (partly i, (i, (f, tt))), (fvals (partly i), (vint w64 i ∷ [], (vals f, tt)))), tt))
+      (WithRecord 𝓤 H A mem run .pre ((tt, tt, tt, (partly i, (i, (f, tt))), (fvals (partly i), (vint w64 i ∷ [], (vals f, tt)))), tt))
   to-with i f l is isf =
       qed W [] ∵ says ! l $ nothing ! $ owned ! T.the-row (Is T.the-row) (LL.makes T.the-type T′.the-plain 𝓤 H A) f _ isf $ fjoin ! $
       owned ! usize (Is usize) (uint-makes 𝓤 H A W w64) i _ (refl, omega arith) $ fjoin ! $
@@ -154,20 +154,20 @@ module _ {M : Type 1} (𝓤 : URA M) (H : Heap 𝓤) (A : Atoms 𝓤) (W : Given
   of-taken : (r : ℕ) → ent 𝓤 (ensured 𝓤 H A taken.ended (taken.clauses 𝓤 H A mem run) tt (n, tt) tt r) (fact 𝓤 (r ≡ m))
   of-taken r = exE 𝓤 _ (λ ws. snd∗ 𝓤 (sem 𝓤 H A (lasts taken.ended tt (n, tt) ws)) (fact 𝓤 (r ≡ m)))
 
-  of-idle : (r : Flows) → ent 𝓤 (ensured 𝓤 H A idle-flows.ended (idle-flows.clauses 𝓤 H A mem run) tt (n, tt) tt r) (fact 𝓤 (r ≡ partly 0))
-  of-idle r = exE 𝓤 _ (λ ws. snd∗ 𝓤 (sem 𝓤 H A (lasts idle-flows.ended tt (n, tt) ws)) (fact 𝓤 (r ≡ partly 0)))
+  of-none : (r : Flows) → ent 𝓤 (ensured 𝓤 H A no-flows.ended (no-flows.clauses 𝓤 H A mem run) tt (n, tt) tt r) (fact 𝓤 (r ≡ partly 0))
+  of-none r = exE 𝓤 _ (λ ws. snd∗ 𝓤 (sem 𝓤 H A (lasts no-flows.ended tt (n, tt) ws)) (fact 𝓤 (r ≡ partly 0)))
 
-  of-with : (i : ℕ) (f : Flow) (r : Flows) → ent 𝓤 (ensured 𝓤 H A with-flow.ended (with-flow.clauses 𝓤 H A mem run) tt
+  of-with : (i : ℕ) (f : Flow) (r : Flows) → ent 𝓤 (ensured 𝓤 H A with-record.ended (with-record.clauses 𝓤 H A mem run) tt
       (partly i, (i, (f, tt))) tt r) (fact 𝓤 (r ≡ withRecord (partly i) i f))
-  of-with i f r = exE 𝓤 _ (λ ws. snd∗ 𝓤 (sem 𝓤 H A (lasts with-flow.ended tt (partly i, (i, (f, tt))) ws))
+  of-with i f r = exE 𝓤 _ (λ ws. snd∗ 𝓤 (sem 𝓤 H A (lasts with-record.ended tt (partly i, (i, (f, tt))) ws))
       (fact 𝓤 (r ≡ withRecord (partly i) i f)))
 
-  next-is : (i : ℕ) (r : Flows) → i < m → r ≡ withRecord (partly i) i (getD ys i idle) → r ≡ partly (i + 1)
+  next-is : (i : ℕ) (r : Flows) → i < m → r ≡ withRecord (partly i) i (getD ys i noFlow) → r ≡ partly (i + 1)
   next-is i r l e = e ∙ ap (λ (fs : List Flow). record { n = n; at = fs }) (filled-next i ys (omega arith) (omega arith))
 
   module _ (𝓣 : Tables 𝓤 H) (known-taken : Triple 𝓤 (𝓣 .C #taken) (Taken 𝓤 H A mem run))
-      (known-idle : Triple 𝓤 (𝓣 .C #idle-flows) (IdleFlows 𝓤 H A mem run))
-      (known-with : Triple 𝓤 (𝓣 .C #with-flow) (WithFlow 𝓤 H A mem run)) where
+      (known-none : Triple 𝓤 (𝓣 .C #no-flows) (NoFlows 𝓤 H A mem run))
+      (known-with : Triple 𝓤 (𝓣 .C #with-record) (WithRecord 𝓤 H A mem run)) where
     module _ (l₀ l₁ l₂ l₃ l₄ l₅ l₆ l₇ l₈ l₉ : ℕ) where
       abbrev slice-ty : Ty
       slice-ty = sliceTy (tyRef (named 0) mut (pointee (T.the-row .written)))
@@ -220,17 +220,17 @@ module _ {M : Type 1} (𝓤 : URA M) (H : Heap 𝓤) (A : Atoms 𝓤) (W : Given
           (load ! (from ! (stop !)) (look ! 12 refl)) tt) (from ! (stop !)) (init ! 10 refl (tt, tt)) $
           rewrite ! 10 (λ (p : ℕ). ‵ (fat fullShare tyPtr l₈ 0 (vptr b p))) (sym (place-is flow-bytes o i)) refl $
           move ! (1 ∷ []) $ elem-out ! T.the-row (Is T.the-row) (shows 𝓤 H A T.the-row) vals (LL.tells T.the-type T′.the-laws) fullShare ys
-          i idle b o below (λ g.
+          i noFlow b o below (λ g.
           -- [table[i]; what it owns; the others; what fs owns; the open borrow; obs; auth; true; table's fact; true; _9; …]
           assigns ! (of-opd ! (load ! (from ! (hop ! (look ! 12 refl) (stop !))) (look-raw ! 0 refl))) (from ! (stop !))
-          (init ! 10 refl (LL.lawful T.the-type T′.the-laws 𝓤 H A W .typed (getD ys i idle) _ g .0)) $
-          elem-back ! T.the-row fullShare ys i idle (vals (getD ys i idle)) b o below $
+          (init ! 10 refl (LL.lawful T.the-type T′.the-laws 𝓤 H A W .typed (getD ys i noFlow) _ g .0)) $
+          elem-back ! T.the-row fullShare ys i noFlow (vals (getD ys i noFlow)) b o below $
           move ! (1 ∷ []) $ peeks ! F.the-row (Is F.the-row) (shows 𝓤 H A F.the-row) (partly i) (fvals (partly i)) (λ is. drop ! $
-          calls-plain ! (fmOf 𝓤 H (W .laws) 𝓣) (WithFlow 𝓤 H A mem run) known-with
-          ((tt, tt, tt, (partly i, (i, (getD ys i idle, tt))), (fvals (partly i), (vint w64 i ∷ [], (vals (getD ys i idle), tt)))), tt)
-          (to-with i (getD ys i idle) (omega arith) is g)
-          F.the-row (ensured 𝓤 H A with-flow.ended (with-flow.clauses 𝓤 H A mem run) tt (partly i, (i, (getD ys i idle, tt))) tt)
-          (λ v. id⊢ 𝓤 _) (λ r. r ≡ withRecord (partly i) i (getD ys i idle)) (of-with i (getD ys i idle))
+          calls-plain ! (fmOf 𝓤 H (W .laws) 𝓣) (WithRecord 𝓤 H A mem run) known-with
+          ((tt, tt, tt, (partly i, (i, (getD ys i noFlow, tt))), (fvals (partly i), (vint w64 i ∷ [], (vals (getD ys i noFlow), tt)))), tt)
+          (to-with i (getD ys i noFlow) (omega arith) is g)
+          F.the-row (ensured 𝓤 H A with-record.ended (with-record.clauses 𝓤 H A mem run) tt (partly i, (i, (getD ys i noFlow, tt))) tt)
+          (λ v. id⊢ 𝓤 _) (λ r. r ≡ withRecord (partly i) i (getD ys i noFlow)) (of-with i (getD ys i noFlow))
           (and-then ! (load ! (from ! (stop !)) (look ! 18 refl)) (and-then ! (load ! (from ! (stop !)) (look ! 16 refl))
           (and-then ! (load ! (from ! (stop !)) (look ! 8 refl)) (no-more !)))) (λ v r e′ isr.
           land ! (from ! (stop !)) (store ! 18 refl (LL.lawful F.the-type F′.the-laws 𝓤 H A W .typed r _ isr .0)) $
@@ -307,9 +307,9 @@ module _ {M : Type 1} (𝓤 : URA M) (H : Heap 𝓤) (A : Atoms 𝓤) (W : Given
         land ! (from ! (stop !)) (init ! 13 refl (uint-lawful 𝓤 H A W w64 .typed r _ is .0)) $
         rewrite ! 13 (λ (u : Val). ‵ (fat fullShare (tyInt w64) l₃ 0 u)) (ap only (is .0)) refl $
         rewrite ! 13 (λ (k : ℕ). ‵ (fat fullShare (tyInt w64) l₃ 0 (vint w64 k))) e refl $ drop ! $
-        calls-plain ! (fmOf 𝓤 H (W .laws) 𝓣) (IdleFlows 𝓤 H A mem run) known-idle ((tt, tt, tt, (n, tt), (vint w64 n ∷ [], tt)), tt) to-idle
-        F.the-row (ensured 𝓤 H A idle-flows.ended (idle-flows.clauses 𝓤 H A mem run) tt (n, tt) tt) (λ v. id⊢ 𝓤 _) (λ r. r ≡ partly 0)
-        of-idle (and-then ! (load ! (from ! (stop !)) (look ! 15 refl)) (no-more !)) (λ v r e is.
+        calls-plain ! (fmOf 𝓤 H (W .laws) 𝓣) (NoFlows 𝓤 H A mem run) known-none ((tt, tt, tt, (n, tt), (vint w64 n ∷ [], tt)), tt) to-none
+        F.the-row (ensured 𝓤 H A no-flows.ended (no-flows.clauses 𝓤 H A mem run) tt (n, tt) tt) (λ v. id⊢ 𝓤 _) (λ r. r ≡ partly 0)
+        of-none (and-then ! (load ! (from ! (stop !)) (look ! 15 refl)) (no-more !)) (λ v r e is.
         land ! (from ! (stop !)) (init ! 11 refl (LL.lawful F.the-type F′.the-laws 𝓤 H A W .typed r _ is .0)) $
         rewrite ! 11 (λ (u : Val). ‵ (fat fullShare F′.mir l₄ 0 u)) (ap only (LL.tells F.the-type F′.the-laws r _ is)) refl $
         rewrite ! 11 (λ (fs : Flows). ‵ (fat fullShare F′.mir l₄ 0 (fval fs))) e refl $
@@ -320,14 +320,14 @@ module _ {M : Type 1} (𝓤 : URA M) (H : Heap 𝓤) (A : Atoms 𝓤) (W : Given
 
 module _ {M : Type 1} (𝓤 : URA M) (H : Heap 𝓤) (A : Atoms 𝓤) (W : Given 𝓤 H A) (mem : Memory → SProp 𝓤) (run : Routine → Fun 𝓤)
     (𝓣 : Tables 𝓤 H) (known-taken : Triple 𝓤 (𝓣 .C #taken) (Taken 𝓤 H A mem run))
-    (known-idle : Triple 𝓤 (𝓣 .C #idle-flows) (IdleFlows 𝓤 H A mem run))
-    (known-with : Triple 𝓤 (𝓣 .C #with-flow) (WithFlow 𝓤 H A mem run)) where
+    (known-none : Triple 𝓤 (𝓣 .C #no-flows) (NoFlows 𝓤 H A mem run))
+    (known-with : Triple 𝓤 (𝓣 .C #with-record) (WithRecord 𝓤 H A mem run)) where
   load-walks : Walks 𝓤 H A load′.ended stayed (WpFn 𝓤 H (𝓣 .C) (𝓣 .Λ) code.function) (load′.clauses 𝓤 H A mem run)
   load-walks = walked 𝓤 H A load′.ended stayed (load′.clauses 𝓤 H A mem run) (WpFn 𝓤 H (𝓣 .C) (𝓣 .Λ) code.function)
       (λ κs. (slice-vals, tt))
       (λ κs. (mut-slice-tells (named 0) (κs .0) T.the-row, tt))
       (λ κs qs bounds a g are. via 𝓤 _ (fst∗ 𝓤 _ (emp 𝓤)) (walk 𝓤 H A W mem run (κs .0) (qs .0) (a .0 .ptr .0) (a .0 .ptr .1) (a .0 .name)
-      (a .0 .now) (are .0 .0 .1) 𝓣 known-taken known-idle known-with))
+      (a .0 .now) (are .0 .0 .1) 𝓣 known-taken known-none known-with))
 
   load-meets : Meets 𝓤 H A load′.signature (WpFn 𝓤 H (𝓣 .C) (𝓣 .Λ) code.function) (load′.spec 𝓤 H A mem run)
   load-meets =
@@ -342,7 +342,8 @@ load-spec 𝓤 H 𝓜 𝓖 𝓡 =
     (load-meets 𝓤 H (𝓖 .A) (givenOf 𝓤 H 𝓜 𝓖) (𝓜 .mem) (𝓡 .run) (tablesOf 𝓤 H 𝓜 (tables 𝓤 H 𝓜 𝓡 code.env))
     (cited 𝓤 H (Taken 𝓤 H (𝓖 .A) (𝓜 .mem) (𝓡 .run)) 𝓜 𝓡 code.env #taken taken-def.routine code.calls-flow-table·lent·taken
     (taken-thm.met 𝓤 H 𝓜 𝓖 𝓡))
-    (cited 𝓤 H (IdleFlows 𝓤 H (𝓖 .A) (𝓜 .mem) (𝓡 .run)) 𝓜 𝓡 code.env #idle-flows idle-flows-def.routine
-    code.calls-flow-table·lent·idle-flows (idle-flows-thm.met 𝓤 H 𝓜 𝓖 𝓡))
-    (cited 𝓤 H (WithFlow 𝓤 H (𝓖 .A) (𝓜 .mem) (𝓡 .run)) 𝓜 𝓡 code.env #with-flow with-flow-def.routine code.calls-flow-table·lent·with-flow
-    (with-flow-thm.met 𝓤 H 𝓜 𝓖 𝓡)))
+    (cited 𝓤 H (NoFlows 𝓤 H (𝓖 .A) (𝓜 .mem) (𝓡 .run)) 𝓜 𝓡 code.env #no-flows no-flows-def.routine
+    code.calls-flow-table·lent·no-flows (no-flows-thm.met 𝓤 H 𝓜 𝓖 𝓡))
+    (cited 𝓤 H (WithRecord 𝓤 H (𝓖 .A) (𝓜 .mem) (𝓡 .run)) 𝓜 𝓡 code.env #with-record with-record-def.routine
+    code.calls-flow-table·lent·with-record
+    (with-record-thm.met 𝓤 H 𝓜 𝓖 𝓡)))

@@ -53,7 +53,7 @@ use denote.Shadow.{pureI}
 use denote.Triple.Walked.{says, Stays, stay-slice, stay-none, walkOf, goes-slice, goes-none, Walks, ends-at, walked, walk-meets}
 use Rattle.ledger.specs.declared.Flow.{Flow}
 use Rattle.flow_table.specs.declared.lent.Flows.{Flows}
-use Rattle.flow_table.specs.Words.{idle}
+use Rattle.flow_table.specs.Words.{noFlow}
 use Rattle.flow_table.specs.Lent.{room, overFirst}
 use Rattle.flow_table.proofs.Eight as Eight
 use Rattle.flow_table.proofs.Turns.{over-next, length-over}
@@ -161,10 +161,10 @@ module _ {M : Type 1} (𝓤 : URA M) (H : Heap 𝓤) (A : Atoms 𝓤) (W : Given
   of-taken r = exE 𝓤 _ (λ ws. snd∗ 𝓤 (sem 𝓤 H A (lasts taken.ended tt (n, tt) ws)) (fact 𝓤 (r ≡ m)))
 
   of-nth : (i : ℕ) (r : Flow) → ent 𝓤 (ensured 𝓤 H A nth.ended (nth.clauses 𝓤 H A mem run) tt (fs, (i, tt)) tt r)
-      (fact 𝓤 (r ≡ getD (fs .at) i idle))
-  of-nth i r = exE 𝓤 _ (λ ws. snd∗ 𝓤 (sem 𝓤 H A (lasts nth.ended tt (fs, (i, tt)) ws)) (fact 𝓤 (r ≡ getD (fs .at) i idle)))
+      (fact 𝓤 (r ≡ getD (fs .at) i noFlow))
+  of-nth i r = exE 𝓤 _ (λ ws. snd∗ 𝓤 (sem 𝓤 H A (lasts nth.ended tt (fs, (i, tt)) ws)) (fact 𝓤 (r ≡ getD (fs .at) i noFlow)))
 
-  next-is : (i : ℕ) (r : Flow) → i < m → r ≡ getD (fs .at) i idle → set (zs i) i r ≡ zs (i + 1)
+  next-is : (i : ℕ) (r : Flow) → i < m → r ≡ getD (fs .at) i noFlow → set (zs i) i r ≡ zs (i + 1)
   next-is i r l e = ap (set (zs i) i) e ∙ over-next i (fs .at) ys (omega (arith, eight)) (omega arith)
 
   module _ (𝓣 : Tables 𝓤 H) (known-taken : Triple 𝓤 (𝓣 .C #taken) (Taken 𝓤 H A mem run))
@@ -224,7 +224,7 @@ module _ {M : Type 1} (𝓤 : URA M) (H : Heap 𝓤) (A : Atoms 𝓤) (W : Given
           calls-plain ! (fmOf 𝓤 H (W .laws) 𝓣) (Nth 𝓤 H A mem run) known-nth
           ((tt, tt, tt, (fs, (i, tt)), (fvals fs, (vint w64 i ∷ [], tt))), tt) (to-nth i (omega arith))
           T.the-row (ensured 𝓤 H A nth.ended (nth.clauses 𝓤 H A mem run) tt (fs, (i, tt)) tt) (λ v. id⊢ 𝓤 _)
-          (λ r. r ≡ getD (fs .at) i idle)
+          (λ r. r ≡ getD (fs .at) i noFlow)
           (of-nth i)
           (and-then ! (load ! (from ! (stop !)) (look ! 21 refl)) (and-then ! (load ! (from ! (stop !)) (look ! 17 refl)) (no-more !)))
           (λ v r e′ isv.
@@ -238,7 +238,7 @@ module _ {M : Type 1} (𝓤 : URA M) (H : Heap 𝓤) (A : Atoms 𝓤) (W : Given
           assigns ! (bin ! (load ! (from ! (fld ! refl (stop !))) (look-in ! 22 (sub ! 0 refl (whole !))))
           (load ! (from ! (stop !)) (look ! 8 refl)) tt) (from ! (stop !)) (init ! 6 refl (tt, tt)) $
           rewrite ! 6 (λ (p : ℕ). ‵ (fat fullShare tyPtr l₉ 0 (vptr b p))) (sym (place-is flow-bytes o i)) refl $
-          elem-out ! T.the-row (Is T.the-row) (shows 𝓤 H A T.the-row) vals (LL.tells T.the-type T′.the-laws) fullShare (zs i) i idle b o
+          elem-out ! T.the-row (Is T.the-row) (shows 𝓤 H A T.the-row) vals (LL.tells T.the-type T′.the-laws) fullShare (zs i) i noFlow b o
           below (λ _.
           -- [table[i]; what it owns; the others; the open borrow; obs; auth; true; fs's; _9; …]
           assigns ! (of-opd ! (load ! (from ! (stop !)) (look ! 12 refl))) (from ! (hop ! (look ! 8 refl) (stop !)))
