@@ -156,8 +156,12 @@ module _ (x : Context) (S : SoundContext x) where
       record {
         flying = omega (arith, n, but-le k (addsAt flyingOne x) (flowCount x) 4096 (λ j l. few-flying (flow-facts j l)));
         marked = omega (arith, n, but-le k (addsAt markedOne x) (flowCount x) 4096 (λ j l. few-marked (flow-facts j l)));
-        bytes = omega (arith, n, but-le k (addsAt markedSize x) (flowCount x) (4096 * 2 ^ 14)
-            (λ j l. few-bytes (omega (arith, S .range .mtu-high)) (flow-facts j l)));
+        bytes = omega (
+          arith,
+          n,
+          but-le k (addsAt markedSize x) (flowCount x) (4096 * 2 ^ 14)
+              (λ j l. few-bytes (omega (arith, S .range .mtu-high)) (flow-facts j l)),
+        );
         backlog = omega (arith, n, but-le k (λ j. flowIn x j .backlog) (flowCount x) (2 ^ 40) (λ j l. flow-facts j l .backlog));
       }
 

@@ -3,9 +3,9 @@
 mod join;
 pub mod rely;
 
+use ledger::Totals;
 use rules::verdict::Verdict;
 use sender::Feedback;
-use ledger::Totals;
 use window::Settings;
 use window::Window;
 

@@ -537,8 +537,15 @@ pub totals-test : (maxwnd : ℕ) (t : Totals) (f : Flow) (s : Tally) (xs : List 
     → (totalsOk t s && inBounds maxwnd (t .«in_flight»)) ≡ tallies maxwnd alone t f xs
 unfolding totalsOk tallies
 totals-test maxwnd t f s xs flying marked bytes backlog =
-    rw (zero-add (sumOf flyingOne xs), zero-add (sumOf markedOne xs), zero-add (sumOf markedSize xs), zero-add (f .backlog), marked, bytes,
-    backlog)
+    rw (
+      zero-add (sumOf flyingOne xs),
+      zero-add (sumOf markedOne xs),
+      zero-add (sumOf markedSize xs),
+      zero-add (f .backlog),
+      marked,
+      bytes,
+      backlog,
+    )
     (ap (λ (b : Bool). ((b && eqb (t .«marked_bytes») (s .«marked_bytes»)) && eqb (t .backlog) (s .backlog))
     && inBounds maxwnd (t .«in_flight»))
     (outstanding-test (t .flying) (t .marked) (sumOf flyingOne xs) (s .marked) (s .outstanding) flying))

@@ -209,5 +209,6 @@ pub fn is_sound<'a>(
     if !stands(flow, outstanding, marked, sizes, sent, mtu, clock) {
         return false;
     }
-    totals_ok(totals, tally_of(flow, outstanding, marked, sizes, sent)) & in_bounds(maxwnd, totals.in_flight)
+    totals_ok(totals, tally_of(flow, outstanding, marked, sizes, sent))
+        & in_bounds(maxwnd, totals.in_flight)
 }

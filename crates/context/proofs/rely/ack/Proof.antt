@@ -57,9 +57,11 @@ returns c =
     let s = start n in
     let out : flowCount (handed s) ≤ s .args .flow = omega (arith, c .before .if1 .taken, n .count .ensures) in
     let e = c .no-flow .ensures in
-    let answer = no-flow-decided (s .args .flow) (handed s) (late s) _ out e _ in
-    (answer, no-flow-says (ackSampling (s .args .time) (s .args .a) (viewOf (worldAt (s .args .flow) (handed s)))) answer
-        (not-zero (late s) e))
+    let answer = no-flow-decided (s .args .flow) (handed s) (late s) _ out e _ in (
+      answer,
+      no-flow-says (ackSampling (s .args .time) (s .args .a) (viewOf (worldAt (s .args .flow) (handed s)))) answer
+          (not-zero (late s) e),
+    )
 
 -- a flow in range
 inside : (e : tie.Else1) → start (e .before) .args .flow < flowCount (handed (start (e .before)))
