@@ -58,6 +58,7 @@ zeros-machine =
       next = omega arith;
       flying = omega arith;
       marked = omega arith;
+      backlog = refl;
       fast = omega arith;
       trigger = omega arith;
       cursor = omega arith;
