@@ -5,7 +5,7 @@ use crate::sides::{assert_alike, set_up, set_up_model, set_up_ours, Model};
 use crate::table::Table;
 use crate::timing::{race, Clock, Times};
 use differential::{answer_of, Call};
-use model::{number_two, Event, NewData, Send, Settings};
+use model::{number_two, Event, NewData, Path, Send, Settings};
 use nscc::Context;
 use std::hint::black_box;
 
@@ -97,7 +97,7 @@ pub fn full_test(table: &mut Table) {
 
 fn test_of(capacity: usize, packets: usize) -> Times {
     let (mut context, mut model) = filled(capacity, packets);
-    let early = [Event::Path { time: 0 }];
+    let early = [Event::from(Path { time: 0, flow: 0 })];
     assert_eq!(take(&mut context, &mut model, &early), TIME);
     assert_alike(&context, &model);
     let many = 160_000 / capacity;
@@ -119,12 +119,13 @@ fn filled(capacity: usize, packets: usize) -> (Context, Model) {
     let settings = Settings::from_numbers(numbers, 0, false);
     let (mut context, mut model) = (Context::empty(capacity), Model::empty(capacity));
     set_up(&mut context, &mut model, &settings);
-    let (time, size) = (1, 1024);
+    let (time, flow, size) = (1, 0, 1024);
     let bytes = 1 + u64::from(size) * packets as u64;
-    let mut events = vec![Event::from(NewData { time, bytes })];
+    let mut events = vec![Event::from(NewData { time, flow, bytes })];
     events.extend((0..packets as u32).map(|psn| {
         Event::from(Send {
             time,
+            flow,
             size,
             psn,
             resend: false,

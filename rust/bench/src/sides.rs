@@ -44,7 +44,7 @@ pub fn set_up_model(model: &mut Model, settings: &Settings) {
 /// Fails unless both sides are left alike.
 pub fn assert_alike(context: &Context, model: &Model) {
     let memory = &model.memory;
-    assert_eq!(context.words, words_of(&model.state));
+    assert_eq!(context.words, words_of(&model.state, &memory.flows[0]));
     assert_eq!(context.outstanding, memory.outstanding);
     assert_eq!(context.marked, memory.marked);
     assert_eq!(context.sizes, memory.sizes);

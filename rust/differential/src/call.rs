@@ -1,6 +1,9 @@
-use model::{Event, Loss, NewData, Outcome, Sampling, Send};
+use model::{Event, Loss, NewData, Outcome, Path, Sampling, Send};
 use nscc::raw::Lent;
 use nscc::{Ack, Nack, Sample};
+
+/// The model's number of the library's one flow.
+pub const FLOW: u64 = 0;
 
 /// A call of a C function, with fields as wide as the function takes them.
 #[derive(Clone, Debug, PartialEq, Eq)]
@@ -79,11 +82,13 @@ impl Call {
     }
 
     /// The model's event; `None` for setting up and for readings. The model's EVs and reasons are
-    /// narrower: a wider one is handed to it as its widest, which it refuses alike.
+    /// narrower: a wider one is handed to it as its widest, which it refuses alike. The library has
+    /// one flow, so every event is of flow 0.
     pub fn event(&self) -> Option<Event> {
+        let flow = FLOW;
         let event = match *self {
             Call::SetUp { .. } | Call::Status { .. } | Call::NextMarked { .. } => return None,
-            Call::NewData { time, bytes } => NewData { time, bytes }.into(),
+            Call::NewData { time, bytes } => NewData { time, flow, bytes }.into(),
             Call::Send {
                 time,
                 psn,
@@ -91,6 +96,7 @@ impl Call {
                 resend,
             } => Event::Send(Send {
                 time,
+                flow,
                 size: bytes,
                 psn,
                 resend,
@@ -99,17 +105,19 @@ impl Call {
             Call::Nack(nack) => Event::Nack(model_nack(&nack)),
             Call::Loss { time, psn, ev } => Event::Loss(Loss {
                 time,
+                flow,
                 psn,
                 ev: narrow_ev(ev),
             }),
-            Call::Path { time } => Event::Path { time },
+            Call::Path { time } => Event::Path(Path { time, flow }),
         };
         Some(event)
     }
 
+    /// The call of an event of flow 0.
     pub fn of(event: &Event) -> Call {
         match *event {
-            Event::NewData(NewData { time, bytes }) => Call::NewData { time, bytes },
+            Event::NewData(NewData { time, bytes, .. }) => Call::NewData { time, bytes },
             Event::Send(send) => Call::Send {
                 time: send.time,
                 psn: send.psn,
@@ -135,12 +143,12 @@ impl Call {
                 marked: nack.marked,
                 retx: nack.retx,
             }),
-            Event::Loss(Loss { time, psn, ev }) => Call::Loss {
+            Event::Loss(Loss { time, psn, ev, .. }) => Call::Loss {
                 time,
                 psn,
                 ev: ev.into(),
             },
-            Event::Path { time } => Call::Path { time },
+            Event::Path(Path { time, .. }) => Call::Path { time },
         }
     }
 }
@@ -148,6 +156,7 @@ impl Call {
 fn model_ack(ack: &Ack) -> model::Ack {
     model::Ack {
         time: ack.time,
+        flow: FLOW,
         cum: ack.cum,
         map: ack.map,
         trigger: ack.trigger,
@@ -162,6 +171,7 @@ fn model_ack(ack: &Ack) -> model::Ack {
 fn model_nack(nack: &Nack) -> model::Nack {
     model::Nack {
         time: nack.time,
+        flow: FLOW,
         psn: nack.psn,
         ev: narrow_ev(nack.ev),
         reason: nack.reason.try_into().unwrap_or(u8::MAX),

@@ -4,7 +4,7 @@ use crate::call::Call;
 use crate::numbers::{edge, least_base};
 use crate::source::{Source, View};
 use model::bounds::{BACKLOG_MAX, COUNT_END, IN_FLIGHT_MIN, PSN_REACH, TIME_END, UNIT};
-use model::lent::size_of;
+use model::ring::size_of;
 use nscc::{Ack, Nack};
 
 impl Source {
@@ -51,7 +51,7 @@ impl Source {
     }
 
     fn edge_bytes(&mut self, view: &View) -> u64 {
-        let left = BACKLOG_MAX - view.state.backlog;
+        let left = BACKLOG_MAX - view.flow.backlog;
         let any = edge(&mut self.rng);
         let rare = self.rng.one_in(8);
         let bytes = [0, 1, 41, left + 1, any, if rare { left } else { 1 << 20 }];
@@ -59,7 +59,7 @@ impl Source {
     }
 
     pub(crate) fn edge_psn(&mut self, view: &View) -> u32 {
-        let (low, next) = (view.state.low, view.state.next);
+        let (low, next) = (view.flow.low, view.flow.next);
         let inside = low.wrapping_add(self.rng.below(u64::from(view.span()) + 1) as u32);
         self.rng.pick(&[
             low.wrapping_sub(1),
@@ -90,9 +90,9 @@ impl Source {
     fn edge_send(&mut self, view: &View, time: u64) -> Call {
         let mtu = view.state.settings.mtu as u32;
         let any = self.rng.between(41, u64::from(mtu)) as u32;
-        let over_backlog = (view.state.backlog as u32).saturating_add(1).min(mtu);
+        let over_backlog = (view.flow.backlog as u32).saturating_add(1).min(mtu);
         let psn = self.edge_psn(view);
-        let next = view.state.next;
+        let next = view.flow.next;
         let psn = self.rng.pick(&[psn, psn, next, next]);
         let number = view.memory.sizes[view.slot(psn)];
         let held = size_of(number);
@@ -121,10 +121,10 @@ impl Source {
 
     fn edge_ack(&mut self, view: &View, time: u64) -> Ack {
         // From below low the map still reaches into the ledger.
-        let below = view.state.low.wrapping_sub(self.rng.below(70) as u32);
+        let below = view.flow.low.wrapping_sub(self.rng.below(70) as u32);
         let edge = self.edge_psn(view);
         let cum = self.rng.pick(&[edge, edge, below]);
-        let map = self.edge_map(view.state.next.wrapping_sub(1).wrapping_sub(cum));
+        let map = self.edge_map(view.flow.next.wrapping_sub(1).wrapping_sub(cum));
         let any = self.edge_psn(view);
         let trigger = self.rng.pick(&[
             cum,
@@ -200,7 +200,7 @@ impl Source {
             0 => self
                 .rng
                 .pick(&[COUNT_END - 1, COUNT_END, 1 << 25, u32::MAX]),
-            _ => ((u64::from(view.state.held) + ahead) % end) as u32,
+            _ => ((u64::from(view.flow.held) + ahead) % end) as u32,
         }
     }
 

@@ -4,7 +4,7 @@ use crate::call::{Answer, Call};
 use crate::shorten::thin;
 use crate::sides::{Model, Ours};
 use crate::tally::Tally;
-use model::lent::{bit, resends_of, size_of, WORD};
+use model::ring::{bit, resends_of, size_of, WORD};
 use std::fmt::Write;
 
 /// Both sides answer the call; then all that was lent is compared.

@@ -1,14 +1,16 @@
 //! The two sides of a comparison: the model's, and the memory that the C functions are lent.
 
-use crate::call::{Answer, Call};
+use crate::call::{Answer, Call, FLOW};
 use crate::words::{state_of, words_of};
-use model::{Memory, Outcome, Refusal, Settings, State};
+use model::{Flow, Memory, Outcome, Refusal, Settings, State};
 use nscc::raw::Lent;
 use nscc::{Word, EVS_MIN, WORDS};
 
 const UNSOUND: u8 = Refusal::NotTogether as u8;
 
-/// A context as the model has it, with the state in words, so that any words can be handed in.
+/// A context as the model has it, with the state in words, so that any words can be handed in. The
+/// one flow's record is among the words too: that in `memory` is written from them by
+/// [`Model::lend`].
 #[derive(Clone, Debug, PartialEq, Eq)]
 pub struct Model {
     pub words: Vec<u64>,
@@ -29,34 +31,55 @@ impl Model {
     }
 
     /// `None` for words that no state has.
-    pub fn state(&self) -> Option<State> {
+    pub fn state(&self) -> Option<(State, Flow)> {
         state_of(&self.words)
     }
 
-    pub fn set_state(&mut self, state: &State) {
+    /// The state with all that is lent, a table of one flow included; `None` for words that no state
+    /// has.
+    pub fn lend(&mut self) -> Option<(State, model::Lent<'_>)> {
+        let (state, flow) = self.state()?;
+        self.memory.flows.fill(flow);
+        Some((state, self.memory.lend()))
+    }
+
+    /// The same for a log of which nothing is done: a state and a flow of zeros, which a refused
+    /// setting up leaves.
+    pub fn lend_new(&mut self) -> (State, model::Lent<'_>) {
+        self.memory.flows.fill(Flow::default());
+        (State::default(), self.memory.lend())
+    }
+
+    pub fn set_state(&mut self, state: &State, flow: &Flow) {
         self.words.clear();
-        self.words.extend(words_of(state));
+        self.words.extend(words_of(state, flow));
+    }
+
+    /// Writes the words of this state and of the flow that was lent.
+    pub fn store(&mut self, state: &State) {
+        let flow = self.memory.flows[0];
+        self.set_state(state, &flow);
     }
 
     pub fn sound(&mut self) -> bool {
-        let state = self.state();
-        state.is_some_and(|state| model::number_two(&state, &self.memory.lend()))
+        let lent = self.lend();
+        lent.is_some_and(|(state, lent)| model::number_two(&state, &lent))
     }
 
     pub fn answer(&mut self, call: &Call) -> Answer {
         match *call {
             Call::Status { psn } => self.read(|state, lent| {
-                let status = state.status(lent, psn)?;
+                let status = state.status(lent, FLOW, psn)?;
                 Ok(status.map_or(0, |status| status.number().into()))
             }),
-            Call::NextMarked { psn } => self.read(|state, lent| state.next_marked(lent, psn)),
+            Call::NextMarked { psn } => self.read(|state, lent| state.next_marked(lent, FLOW, psn)),
             _ => self.take(call).into(),
         }
     }
 
     fn read(&mut self, show: impl FnOnce(&State, &model::Lent) -> Result<u32, Refusal>) -> Answer {
-        let state = self.state().ok_or(Refusal::NotTogether);
-        match state.and_then(|state| show(&state, &self.memory.lend())) {
+        let lent = self.lend().ok_or(Refusal::NotTogether);
+        match lent.and_then(|(state, lent)| show(&state, &lent)) {
             Ok(shown) => Answer {
                 outcome: Outcome::default(),
                 shown: Some(shown),
@@ -69,11 +92,11 @@ impl Model {
         let Some(event) = call.event() else {
             return self.set_up(call).into();
         };
-        let Some(mut state) = self.state() else {
+        let Some((mut state, mut lent)) = self.lend() else {
             return UNSOUND.into();
         };
-        let outcome = state.take(&mut self.memory.lend(), &event);
-        self.set_state(&state);
+        let outcome = state.take(&mut lent, &event);
+        self.store(&state);
         outcome
     }
 
@@ -102,7 +125,7 @@ impl Model {
         }
         let (number, state) = State::set_up(&settings, &mut self.memory.lend());
         if number == 0 {
-            self.set_state(&state);
+            self.store(&state);
         }
         number
     }

@@ -7,8 +7,8 @@ use model::bounds::{
     AVG_MAX, BACKLOG_MAX, COUNT_END, INC_BYTES_MAX, IN_FLIGHT_MIN, LATER_END, SIZE_MIN, TALLY_MAX,
     TIME_END,
 };
-use model::lent::{bit, number_of, set_bit, size_of, WORD};
-use model::{Memory, Name, Rng, State, Status};
+use model::ring::{bit, number_of, set_bit, size_of, WORD};
+use model::{Flow, Memory, Name, Rng, State, Status};
 
 /// A state with a ring of this capacity.
 pub fn sound(rng: &mut Rng, capacity: usize) -> Model {
@@ -23,13 +23,15 @@ pub fn sound(rng: &mut Rng, capacity: usize) -> Model {
     };
     set_window(rng, &mut state);
     set_times(rng, &mut state);
+    let mut flow = flow(rng);
     let mut memory = Memory::with_evs(capacity, state.settings.ev_count as usize);
-    set_ring(rng, &mut state, &mut memory);
+    set_ring(rng, &state, &mut flow, &mut memory);
     set_in_flight(rng, &mut state);
     set_ev_times(rng, &state, &mut memory);
+    state.backlog = flow.backlog;
     settle(&mut state, &memory);
     let mut model = Model::empty(capacity);
-    model.set_state(&state);
+    model.set_state(&state, &flow);
     model.memory = memory;
     model
 }
@@ -80,21 +82,30 @@ fn set_times(rng: &mut Rng, state: &mut State) {
     let soon = clock + rng.below(2 * state.base);
     let passed = rng.below(clock + 1);
     state.qa_end = rng.pick(&[0, clock, clock + 1, soon, passed, LATER_END - 1]);
-    state.backlog = match rng.below(4) {
+}
+
+/// The one flow, before anything is in its ring.
+fn flow(rng: &mut Rng) -> Flow {
+    let backlog = match rng.below(4) {
         0 => 0,
         1 => within(rng, 0, 1 << 14),
         2 => within(rng, 0, BACKLOG_MAX),
         _ => rng.below(1 << 24),
     };
-    state.held = match rng.below(3) {
+    let held = match rng.below(3) {
         0 => rng.below(64) as u32,
         1 => COUNT_END - 1 - rng.below(64) as u32,
         _ => rng.below(COUNT_END.into()) as u32,
     };
+    Flow {
+        held,
+        backlog,
+        ..Flow::default()
+    }
 }
 
 /// Fills the ring: often all of it, or all but a few slots.
-fn set_ring(rng: &mut Rng, state: &mut State, memory: &mut Memory) {
+fn set_ring(rng: &mut Rng, state: &State, flow: &mut Flow, memory: &mut Memory) {
     use Status::{Done, Flying, Marked};
     let capacity = memory.sizes.len() as u64;
     let many = match rng.below(6) {
@@ -104,8 +115,8 @@ fn set_ring(rng: &mut Rng, state: &mut State, memory: &mut Memory) {
         3 => capacity - rng.below(capacity.min(70)),
         _ => rng.below(capacity.min(100)),
     };
-    state.low = low(rng, capacity);
-    state.next = state.low.wrapping_add(many as u32);
+    flow.low = low(rng, capacity);
+    flow.next = flow.low.wrapping_add(many as u32);
     let mixes: [&[Status]; 4] = [
         &[Flying],
         &[Flying, Flying, Marked, Done],
@@ -116,7 +127,7 @@ fn set_ring(rng: &mut Rng, state: &mut State, memory: &mut Memory) {
     // Where a mix is seldom, low passes whole words, and the next marked packet is words away.
     let (seldom, mostly) = (rng.pick(&[1, 1, 8, 100]), rng.pick(&[Flying, Done]));
     for i in 0..many {
-        let slot = (u64::from(state.low) + i) as usize % memory.sizes.len();
+        let slot = (u64::from(flow.low) + i) as usize % memory.sizes.len();
         let mixed = rng.pick(mix);
         let status = if rng.one_in(seldom) { mixed } else { mostly };
         // Low is not done.

@@ -5,13 +5,14 @@ use crate::numbers::{beside, least_base};
 use crate::profile::Profile;
 use crate::sides::Model;
 use model::bounds::{COUNT_END, SIZE_MIN, TIME_END, UNIT};
-use model::lent::{bit, resends_of, size_of};
-use model::{Memory, Rng, State, Status};
+use model::ring::{bit, resends_of, size_of};
+use model::{Flow, Memory, Rng, State, Status};
 use nscc::{Ack, Nack};
 
-/// A sound state and its ring, to choose fields by.
+/// A sound state, its one flow and the ring, to choose fields by.
 pub struct View<'a> {
     pub state: State,
+    pub flow: Flow,
     pub memory: &'a Memory,
 }
 
@@ -22,7 +23,7 @@ impl View<'_> {
 
     /// How many PSNs low..next-1 has.
     pub fn span(&self) -> u32 {
-        self.state.next.wrapping_sub(self.state.low)
+        self.flow.span()
     }
 
     pub fn evs(&self) -> u32 {
@@ -55,8 +56,8 @@ impl View<'_> {
     /// Bytes of the flying packets that an ACK does not cover.
     fn flying_behind(&self, cum: u32, map: u64) -> i64 {
         let from = cum.wrapping_add(1);
-        let many = self.state.next.wrapping_sub(from).min(self.span());
-        let after = (0..many).map(|i| self.state.next.wrapping_sub(many - i));
+        let many = self.flow.next.wrapping_sub(from).min(self.span());
+        let after = (0..many).map(|i| self.flow.next.wrapping_sub(many - i));
         let flying = after.filter(|&psn| {
             let bit = psn.wrapping_sub(from);
             let covered = bit < u64::BITS && map >> bit & 1 == 1;
@@ -70,7 +71,7 @@ impl View<'_> {
         let many = self.span();
         let from = rng.below(many.into()) as u32;
         (0..many)
-            .map(|i| self.state.low.wrapping_add((from + i) % many))
+            .map(|i| self.flow.low.wrapping_add((from + i) % many))
             .find(|&psn| statuses.contains(&self.status(psn)))
     }
 }
@@ -84,11 +85,14 @@ pub struct Source {
 impl Source {
     /// The next call; the model must be sound.
     pub fn next(&mut self, model: &Model) -> Call {
-        let Some(state) = model.state() else {
+        let Some((state, flow)) = model.state() else {
             return Call::Path { time: 0 };
         };
-        let memory = &model.memory;
-        let view = View { state, memory };
+        let view = View {
+            state,
+            flow,
+            memory: &model.memory,
+        };
         if self.profile.reads > 0 && self.rng.one_in(self.profile.reads) {
             self.reading(&view)
         } else if self.profile.edges > 0 && self.rng.one_in(self.profile.edges) {
@@ -115,7 +119,7 @@ impl Source {
     fn reading(&mut self, view: &View) -> Call {
         let edge = self.edge_psn(view);
         let inside = self.rng.below(view.span().into()) as u32;
-        let inside = view.state.low.wrapping_add(inside);
+        let inside = view.flow.low.wrapping_add(inside);
         let psn = self.rng.pick(&[edge, inside, inside]);
         if self.rng.one_in(2) {
             Call::Status { psn }
@@ -166,7 +170,7 @@ impl Source {
     /// A new packet; new data where the backlog has none.
     fn new_packet(&mut self, view: &View, time: u64) -> Call {
         let least = u64::from(SIZE_MIN);
-        let most = view.state.backlog.min(view.state.settings.mtu);
+        let most = view.flow.backlog.min(view.state.settings.mtu);
         if most < least {
             return self.new_data(view, time);
         }
@@ -180,7 +184,7 @@ impl Source {
         };
         Call::Send {
             time,
-            psn: view.state.next,
+            psn: view.flow.next,
             bytes: size as u32,
             resend: false,
         }
@@ -231,7 +235,7 @@ impl Source {
     /// for it, and the service takes up the rest.
     pub fn ack(&mut self, view: &View, time: u64) -> Ack {
         let trigger = view.packet(&mut self.rng, &[Status::Flying, Status::Marked]);
-        let trigger = trigger.unwrap_or(view.state.low.wrapping_sub(1));
+        let trigger = trigger.unwrap_or(view.flow.low.wrapping_sub(1));
         let trip = self.trip(view);
         let due = view.memory.sent[view.slot(trigger)] + trip;
         let time = time.max(due).min(TIME_END - 1);
@@ -284,9 +288,9 @@ impl Source {
 
     /// A cum and a map that cover the trigger and name sent packets only.
     fn cover(&mut self, view: &View, trigger: u32) -> (u32, u64) {
-        let last = view.state.next.wrapping_sub(1);
+        let last = view.flow.next.wrapping_sub(1);
         let ahead = last.wrapping_sub(trigger);
-        let behind = trigger.wrapping_sub(view.state.low).min(63);
+        let behind = trigger.wrapping_sub(view.flow.low).min(63);
         let up = self.rng.below(u64::from(ahead) + 1) as u32;
         let down = 1 + self.rng.below(u64::from(behind) + 1) as u32;
         let further = 1 + self.rng.below(64) as u32;
@@ -322,6 +326,6 @@ impl Source {
             30 => self.rng.below(more + 2),
             _ => behind,
         };
-        ((u64::from(view.state.held) + ahead) % u64::from(COUNT_END)) as u32
+        ((u64::from(view.flow.held) + ahead) % u64::from(COUNT_END)) as u32
     }
 }

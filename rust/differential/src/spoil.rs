@@ -7,25 +7,25 @@ use model::bounds::{
     AVG_MAX, BACKLOG_MAX, COUNT_END, EVS_MAX, EVS_MIN, INC_BYTES_MAX, LATER_END, RESENDS_MAX,
     SIZE_MIN, TALLY_MAX, TIME_END,
 };
-use model::lent::{clear_bit, number_of, resends_of, set_bit, size_of, WORD};
-use model::{Memory, Rng, Settings, State};
+use model::ring::{clear_bit, number_of, resends_of, set_bit, size_of, WORD};
+use model::{Flow, Memory, Rng, Settings, State};
 use nscc::{Word, IN_FLIGHT_ADDED, WORDS};
 
 /// A word, an element or a length. Often totals and name are then made to agree with it, so that
 /// nothing but the fault itself is wrong.
 pub fn spoil(rng: &mut Rng, model: &mut Model) {
-    let Some(state) = model.state() else {
+    let Some((state, flow)) = model.state() else {
         return;
     };
     match rng.below(16) {
         0..=7 => spoil_word(rng, model, &state),
-        8..=12 => spoil_element(rng, model, &state),
+        8..=12 => spoil_element(rng, model, &state, &flow),
         13 => spoil_evs(rng, model),
         _ => spoil_length(rng, model),
     }
-    if let Some(mut state) = model.state().filter(|_| rng.one_in(2)) {
+    if let Some((mut state, flow)) = model.state().filter(|_| rng.one_in(2)) {
         settle(&mut state, &model.memory);
-        model.set_state(&state);
+        model.set_state(&state, &flow);
     }
 }
 
@@ -85,11 +85,11 @@ fn most_cwnd(state: &State) -> u64 {
 }
 
 /// An element of the ring or an EV time. Most are in the part of the ring that is used, or beside it.
-fn spoil_element(rng: &mut Rng, model: &mut Model, state: &State) {
+fn spoil_element(rng: &mut Rng, model: &mut Model, state: &State, flow: &Flow) {
     let memory = &mut model.memory;
-    let (low, next) = (u64::from(state.low), u64::from(state.next));
-    let used = u64::from(state.next.wrapping_sub(state.low)) + 2;
-    let near = u64::from(state.low.wrapping_sub(1)) + rng.below(used);
+    let (low, next) = (u64::from(flow.low), u64::from(flow.next));
+    let used = u64::from(flow.span()) + 2;
+    let near = u64::from(flow.low.wrapping_sub(1)) + rng.below(used);
     let any = rng.next_u64();
     let [before, last] = [low, next].map(|psn| psn.wrapping_sub(1));
     let at = rng.pick(&[near, near, near, low, before, last, next, any]);

@@ -108,7 +108,8 @@ impl Seen {
         self.cuts += u64::from(changed(Word::LastDec));
         self.quick_adapts += u64::from(changed(Word::BytesToIgnore));
         self.fast_modes += u64::from(is(Word::Fast) > was(Word::Fast));
-        self.clamps += u64::from(state_of(after).is_some_and(|s| was(Word::Cwnd) > s.max_wnd()));
+        self.clamps +=
+            u64::from(state_of(after).is_some_and(|(s, _)| was(Word::Cwnd) > s.max_wnd()));
         self.psn_wraps += u64::from(is(Word::Next) < was(Word::Next));
         self.count_wraps += u64::from(is(Word::Held) < was(Word::Held));
         self.below_zero += u64::from(is(Word::InFlight) < IN_FLIGHT_ADDED as u64);

@@ -1,17 +1,19 @@
-//! The one place where the model's state meets the header's words.
+//! The one place where the model's state meets the header's words. The library has one flow, whose
+//! record is among the words; the model has it in a table of one.
 
-use model::{Name, Settings, State};
+use model::{Flow, Name, Settings, State};
 use nscc::{Word, IN_FLIGHT_ADDED, SETTINGS, WORDS};
 
-pub fn words_of(state: &State) -> [u64; WORDS] {
+/// The backlog is the state's, which is that of the one flow.
+pub fn words_of(state: &State, flow: &Flow) -> [u64; WORDS] {
     let mut words = [0; WORDS];
     words[..SETTINGS].copy_from_slice(&state.settings.numbers());
     let others = [
         (Word::FirstPsn, state.settings.first_psn.into()),
         (Word::QuickAdaptOff, state.settings.quick_adapt_off.into()),
-        (Word::Low, state.low.into()),
-        (Word::Next, state.next.into()),
-        (Word::Held, state.held.into()),
+        (Word::Low, flow.low.into()),
+        (Word::Next, flow.next.into()),
+        (Word::Held, flow.held.into()),
         (Word::Backlog, state.backlog),
         (Word::Flying, state.flying),
         (Word::Marked, state.marked),
@@ -43,20 +45,23 @@ pub fn words_of(state: &State) -> [u64; WORDS] {
 }
 
 /// `None` for words that no state has: too few or too many, or a number wider than its kind.
-pub fn state_of(words: &[u64]) -> Option<State> {
+pub fn state_of(words: &[u64]) -> Option<(State, Flow)> {
     let words = Words(words.try_into().ok()?);
     let number = |word| words.number(word);
-    Some(State {
-        settings: words.settings()?,
-        clock: number(Word::Clock),
+    let flow = Flow {
         low: words.narrow(Word::Low)?,
         next: words.narrow(Word::Next)?,
+        held: words.narrow(Word::Held)?,
+        backlog: number(Word::Backlog),
+    };
+    let state = State {
+        settings: words.settings()?,
+        clock: number(Word::Clock),
         flying: number(Word::Flying),
         marked: number(Word::Marked),
         marked_bytes: number(Word::MarkedBytes),
         backlog: number(Word::Backlog),
         in_flight: i64::try_from(number(Word::InFlight)).ok()? - IN_FLIGHT_ADDED,
-        held: words.narrow(Word::Held)?,
         cwnd: number(Word::Cwnd),
         base: number(Word::Base),
         avg: number(Word::Avg),
@@ -73,7 +78,8 @@ pub fn state_of(words: &[u64]) -> Option<State> {
         last_dec: number(Word::LastDec),
         cursor: number(Word::Cursor),
         name: name_of(number(Word::Phase))?,
-    })
+    };
+    Some((state, flow))
 }
 
 struct Words<'a>(&'a [u64; WORDS]);

@@ -15,7 +15,7 @@ struct Card {
 impl Card {
     fn show(&mut self, name: &str, call: Call) -> Outcome {
         let outcome = self.model.answer(&call).outcome;
-        let state = self.model.state().expect("words of a state");
+        let (state, _) = self.model.state().expect("words of a state");
         self.line(&format!(
             "{name} {} {} {} {} {} {} {}",
             outcome.number,
@@ -78,7 +78,8 @@ impl Card {
     }
 
     fn oldest_marked(&mut self) -> u32 {
-        let psn = self.model.state().expect("words of a state").low;
+        let (_, flow) = self.model.state().expect("words of a state");
+        let psn = flow.low;
         let shown = self.model.answer(&Call::NextMarked { psn }).shown;
         shown.expect("a sound state")
     }
@@ -149,12 +150,12 @@ fn card() {
     card.line("call ans inflight cwnd flying waiting backlog state");
     worked(&mut card);
     trimmed(&mut card);
-    let mut state = card.model.state().expect("words of a state");
+    let (mut state, flow) = card.model.state().expect("words of a state");
     let (base, avg) = (state.base, state.avg);
     card.line(&format!("base {base}, average {avg}/1024 ticks"));
     count(&mut card);
     state.cwnd = 0;
-    card.model.set_state(&state);
+    card.model.set_state(&state, &flow);
     let (time, bytes) = (341, 1);
     let refused = card.model.answer(&Call::NewData { time, bytes });
     card.line(&format!("a window of 0: {}", refused.outcome.number));

@@ -1,7 +1,7 @@
 //! The words of the header and the model's state, there and back.
 
 use differential::{state_of, words_of};
-use model::{Name, Rng, Settings, State};
+use model::{Flow, Name, Rng, Settings, State};
 use nscc::{Word, WORDS};
 
 #[test]
@@ -22,14 +22,15 @@ fn words_and_state_are_inverse() {
             words[flag as usize] = rng.below(2);
         }
         words[Word::Phase as usize] = rng.below(4);
-        let state = state_of(&words).expect("words of a state");
-        assert_eq!(words_of(&state), words);
+        let (state, flow) = state_of(&words).expect("words of a state");
+        assert_eq!(words_of(&state, &flow), words);
+        assert_eq!(state.backlog, flow.backlog);
     }
 }
 
 #[test]
 fn words_that_no_state_has() {
-    let words = words_of(&State::default());
+    let words = words_of(&State::default(), &Flow::default());
     assert_eq!(state_of(&words[1..]), None);
     let narrow = [
         Word::FirstPsn,
@@ -53,11 +54,14 @@ fn words_that_no_state_has() {
 #[test]
 fn some_words_by_number() {
     let settings = Settings::default().with_evs(39);
-    let state = State {
-        settings,
+    let flow = Flow {
         low: 14,
         next: 15,
         held: 16,
+        backlog: 17,
+    };
+    let state = State {
+        settings,
         backlog: 17,
         flying: 18,
         in_flight: -5,
@@ -67,7 +71,7 @@ fn some_words_by_number() {
         name: Name::Active,
         ..State::default()
     };
-    let words = words_of(&state);
+    let words = words_of(&state, &flow);
     for i in [14, 15, 16, 17, 18, 22, 36, 37, 39] {
         assert_eq!(words[i], i as u64);
     }

@@ -19,10 +19,14 @@ pub const UNIT: u64 = 256;
 pub const PSN_REACH: u32 = 1 << 30;
 
 pub const IN_FLIGHT_MIN: i64 = -(1 << 24);
+/// Of each flow's backlog.
 pub const BACKLOG_MAX: u64 = 1 << 40;
 pub const SIZE_MIN: u32 = 41;
 pub const RESENDS_MAX: u32 = 2;
 
+/// The greatest number of flows under one window. The least is one.
+pub const FLOWS_MAX: usize = 8;
+/// The least number of slots of a flow's ring, and the greatest. It is a power of two.
 pub const CAPACITY_MIN: usize = 64;
 pub const CAPACITY_MAX: usize = 4096;
 /// The least number of EVs, and the greatest. It is a power of two.

@@ -5,7 +5,9 @@ use crate::bounds::{
     AVG_MAX, BACKLOG_MAX, COUNT_END, INC_BYTES_MAX, IN_FLIGHT_MIN, LATER_END, RESENDS_MAX,
     SIZE_MIN, TALLY_MAX, TIME_END,
 };
-use crate::lent::{bit, ones, resends_of, size_of, Lent, WORD};
+use crate::ledger::Ledger;
+use crate::lent::Lent;
+use crate::ring::{bit, ones, resends_of, size_of, Ring, WORD};
 use crate::state::State;
 use std::ops::Range;
 
@@ -15,7 +17,8 @@ pub fn number_two(state: &State, lent: &Lent) -> bool {
         && state.settings.in_range()
         && numbers_good(state)
         && times_good(state, lent)
-        && ring_good(state, lent)
+        && flows_good(state, lent)
+        && totals_good(state, lent)
         && state.name == state.ruled_name()
 }
 
@@ -30,8 +33,6 @@ fn numbers_good(state: &State) -> bool {
     (1..=settings.config_base_rtt).contains(&state.base)
         && (settings.mtu..=state.max_wnd()).contains(&state.cwnd)
         && (IN_FLIGHT_MIN..=settings.max_wnd as i64).contains(&state.in_flight)
-        && state.backlog <= BACKLOG_MAX
-        && state.held < COUNT_END
         && state.avg <= AVG_MAX
         && state.inc_bytes <= INC_BYTES_MAX
         && tallies.iter().all(|&tally| tally <= TALLY_MAX)
@@ -47,25 +48,31 @@ fn times_good(state: &State, lent: &Lent) -> bool {
         && every(lent.ev_times, |time| time < LATER_END)
 }
 
-fn ring_good(state: &State, lent: &Lent) -> bool {
-    let span = state.span();
-    if span as usize > lent.capacity() {
+fn flows_good(state: &State, lent: &Lent) -> bool {
+    let flows = 0..lent.flows.len() as u64;
+    let mut ledgers = flows.flat_map(|flow| lent.ledger(flow));
+    ledgers.all(|ledger| flow_good(state, &ledger))
+}
+
+fn flow_good(state: &State, ledger: &Ledger) -> bool {
+    let Ledger { flow, ring } = ledger;
+    let span = flow.span();
+    if flow.backlog > BACKLOG_MAX || flow.held >= COUNT_END || span as usize > ring.capacity() {
         return false;
     }
-    let used = lent.slots(state.low, span);
-    let others = lent.slots(state.next, lent.capacity() as u32 - span);
-    marks_good(lent, &used)
+    let used = ring.slots(flow.low, span);
+    let others = ring.slots(flow.next, ring.capacity() as u32 - span);
+    marks_good(ring, &used)
         && used
             .into_iter()
-            .all(|slots| numbers_of_packets(state, lent, slots))
-        && others.into_iter().all(|slots| numbers_zero(lent, slots))
-        && low_not_done(state, lent)
-        && totals_good(state, lent)
+            .all(|slots| numbers_of_packets(state, ring, slots))
+        && others.into_iter().all(|slots| numbers_zero(ring, slots))
+        && low_not_done(ledger)
 }
 
 /// A marked slot is outstanding, and an outstanding one is used.
-fn marks_good(lent: &Lent, used: &[Range<usize>; 2]) -> bool {
-    let words = lent.outstanding.iter().zip(&*lent.marked).enumerate();
+fn marks_good(ring: &Ring, used: &[Range<usize>; 2]) -> bool {
+    let words = ring.outstanding.iter().zip(ring.marked).enumerate();
     let mut stray = words.map(|(word, (&outstanding, &marked))| {
         let used = used.iter().map(|slots| bits_within(slots, word));
         let used = used.fold(0, |all, bits| all | bits);
@@ -80,19 +87,19 @@ fn bits_within(slots: &Range<usize>, word: usize) -> u64 {
     ones(slots.end.saturating_sub(first)) & !ones(slots.start.saturating_sub(first))
 }
 
-fn numbers_of_packets(state: &State, lent: &Lent, slots: Range<usize>) -> bool {
+fn numbers_of_packets(state: &State, ring: &Ring, slots: Range<usize>) -> bool {
     let most = state.settings.mtu as u32;
     let number_good = |number| {
         let size = size_of(number);
         (size >= SIZE_MIN) & (size <= most) & (resends_of(number) <= RESENDS_MAX)
     };
-    every(&lent.sizes[slots.clone()], number_good)
-        && every(&lent.sent[slots], |time| time <= state.clock)
+    every(&ring.sizes[slots.clone()], number_good)
+        && every(&ring.sent[slots], |time| time <= state.clock)
 }
 
-fn numbers_zero(lent: &Lent, slots: Range<usize>) -> bool {
-    let numbers = lent.sizes[slots.clone()].iter();
-    let times = lent.sent[slots].iter();
+fn numbers_zero(ring: &Ring, slots: Range<usize>) -> bool {
+    let numbers = ring.sizes[slots.clone()].iter();
+    let times = ring.sent[slots].iter();
     numbers.fold(0, |all, number| all | number) == 0 && times.fold(0, |all, time| all | time) == 0
 }
 
@@ -101,11 +108,12 @@ fn every<T: Copy>(numbers: &[T], good: impl Fn(T) -> bool) -> bool {
     numbers.iter().fold(true, |all, &number| all & good(number))
 }
 
-fn low_not_done(state: &State, lent: &Lent) -> bool {
-    state.low == state.next || bit(lent.outstanding, lent.slot(state.low))
+fn low_not_done(Ledger { flow, ring }: &Ledger) -> bool {
+    flow.low == flow.next || bit(ring.outstanding, ring.slot(flow.low))
 }
 
-/// Every mark must be of a slot in use.
+/// The totals are over all flows: the words of bits are counted from end to end of the buffer. Every
+/// mark must be of a slot in use, and every flow's backlog within its bound.
 fn totals_good(state: &State, lent: &Lent) -> bool {
     let (mut flying, mut marked, mut marked_bytes) = (0, 0, 0);
     for (word, &bits) in lent.marked.iter().enumerate() {
@@ -114,9 +122,15 @@ fn totals_good(state: &State, lent: &Lent) -> bool {
         let mut rest = bits;
         while rest != 0 {
             let slot = word * WORD + rest.trailing_zeros() as usize;
-            marked_bytes += u64::from(lent.size(slot));
+            marked_bytes += u64::from(size_of(lent.sizes[slot]));
             rest &= rest - 1;
         }
     }
-    (state.flying, state.marked, state.marked_bytes) == (flying, marked, marked_bytes)
+    let backlog: u64 = lent.flows.iter().map(|flow| flow.backlog).sum();
+    (
+        state.flying,
+        state.marked,
+        state.marked_bytes,
+        state.backlog,
+    ) == (flying, marked, marked_bytes, backlog)
 }

@@ -2,13 +2,15 @@
 //! `_trusted` for a replay that has tested it once. What number 2 says must hold for the latter;
 //! an accepted event preserves it.
 //!
-//! Within an event all refusals are tested, in the order of 01, before anything changes.
+//! Within an event all refusals are tested, in the order of 01, before anything changes. An event is
+//! of one flow, which may be any number: 25 where there is no such flow (M-107).
 
 use crate::bounds::{BACKLOG_MAX, COUNT_END, SIZE_MIN, TIME_END, UNIT};
 use crate::check::number_two;
-use crate::ledger::covers;
-use crate::lent::{Lent, Status};
+use crate::ledger::{covers, Ledger, LedgerMut};
+use crate::lent::Lent;
 use crate::refusal::{number, Refusal};
+use crate::ring::Status;
 use crate::sampling::Sampling;
 use crate::settings::Settings;
 use crate::state::State;
@@ -16,12 +18,14 @@ use crate::state::State;
 #[derive(Clone, Copy, Debug, PartialEq, Eq)]
 pub struct NewData {
     pub time: u64,
+    pub flow: u64,
     pub bytes: u64,
 }
 
 #[derive(Clone, Copy, Debug, PartialEq, Eq)]
 pub struct Send {
     pub time: u64,
+    pub flow: u64,
     pub size: u32,
     pub psn: u32,
     pub resend: bool,
@@ -30,6 +34,7 @@ pub struct Send {
 #[derive(Clone, Copy, Debug, PartialEq, Eq)]
 pub struct Ack {
     pub time: u64,
+    pub flow: u64,
     /// Covers every PSN up to and including this one.
     pub cum: u32,
     /// Bit i covers cum + 1 + i.
@@ -47,6 +52,7 @@ pub struct Ack {
 #[derive(Clone, Copy, Debug, PartialEq, Eq)]
 pub struct Nack {
     pub time: u64,
+    pub flow: u64,
     pub psn: u32,
     pub ev: u16,
     pub reason: u8,
@@ -65,8 +71,16 @@ pub const OTHER: u8 = 2;
 #[derive(Clone, Copy, Debug, PartialEq, Eq)]
 pub struct Loss {
     pub time: u64,
+    pub flow: u64,
     pub psn: u32,
     pub ev: u16,
+}
+
+/// A choice of the next path, which is the same for every flow.
+#[derive(Clone, Copy, Debug, PartialEq, Eq)]
+pub struct Path {
+    pub time: u64,
+    pub flow: u64,
 }
 
 /// Any event, for those who take them from a log.
@@ -77,7 +91,7 @@ pub enum Event {
     Ack(Ack),
     Nack(Nack),
     Loss(Loss),
-    Path { time: u64 },
+    Path(Path),
 }
 
 impl From<NewData> for Event {
@@ -107,6 +121,12 @@ impl From<Nack> for Event {
 impl From<Loss> for Event {
     fn from(event: Loss) -> Event {
         Event::Loss(event)
+    }
+}
+
+impl From<Path> for Event {
+    fn from(event: Path) -> Event {
+        Event::Path(event)
     }
 }
 
@@ -140,12 +160,15 @@ impl State {
         if !lent.lengths_good(settings.ev_count) {
             return (Refusal::NotTogether.number(), State::default());
         }
-        lent.clear();
+        lent.clear(settings.first_psn);
         (0, State::fresh(*settings))
     }
 
-    pub fn new_data(&mut self, lent: &Lent, event: &NewData) -> u8 {
-        number(self.together(lent).and_then(|()| self.try_new_data(event)))
+    pub fn new_data(&mut self, lent: &mut Lent, event: &NewData) -> u8 {
+        number(
+            self.together(lent)
+                .and_then(|()| self.try_new_data(lent, event)),
+        )
     }
 
     pub fn send(&mut self, lent: &mut Lent, event: &Send) -> u8 {
@@ -173,8 +196,11 @@ impl State {
         )
     }
 
-    pub fn path(&mut self, lent: &Lent, time: u64) -> Outcome {
-        path_outcome(self.together(lent).and_then(|()| self.try_path(lent, time)))
+    pub fn path(&mut self, lent: &Lent, event: &Path) -> Outcome {
+        path_outcome(
+            self.together(lent)
+                .and_then(|()| self.try_path(lent, event)),
+        )
     }
 
     pub fn take(&mut self, lent: &mut Lent, event: &Event) -> Outcome {
@@ -184,15 +210,15 @@ impl State {
             Event::Ack(event) => self.ack(lent, event),
             Event::Nack(event) => self.nack(lent, event),
             Event::Loss(event) => self.loss(lent, event).into(),
-            Event::Path { time } => self.path(lent, *time),
+            Event::Path(event) => self.path(lent, event),
         }
     }
 }
 
 /// The same without number 2.
 impl State {
-    pub fn new_data_trusted(&mut self, event: &NewData) -> u8 {
-        number(self.try_new_data(event))
+    pub fn new_data_trusted(&mut self, lent: &mut Lent, event: &NewData) -> u8 {
+        number(self.try_new_data(lent, event))
     }
 
     pub fn send_trusted(&mut self, lent: &mut Lent, event: &Send) -> u8 {
@@ -211,39 +237,39 @@ impl State {
         number(self.try_loss(lent, event))
     }
 
-    pub fn path_trusted(&mut self, lent: &Lent, time: u64) -> Outcome {
-        path_outcome(self.try_path(lent, time))
+    pub fn path_trusted(&mut self, lent: &Lent, event: &Path) -> Outcome {
+        path_outcome(self.try_path(lent, event))
     }
 
     pub fn take_trusted(&mut self, lent: &mut Lent, event: &Event) -> Outcome {
         match event {
-            Event::NewData(event) => self.new_data_trusted(event).into(),
+            Event::NewData(event) => self.new_data_trusted(lent, event).into(),
             Event::Send(event) => self.send_trusted(lent, event).into(),
             Event::Ack(event) => self.ack_trusted(lent, event),
             Event::Nack(event) => self.nack_trusted(lent, event),
             Event::Loss(event) => self.loss_trusted(lent, event).into(),
-            Event::Path { time } => self.path_trusted(lent, *time),
+            Event::Path(event) => self.path_trusted(lent, event),
         }
     }
 }
 
-/// What the ring shows. Number 2 is tested in full, and nothing changes.
+/// What a flow's ring shows. Number 2 is tested in full, then the flow, and nothing changes.
 impl State {
     /// The status of `psn`; `None` where it is not one of low..next-1.
-    pub fn status(&self, lent: &Lent, psn: u32) -> Result<Option<Status>, Refusal> {
+    pub fn status(&self, lent: &Lent, flow: u64, psn: u32) -> Result<Option<Status>, Refusal> {
         self.together(lent)?;
-        Ok(self.slot_of(lent, psn).map(|slot| lent.status(slot)))
+        let ledger = lent.ledger(flow)?;
+        Ok(ledger.slot_of(psn).map(|slot| ledger.ring.status(slot)))
     }
 
     /// The first marked PSN from `psn` on; next where there is none, or where `psn` is not one of
     /// low..next-1.
-    pub fn next_marked(&self, lent: &Lent, psn: u32) -> Result<u32, Refusal> {
+    pub fn next_marked(&self, lent: &Lent, flow: u64, psn: u32) -> Result<u32, Refusal> {
         self.together(lent)?;
-        let in_ledger = self.slot_of(lent, psn).is_some();
-        Ok(if in_ledger {
-            self.first_marked(lent, psn)
-        } else {
-            self.next
+        let ledger = lent.ledger(flow)?;
+        Ok(match ledger.slot_of(psn) {
+            Some(_) => ledger.first_marked(psn),
+            None => ledger.flow.next,
         })
     }
 }
@@ -270,66 +296,71 @@ fn sampling_outcome(answer: Result<Sampling, Refusal>) -> Outcome {
 
 /// The events themselves.
 impl State {
-    fn try_new_data(&mut self, event: &NewData) -> Result<(), Refusal> {
+    fn try_new_data(&mut self, lent: &mut Lent, event: &NewData) -> Result<(), Refusal> {
         self.time_allowed(event.time)?;
-        let fits = event.bytes <= BACKLOG_MAX - self.backlog;
+        let mut ledger = lent.ledger_mut(event.flow)?;
+        let fits = event.bytes <= BACKLOG_MAX - ledger.flow.backlog;
         Refusal::Bytes.unless(event.bytes > 0 && fits)?;
 
-        self.backlog += event.bytes;
+        self.add_backlog(&mut ledger, event.bytes);
         self.finish(event.time);
         Ok(())
     }
 
     fn try_send(&mut self, lent: &mut Lent, event: &Send) -> Result<(), Refusal> {
         self.time_allowed(event.time)?;
+        let mut ledger = lent.ledger_mut(event.flow)?;
         let size = event.size;
         Refusal::Size.unless(size >= SIZE_MIN && u64::from(size) <= self.settings.mtu)?;
         if event.resend {
-            self.resend(lent, event)?;
+            self.resend(&mut ledger, event)?;
         } else {
-            self.send_new(lent, event)?;
+            self.send_new(&mut ledger, event)?;
         }
         self.finish(event.time);
         Ok(())
     }
 
-    fn send_new(&mut self, lent: &mut Lent, event: &Send) -> Result<(), Refusal> {
-        Refusal::WrongPacket.unless(event.psn == self.next)?;
-        Refusal::Backlog.unless(u64::from(event.size) <= self.backlog)?;
-        Refusal::RingFull.unless(self.span() as usize != lent.capacity())?;
+    fn send_new(&mut self, ledger: &mut LedgerMut, event: &Send) -> Result<(), Refusal> {
+        let Ledger { flow, ring } = ledger.read();
+        Refusal::WrongPacket.unless(event.psn == flow.next)?;
+        Refusal::Backlog.unless(u64::from(event.size) <= flow.backlog)?;
+        Refusal::RingFull.unless(flow.span() as usize != ring.capacity())?;
         Refusal::Window.unless(self.window_open())?;
 
-        self.add_packet(lent, event.time, event.size);
+        self.add_packet(ledger, event.time, event.size);
         Ok(())
     }
 
-    fn resend(&mut self, lent: &mut Lent, event: &Send) -> Result<(), Refusal> {
-        let slot = self
-            .slot_with(lent, event.psn, Status::Marked)
-            .filter(|&slot| lent.size(slot) == event.size)
+    fn resend(&mut self, ledger: &mut LedgerMut, event: &Send) -> Result<(), Refusal> {
+        let marked = ledger.read().slot_with(event.psn, Status::Marked);
+        let slot = marked
+            .filter(|&slot| ledger.ring.read().size(slot) == event.size)
             .ok_or(Refusal::WrongPacket)?;
         Refusal::Window.unless(self.window_open())?;
 
-        self.fly_again(lent, event.time, slot);
+        self.fly_again(ledger, event.time, slot);
         Ok(())
     }
 
     fn try_ack(&mut self, lent: &mut Lent, event: &Ack) -> Result<Sampling, Refusal> {
         let now = event.time;
         self.time_allowed(now)?;
+        let mut ledger = lent.ledger_mut(event.flow)?;
         Refusal::Count.unless(event.count < COUNT_END)?;
         self.ev_allowed(event.ev)?;
         Refusal::Trigger.unless(covers(event.cum, event.map, event.trigger))?;
-        Refusal::WrongAck.unless(self.names_sent(event.cum, event.map))?;
-        let forward = self.forward_units(event.count);
+        Refusal::WrongAck.unless(ledger.flow.names_sent(event.cum, event.map))?;
+        let forward = ledger.flow.forward_units(event.count);
         let falls_by = UNIT * u64::from(forward.unwrap_or(0));
         Refusal::InFlight.unless(self.may_fall_by(falls_by))?;
 
         let base_before = self.base;
-        let sampling = self.sample(lent, now, event.trigger, event.service, event.retx);
-        self.deliver_covered(lent, event.cum, event.map);
+        let (trigger, service) = (event.trigger, event.service);
+        let sampling = ledger.read().sample(now, trigger, service, event.retx);
+        self.deliver_covered(&mut ledger, event.cum, event.map);
         let newly = match forward {
-            Some(units) => self.take_count(event.count, units),
+            Some(units) => self.take_count(&mut ledger, event.count, units),
             None => 0,
         };
         self.window_on_ack(now, newly, sampling, event.marked);
@@ -343,13 +374,14 @@ impl State {
     fn try_nack(&mut self, lent: &mut Lent, event: &Nack) -> Result<Sampling, Refusal> {
         let now = event.time;
         self.time_allowed(now)?;
+        let mut ledger = lent.ledger_mut(event.flow)?;
         Refusal::Reason.unless(event.reason <= OTHER)?;
         self.ev_allowed(event.ev)?;
-        let slot = self.lost_slot(lent, event.psn)?;
+        let slot = self.lost_slot(&ledger.read(), event.psn)?;
 
         let base_before = self.base;
-        let sampling = self.sample(lent, now, event.psn, 0, event.retx);
-        let size = self.mark(lent, slot);
+        let sampling = ledger.read().sample(now, event.psn, 0, event.retx);
+        let size = self.mark(&mut ledger, slot);
         if let Some(sample) = sampling.ticks() {
             self.lower_base(sample);
         }
@@ -367,10 +399,11 @@ impl State {
     fn try_loss(&mut self, lent: &mut Lent, event: &Loss) -> Result<(), Refusal> {
         let now = event.time;
         self.time_allowed(now)?;
+        let mut ledger = lent.ledger_mut(event.flow)?;
         self.ev_allowed(event.ev)?;
-        let slot = self.lost_slot(lent, event.psn)?;
+        let slot = self.lost_slot(&ledger.read(), event.psn)?;
 
-        let size = self.mark(lent, slot);
+        let size = self.mark(&mut ledger, slot);
         self.window_on_loss(now, size);
         // A loss takes no sample: the base is still the one held before.
         lent.ev_times[usize::from(event.ev)] = now + self.base;
@@ -378,11 +411,12 @@ impl State {
         Ok(())
     }
 
-    fn try_path(&mut self, lent: &Lent, time: u64) -> Result<u16, Refusal> {
-        self.time_allowed(time)?;
+    fn try_path(&mut self, lent: &Lent, event: &Path) -> Result<u16, Refusal> {
+        self.time_allowed(event.time)?;
+        lent.flow_allowed(event.flow)?;
 
-        let ev = self.take_path(lent, time);
-        self.finish(time);
+        let ev = self.take_path(lent, event.time);
+        self.finish(event.time);
         Ok(ev)
     }
 
@@ -399,11 +433,11 @@ impl State {
     }
 
     /// The slot of a flying packet that in-flight allows to be taken out as lost.
-    fn lost_slot(&self, lent: &Lent, psn: u32) -> Result<usize, Refusal> {
-        let slot = self
-            .slot_with(lent, psn, Status::Flying)
+    fn lost_slot(&self, ledger: &Ledger, psn: u32) -> Result<usize, Refusal> {
+        let slot = ledger
+            .slot_with(psn, Status::Flying)
             .ok_or(Refusal::NotFlying)?;
-        Refusal::InFlight.unless(self.may_fall_by(u64::from(lent.size(slot))))?;
+        Refusal::InFlight.unless(self.may_fall_by(u64::from(ledger.ring.size(slot))))?;
         Ok(slot)
     }
 

@@ -1,155 +1,97 @@
-use crate::bounds::{CAPACITY_MAX, CAPACITY_MIN, EVS_USUAL};
+//! The lent memory: a table of flow records, the buffer of their rings and the EV times.
+
+use crate::bounds::{CAPACITY_MAX, CAPACITY_MIN, EVS_USUAL, FLOWS_MAX};
+use crate::flow::Flow;
+use crate::ledger::{Ledger, LedgerMut};
+use crate::refusal::Refusal;
+use crate::ring::{Ring, RingMut, WORD};
 use std::ops::Range;
 
-/// Slots of a word of marks.
-pub const WORD: usize = u64::BITS as usize;
-
-/// Where the resend count starts in a slot's number.
-const RESENDS_AT: u32 = 16;
-
-/// What a slot of low..next-1 shows. The value is the number of C.
-#[derive(Clone, Copy, Debug, PartialEq, Eq)]
-pub enum Status {
-    /// Sent, and neither covered by an ACK nor taken out as lost.
-    Flying = 1,
-    /// Taken out as lost, waiting to be resent.
-    Marked = 2,
-    /// Covered by an ACK; kept until `low` has passed it.
-    Done = 3,
-}
-
-impl Status {
-    /// By the two marks of a slot.
-    pub fn of(outstanding: bool, marked: bool) -> Status {
-        match (outstanding, marked) {
-            (false, _) => Status::Done,
-            (true, false) => Status::Flying,
-            (true, true) => Status::Marked,
-        }
-    }
-
-    pub fn number(self) -> u8 {
-        self as u8
-    }
-}
-
-/// A slot's number: the packet's size, and 2^16 times its resend count.
-pub fn number_of(size: u32, resends: u32) -> u32 {
-    size | resends << RESENDS_AT
-}
-
-pub fn size_of(number: u32) -> u32 {
-    number & ((1 << RESENDS_AT) - 1)
-}
-
-pub fn resends_of(number: u32) -> u32 {
-    number >> RESENDS_AT
-}
-
-/// Slot i is bit i mod 64 of word i / 64.
-pub fn bit(words: &[u64], slot: usize) -> bool {
-    words[slot / WORD] >> (slot % WORD) & 1 == 1
-}
-
-pub fn set_bit(words: &mut [u64], slot: usize) {
-    words[slot / WORD] |= 1 << (slot % WORD);
-}
-
-pub fn clear_bit(words: &mut [u64], slot: usize) {
-    words[slot / WORD] &= !(1 << (slot % WORD));
-}
-
-/// The lowest `many` bits; all of them from 64 on.
-pub(crate) fn ones(many: usize) -> u64 {
-    if many < WORD {
-        (1 << many) - 1
-    } else {
-        u64::MAX
-    }
-}
-
-/// The lent memory: the ring as four slices, and a time for each EV.
+/// One to eight flows; the ring buffer as four slices, cut into as many equal parts: that of flow k
+/// begins at k times the capacity of a ring; and a time for each EV.
 #[derive(Debug, PartialEq, Eq)]
 pub struct Lent<'a> {
+    pub flows: &'a mut [Flow],
     /// A bit a slot: flying or marked.
     pub outstanding: &'a mut [u64],
     /// A bit a slot.
     pub marked: &'a mut [u64],
-    /// Size and resend count: see [`number_of`]. 0 for an empty slot.
+    /// Size and resend count: see [`number_of`](crate::ring::number_of). 0 for an empty slot.
     pub sizes: &'a mut [u32],
     pub sent: &'a mut [u64],
     pub ev_times: &'a mut [u64],
 }
 
 impl Lent<'_> {
+    /// Slots of each flow's ring.
     pub fn capacity(&self) -> usize {
-        self.sizes.len()
+        let flows = self.flows.len();
+        self.sizes.len().checked_div(flows).unwrap_or(0)
     }
 
-    /// The lengths are a ring's and those of so many EVs.
+    /// The lengths are those of one to eight flows, each with a ring, and of so many EVs.
     pub fn lengths_good(&self, ev_count: u32) -> bool {
-        let capacity = self.capacity();
-        capacity.is_power_of_two()
+        let (flows, capacity) = (self.flows.len(), self.capacity());
+        let slots = flows * capacity;
+        (1..=FLOWS_MAX).contains(&flows)
+            && capacity.is_power_of_two()
             && (CAPACITY_MIN..=CAPACITY_MAX).contains(&capacity)
-            && self.outstanding.len() == capacity / WORD
-            && self.marked.len() == capacity / WORD
-            && self.sent.len() == capacity
+            && self.outstanding.len() == slots / WORD
+            && self.marked.len() == slots / WORD
+            && self.sizes.len() == slots
+            && self.sent.len() == slots
             && self.ev_times.len() == ev_count as usize
     }
 
-    /// Where PSN `psn` lives. The capacity must be a power of two.
-    pub(crate) fn slot(&self, psn: u32) -> usize {
-        psn as usize & (self.capacity() - 1)
+    /// There is such a flow.
+    pub(crate) fn flow_allowed(&self, flow: u64) -> Result<(), Refusal> {
+        Refusal::Flow.unless(flow < self.flows.len() as u64)
     }
 
-    /// The slots of `many` PSNs from `psn` on, at most as many as the ring has: up to its end, and
-    /// from its start.
-    pub(crate) fn slots(&self, psn: u32, many: u32) -> [Range<usize>; 2] {
-        let start = self.slot(psn);
-        let end = start + many as usize;
-        let around = end.saturating_sub(self.capacity());
-        [start..end - around, 0..around]
+    /// The slots of a flow's part of the ring buffer, and its words of bits.
+    fn part(&self, flow: usize) -> (Range<usize>, Range<usize>) {
+        let capacity = self.capacity();
+        let start = flow * capacity;
+        let end = start + capacity;
+        (start..end, start / WORD..end / WORD)
     }
 
-    /// What a slot of low..next-1 shows.
-    pub(crate) fn status(&self, slot: usize) -> Status {
-        Status::of(bit(self.outstanding, slot), bit(self.marked, slot))
+    /// A flow with its part of the ring buffer, to be read. The lengths must be good.
+    pub(crate) fn ledger(&self, flow: u64) -> Result<Ledger<'_>, Refusal> {
+        self.flow_allowed(flow)?;
+        let flow = flow as usize;
+        let (slots, words) = self.part(flow);
+        Ok(Ledger {
+            flow: &self.flows[flow],
+            ring: Ring {
+                outstanding: &self.outstanding[words.clone()],
+                marked: &self.marked[words],
+                sizes: &self.sizes[slots.clone()],
+                sent: &self.sent[slots],
+            },
+        })
     }
 
-    pub(crate) fn size(&self, slot: usize) -> u32 {
-        size_of(self.sizes[slot])
+    /// The same, lent to a step. Where it is inlined, an event is faster by a tenth.
+    #[inline]
+    pub(crate) fn ledger_mut(&mut self, flow: u64) -> Result<LedgerMut<'_>, Refusal> {
+        self.flow_allowed(flow)?;
+        let flow = flow as usize;
+        let (slots, words) = self.part(flow);
+        Ok(LedgerMut {
+            flow: &mut self.flows[flow],
+            ring: RingMut {
+                outstanding: &mut self.outstanding[words.clone()],
+                marked: &mut self.marked[words],
+                sizes: &mut self.sizes[slots.clone()],
+                sent: &mut self.sent[slots],
+            },
+        })
     }
 
-    pub(crate) fn resends(&self, slot: usize) -> u32 {
-        resends_of(self.sizes[slot])
-    }
-
-    /// The marks of the 64 slots from that of `psn` on: bit i is that of PSN `psn` + i.
-    pub(crate) fn outstanding_from(&self, psn: u32) -> u64 {
-        bits_from(self.outstanding, self.slot(psn))
-    }
-
-    pub(crate) fn marked_from(&self, psn: u32) -> u64 {
-        bits_from(self.marked, self.slot(psn))
-    }
-
-    /// Takes both marks off those of the 64 slots from that of `psn` on whose bit is set.
-    pub(crate) fn clear_marks(&mut self, psn: u32, bits: u64) {
-        let slot = self.slot(psn);
-        clear_bits(self.outstanding, slot, bits);
-        clear_bits(self.marked, slot, bits);
-    }
-
-    /// Numbers and send times of `many` slots from that of `psn` on become zero.
-    pub(crate) fn clear_numbers(&mut self, psn: u32, many: u32) {
-        for i in 0..many {
-            let slot = self.slot(psn.wrapping_add(i));
-            self.sizes[slot] = 0;
-            self.sent[slot] = 0;
-        }
-    }
-
-    pub(crate) fn clear(&mut self) {
+    /// Every flow fresh, with this first PSN, and an empty ring; the EV times 0.
+    pub(crate) fn clear(&mut self, first_psn: u32) {
+        self.flows.fill(Flow::fresh(first_psn));
         self.outstanding.fill(0);
         self.marked.fill(0);
         self.sizes.fill(0);
@@ -158,30 +100,10 @@ impl Lent<'_> {
     }
 }
 
-/// The 64 bits from `slot` on, around the ring's end. In a ring of one word they are that word,
-/// turned. The words must be a power of two.
-fn bits_from(words: &[u64], slot: usize) -> u64 {
-    let (word, shift) = (slot / WORD, slot % WORD);
-    let next = (word + 1) & (words.len() - 1);
-    match shift {
-        0 => words[word],
-        _ => words[word] >> shift | words[next] << (WORD - shift),
-    }
-}
-
-/// Clears those of the same 64 bits that are set in `bits`.
-fn clear_bits(words: &mut [u64], slot: usize, bits: u64) {
-    let (word, shift) = (slot / WORD, slot % WORD);
-    let next = (word + 1) & (words.len() - 1);
-    words[word] &= !(bits << shift);
-    if shift > 0 {
-        words[next] &= !(bits >> (WORD - shift));
-    }
-}
-
 /// Memory of one's own that can be lent.
 #[derive(Clone, Debug, PartialEq, Eq)]
 pub struct Memory {
+    pub flows: Vec<Flow>,
     pub outstanding: Vec<u64>,
     pub marked: Vec<u64>,
     pub sizes: Vec<u32>,
@@ -190,23 +112,32 @@ pub struct Memory {
 }
 
 impl Memory {
-    /// A ring of so many slots, and 256 EV times.
+    /// One flow with a ring of so many slots, and 256 EV times.
     pub fn new(capacity: usize) -> Memory {
         Memory::with_evs(capacity, EVS_USUAL as usize)
     }
 
+    /// One flow with a ring of so many slots.
     pub fn with_evs(capacity: usize, evs: usize) -> Memory {
+        Memory::with_flows(1, capacity, evs)
+    }
+
+    /// So many flows, each with a ring of so many slots.
+    pub fn with_flows(flows: usize, capacity: usize, evs: usize) -> Memory {
+        let slots = flows * capacity;
         Memory {
-            outstanding: vec![0; capacity / WORD],
-            marked: vec![0; capacity / WORD],
-            sizes: vec![0; capacity],
-            sent: vec![0; capacity],
+            flows: vec![Flow::default(); flows],
+            outstanding: vec![0; slots / WORD],
+            marked: vec![0; slots / WORD],
+            sizes: vec![0; slots],
+            sent: vec![0; slots],
             ev_times: vec![0; evs],
         }
     }
 
     pub fn lend(&mut self) -> Lent<'_> {
         Lent {
+            flows: &mut self.flows,
             outstanding: &mut self.outstanding,
             marked: &mut self.marked,
             sizes: &mut self.sizes,

@@ -1,10 +1,11 @@
 //! A plain model of document 01: the ledger of sent packets, the NSCC window and the choice of the
 //! next entropy value (EV), with the event log and its replay.
 //!
-//! [`State`] holds every number, [`Lent`] the ring and the EV times. Each event changes both in
-//! place and returns 0, or the refusal number of 01 and changes nothing. An accepted ACK or NACK
-//! says what became of its sample: [`Sampling`]. A log may also come in chunks: [`Part`] is what its
-//! replay holds between them. A [`Report`] has the figures of a whole log.
+//! [`State`] holds the numbers of a context, [`Lent`] the table of its flows, their rings and the EV
+//! times. Each event is of one flow, changes both in place and returns 0, or the refusal number of 01
+//! and changes nothing. An accepted ACK or NACK says what became of its sample: [`Sampling`]. A log
+//! may also come in chunks: [`Part`] is what its replay holds between them. A [`Report`] has the
+//! figures of a whole log.
 
 #![forbid(unsafe_code)]
 
@@ -12,6 +13,7 @@ pub mod bounds;
 pub mod check;
 pub mod chunks;
 pub mod event;
+pub mod flow;
 pub mod gen;
 mod ledger;
 pub mod lent;
@@ -20,6 +22,7 @@ mod path;
 pub mod refusal;
 pub mod replay;
 pub mod report;
+pub mod ring;
 pub mod rng;
 mod sampling;
 pub mod settings;
@@ -29,12 +32,14 @@ mod window;
 
 pub use check::number_two;
 pub use chunks::{Chunk, Part};
-pub use event::{Ack, Event, Loss, Nack, NewData, Outcome, Send};
-pub use lent::{Lent, Memory, Status};
+pub use event::{Ack, Event, Loss, Nack, NewData, Outcome, Path, Send};
+pub use flow::Flow;
+pub use lent::{Lent, Memory};
 pub use log::{parse, write, Reader, Record};
 pub use refusal::Refusal;
 pub use replay::replay;
 pub use report::{report, Report};
+pub use ring::Status;
 pub use rng::Rng;
 pub use sampling::Sampling;
 pub use settings::Settings;

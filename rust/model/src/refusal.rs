@@ -1,5 +1,5 @@
 /// Why an event, a setting up, a log record or a chunk is refused; the value is the number of 01 as
-/// amended by M-100, or of M-104.
+/// amended by M-100, or of M-104 and M-107.
 #[derive(Clone, Copy, Debug, PartialEq, Eq)]
 #[repr(u8)]
 pub enum Refusal {
@@ -21,6 +21,7 @@ pub enum Refusal {
     Reason = 22,
     Ev = 23,
     Trigger = 24,
+    Flow = 25,
     TooLong = 28,
 }
 

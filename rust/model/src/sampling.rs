@@ -1,8 +1,8 @@
 //! The sample step of 01, "Samples and delay", which says why where there is no sample (M-103).
 
 use crate::bounds::SAMPLE_MAX;
-use crate::lent::{bit, Lent};
-use crate::state::State;
+use crate::ledger::Ledger;
+use crate::ring::bit;
 
 /// What the sample step says of a report on a packet.
 #[derive(Clone, Copy, Debug, PartialEq, Eq)]
@@ -41,26 +41,20 @@ impl Sampling {
     }
 }
 
-impl State {
+impl Ledger<'_> {
     /// What a report on packet `psn` says of its round trip. Looks at the ring before the event's
     /// ledger step.
-    pub(crate) fn sample(
-        &self,
-        lent: &Lent,
-        now: u64,
-        psn: u32,
-        service: u32,
-        retx: bool,
-    ) -> Sampling {
-        let in_ledger = self.slot_of(lent, psn);
-        let Some(slot) = in_ledger.filter(|&slot| bit(lent.outstanding, slot)) else {
+    pub fn sample(&self, now: u64, psn: u32, service: u32, retx: bool) -> Sampling {
+        let ring = &self.ring;
+        let in_ledger = self.slot_of(psn);
+        let Some(slot) = in_ledger.filter(|&slot| bit(ring.outstanding, slot)) else {
             return Sampling::Gone;
         };
-        if lent.resends(slot) != u32::from(retx) {
+        if ring.resends(slot) != u32::from(retx) {
             return Sampling::Ambiguous;
         }
         // A service longer than the round trip leaves 0, which is no sample either.
-        match (now - lent.sent[slot]).saturating_sub(service.into()) {
+        match (now - ring.sent[slot]).saturating_sub(service.into()) {
             0 => Sampling::NotPositive,
             ticks if ticks <= SAMPLE_MAX => Sampling::Taken(ticks),
             _ => Sampling::Cut,

@@ -28,25 +28,20 @@ impl fmt::Display for Name {
     }
 }
 
-/// Every number that a context holds. The default is the state of zeros named IDLE.
+/// Every number that a context holds, beside the lent table of its flows. The default is the state of
+/// zeros named IDLE.
 #[derive(Clone, Copy, Debug, Default, PartialEq, Eq)]
 pub struct State {
     pub settings: Settings,
     /// Time of the last accepted event.
     pub clock: u64,
 
-    // The ledger, beside the ring.
-    /// The oldest PSN not yet passed.
-    pub low: u32,
-    /// The PSN of the next new packet.
-    pub next: u32,
+    // The ledger, as far as it is over all flows.
     pub flying: u64,
     pub marked: u64,
     pub marked_bytes: u64,
     pub backlog: u64,
     pub in_flight: i64,
-    /// The newest received count.
-    pub held: u32,
 
     // The window.
     pub cwnd: u64,
@@ -77,8 +72,6 @@ impl State {
     pub(crate) fn fresh(settings: Settings) -> State {
         State {
             settings,
-            low: settings.first_psn,
-            next: settings.first_psn,
             cwnd: settings.max_wnd,
             base: settings.config_base_rtt,
             ..State::default()

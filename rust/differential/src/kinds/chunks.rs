@@ -137,26 +137,22 @@ impl Chunks {
         let good = self.model.words.len() == WORDS;
         let part = part_of(&self.part, &self.piece).filter(|_| good);
         let mut part = part.ok_or(UNSOUND)?;
-        let state = self.model.state();
-        if part.done > 0 && !part.stopped && state.is_none() {
-            return Err(UNSOUND);
-        }
-        let mut state = state.unwrap_or_default();
+        // Before record 1 and after a stop, any words will do.
+        let (mut state, mut lent) = if part.done > 0 && !part.stopped {
+            self.model.lend().ok_or(UNSOUND)?
+        } else {
+            self.model.lend_new()
+        };
         let mut answers = vec![Outcome::default(); room];
         let taken = part
-            .take(
-                &mut state,
-                &mut self.model.memory.lend(),
-                chunk,
-                &mut answers,
-            )
+            .take(&mut state, &mut lent, chunk, &mut answers)
             .map_err(Refusal::number)?;
         answers.truncate(taken.answered);
         self.part = words_of_part(&part, taken).to_vec();
         self.piece = part.piece.to_vec();
         // Before record 1 there is no state, and without an answer none is stored.
         if part.done > 0 && taken.answered > 0 {
-            self.model.set_state(&state);
+            self.model.store(&state);
         }
         Ok(answers)
     }

@@ -171,12 +171,9 @@ impl<'a> Batches<'a> {
         let [mut at, mut done, mut stopped] = [self.place[0], self.place[1], self.place[2]];
         let start = at;
         let rest = &self.log[start as usize..];
-        let state = self.model.state().unwrap_or_default();
-        let lent = self.model.memory.lend();
-        let mut replay = if done > 0 {
-            Replay::resume(rest, state, lent)
-        } else {
-            Replay::new(rest, lent)
+        let mut replay = match self.model.lend() {
+            Some((state, lent)) if done > 0 => Replay::resume(rest, state, lent),
+            _ => Replay::new(rest, self.model.lend_new().1),
         };
         while outcomes.len() < room && stopped == 0 {
             match replay.step() {
@@ -201,7 +198,7 @@ impl<'a> Batches<'a> {
         self.place[..3].copy_from_slice(&[at, done, stopped]);
         // Before record 1 there is no state, and without an answer none is stored.
         if done > 0 && !outcomes.is_empty() {
-            self.model.set_state(&state);
+            self.model.store(&state);
         }
     }
 

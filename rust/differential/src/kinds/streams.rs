@@ -5,7 +5,7 @@ use crate::session::Session;
 use crate::sides::Model;
 use crate::source::Source;
 use crate::tally::Tally;
-use model::lent::WORD;
+use model::ring::WORD;
 use model::Rng;
 
 /// Capacity, and calls of a stream: enough to fill the ring.

@@ -4,6 +4,7 @@
 use super::traffic::Sim;
 use super::{first_psn, settings_record, E};
 use crate::bounds::{BACKLOG_MAX, COUNT_END, EVS_USUAL, IN_FLIGHT_MIN, PSN_REACH, TIME_END};
+use crate::flow::Flow;
 use crate::log::{append, Record};
 use crate::replay::CAPACITY;
 use crate::rng::Rng;
@@ -113,7 +114,7 @@ fn fill(sim: &mut Sim) {
     sim.emit(Record::NewData { time, bytes });
     let mut answer = 0;
     while answer == 0 && !sim.full() {
-        let psn = sim.state.next;
+        let psn = sim.flow().next;
         let send = Record::Send {
             time,
             size: 41,
@@ -172,7 +173,7 @@ fn edge_bytes(sim: &mut Sim) -> u64 {
 }
 
 fn edge_psn(sim: &mut Sim) -> u32 {
-    let (low, next) = (sim.state.low, sim.state.next);
+    let Flow { low, next, .. } = *sim.flow();
     let inside = low.wrapping_add(sim.rng.below(CAPACITY as u64) as u32);
     sim.rng.pick(&[
         low.wrapping_sub(1),
@@ -202,7 +203,7 @@ fn edge_send(sim: &mut Sim, time: u64) -> Record {
     let any = sim.rng.between(41, u64::from(mtu)) as u32;
     let over_backlog = (sim.state.backlog as u32).saturating_add(1).min(mtu);
     let psn = edge_psn(sim);
-    let next = sim.state.next;
+    let next = sim.flow().next;
     Record::Send {
         time,
         size: sim
@@ -215,7 +216,7 @@ fn edge_send(sim: &mut Sim, time: u64) -> Record {
 
 fn edge_ack(sim: &mut Sim, time: u64) -> Record {
     let cum = edge_psn(sim);
-    let back = sim.state.next.wrapping_sub(1).wrapping_sub(cum);
+    let back = sim.flow().next.wrapping_sub(1).wrapping_sub(cum);
     let map = edge_map(sim, back);
     let any = edge_psn(sim);
     Record::Ack {
@@ -252,7 +253,7 @@ fn edge_map(sim: &mut Sim, back: u32) -> u64 {
 }
 
 fn edge_count(sim: &mut Sim) -> u32 {
-    let held = sim.state.held;
+    let held = sim.flow().held;
     let to_bound = (sim.state.in_flight - IN_FLIGHT_MIN) as u32 / 256;
     let step = sim.rng.below(64) as u32;
     let ahead = sim.rng.pick(&[

@@ -4,9 +4,11 @@
 use super::{first_psn, settings_record, E};
 use crate::bounds::{COUNT_END, EVS_USUAL, SIZE_MIN, TIME_END, UNIT};
 use crate::event::{Outcome, OTHER, TRIMMED, TRIMMED_LAST_HOP};
-use crate::lent::{Memory, Status};
+use crate::flow::Flow;
+use crate::lent::Memory;
 use crate::log::{append, Record, M, RETX};
 use crate::replay::CAPACITY;
+use crate::ring::Status;
 use crate::rng::Rng;
 use crate::settings::Settings;
 use crate::state::{Name, State};
@@ -46,7 +48,7 @@ pub fn wide(seed: u64, records: usize) -> Vec<u8> {
 
 /// Traffic for a ring of `capacity` slots, which must be a ring's and at most the program's.
 pub fn narrow(seed: u64, records: usize, capacity: usize) -> Vec<u8> {
-    run(seed, records, |sim| sim.memory = Memory::new(capacity))
+    run(seed, records, |sim| sim.set_up(capacity))
 }
 
 fn run(seed: u64, records: usize, shape: impl Fn(&mut Sim)) -> Vec<u8> {
@@ -232,6 +234,12 @@ impl Sim {
         sim
     }
 
+    /// Sets up once more, with a ring of so many slots and 256 EVs.
+    fn set_up(&mut self, capacity: usize) {
+        self.memory = Memory::new(capacity);
+        (_, self.state) = State::set_up(&self.state.settings, &mut self.memory.lend());
+    }
+
     /// The log has all its records.
     pub fn full(&self) -> bool {
         self.written >= self.records
@@ -264,8 +272,13 @@ impl Sim {
         }
     }
 
+    /// The one flow.
+    pub fn flow(&self) -> &Flow {
+        &self.memory.flows[0]
+    }
+
     fn ring_room(&self) -> bool {
-        (self.state.span() as usize) < self.memory.sizes.len()
+        (self.flow().span() as usize) < self.memory.sizes.len()
     }
 
     fn may_send(&self) -> bool {
@@ -334,13 +347,14 @@ impl Sim {
         } else {
             most
         };
-        Some((self.state.next, size as u32, false))
+        Some((self.flow().next, size as u32, false))
     }
 
     fn size_if(&mut self, psn: u32, status: Status) -> Option<u32> {
         let lent = self.memory.lend();
-        let slot = self.state.slot_with(&lent, psn, status)?;
-        Some(lent.size(slot))
+        let ledger = lent.ledger(0).ok()?;
+        let slot = ledger.slot_with(psn, status)?;
+        Some(ledger.ring.size(slot))
     }
 
     fn launch(&mut self, psn: u32, size: u32, resend: bool) {

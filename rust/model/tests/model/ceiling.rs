@@ -72,7 +72,7 @@ fn a_clamp_is_rounded_down_and_leaves_an_mtu() {
 fn a_clamp_may_leave_more_in_flight() {
     let mut rig = returning(1);
     rig.state.in_flight = 614_400;
-    rig.state.backlog = 41;
+    rig.set_backlog(41);
     rig.settle();
     let mut rig = rig.after(nack(NOW, 1, 2));
     assert_eq!((rig.state.in_flight, rig.state.cwnd), (614_300, 6_400));

@@ -1,12 +1,15 @@
 //! Demand 3: a burst of ACKs leaves the ledger that its newest alone leaves, in whatever order and
-//! with whatever losses and doublings the others arrive.
+//! with whatever losses and doublings the others arrive. The burst is of one flow; the ledger is that
+//! of all of them.
 
 use crate::rig::*;
 use model::{Ack, Rng};
 
-/// A ring somewhere, often across the wrap, with packets of every status.
+/// A ring somewhere, often across the wrap, with packets of every status, among other flows.
 struct Start {
     rig: Rig,
+    /// The flow of the burst.
+    flow: usize,
     /// PSN of low, not wrapped.
     low: i64,
     packets: i64,
@@ -34,14 +37,28 @@ fn start(rng: &mut Rng) -> Start {
     if let Some(first) = slots.first_mut() {
         first.0 = rng.pick(&[FLYING, MARKED]);
     }
-    let mut rig = Rig::e();
-    rig.state.held = rng.pick(&[0, 1, 5_000, (1 << 23) - 1, 1 << 23, (1 << 24) - 1]);
+    let flows = rng.pick(&[1, 2, 8]);
+    let flow = rng.below(flows) as usize;
+    let mut rig = Rig::e_with_flows(flows as usize);
+    for other in (0..flows as usize).filter(|&other| other != flow) {
+        // The same PSNs as those of the burst.
+        let slots = [(FLYING, 100, 9_000, 0), (MARKED, 100, 9_000, 1)];
+        rig = rig.lay_in(other, low as u32, &slots[..rng.below(3) as usize]);
+        rig.memory.flows[other].held = rng.below(1 << 24) as u32;
+    }
+    let record = &mut rig.memory.flows[flow];
+    record.held = rng.pick(&[0, 1, 5_000, (1 << 23) - 1, 1 << 23, (1 << 24) - 1]);
     rig.state.in_flight = rng.between(0, 600_000) as i64 - 10_000;
-    rig.state.backlog = rng.below(2) * 1_000;
+    rig.memory.flows[flow].backlog = rng.below(2) * 1_000;
     rig.state.qa_end = rng.below(20_000);
     rig.state.avg = rng.below(200 * 1_024);
-    let rig = rig.lay(low as u32, &slots);
-    Start { rig, low, packets }
+    let rig = rig.lay_in(flow, low as u32, &slots);
+    Start {
+        rig,
+        flow,
+        low,
+        packets,
+    }
 }
 
 /// An ACK with its cum as a number that does not wrap.
@@ -70,6 +87,7 @@ fn any_ack(rng: &mut Rng, start: &Start, count: i64) -> Wide {
     let trigger = cum - rng.below(3) as i64;
     let ack = Ack {
         time: 0,
+        flow: start.flow as u64,
         cum: cum as u32,
         map,
         trigger: trigger as u32,
@@ -84,7 +102,7 @@ fn any_ack(rng: &mut Rng, start: &Start, count: i64) -> Wide {
 
 /// The newest and the others, as demand 3 wants them.
 fn burst(rng: &mut Rng, start: &Start) -> Option<(Wide, Vec<Wide>)> {
-    let held = i64::from(start.rig.state.held);
+    let held = i64::from(start.rig.memory.flows[start.flow].held);
     let count = held + rng.pick(&[0, 1, 30, 2_000]);
     let newest = any_ack(rng, start, count);
     let mut alone = start.rig.clone();
@@ -152,18 +170,20 @@ fn ledger(rig: &Rig) -> impl PartialEq + std::fmt::Debug {
     let state = &rig.state;
     let memory = &rig.memory;
     (
+        memory.flows.clone(),
         (memory.outstanding.clone(), memory.marked.clone()),
         (memory.sizes.clone(), memory.sent.clone()),
-        (state.low, state.next, state.flying),
-        (state.marked, state.marked_bytes),
-        (state.backlog, state.in_flight, state.held),
+        (state.flying, state.marked, state.marked_bytes),
+        (state.backlog, state.in_flight),
     )
 }
 
 /// Passed by low, or done in the ring.
 fn delivered(rig: &Rig, start: &Start, psn: i64) -> bool {
-    let passed = rig.state.low.wrapping_sub(start.low as u32);
-    psn - start.low < i64::from(passed) || rig.status(psn as u32) == DONE
+    let passed = rig.memory.flows[start.flow]
+        .low
+        .wrapping_sub(start.low as u32);
+    psn - start.low < i64::from(passed) || rig.status_in(start.flow, psn as u32) == DONE
 }
 
 #[test]
@@ -203,7 +223,7 @@ fn bursts_leave_what_the_newest_alone_leaves() {
             }
             before_newest += 1;
             for psn in start.low..start.low + start.packets {
-                let at_start = start.rig.status(psn as u32) == DONE;
+                let at_start = start.rig.status_in(start.flow, psn as u32) == DONE;
                 let covered = taken.iter().any(|wide| wide.covers(psn));
                 assert_eq!(delivered(&rig, &start, psn), at_start || covered);
             }

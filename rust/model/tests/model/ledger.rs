@@ -12,8 +12,9 @@ fn a_new_packet() {
     rig.accept(send(NOW, 0, 4_096));
     assert_eq!(rig.slot(0), (FLYING, 4_096, NOW, 0));
     let state = &rig.state;
-    assert_eq!((state.low, state.next, state.flying), (0, 1, 1));
-    assert_eq!((state.backlog, state.in_flight), (904, 4_096));
+    assert_eq!((rig.flow().low, rig.flow().next, state.flying), (0, 1, 1));
+    assert_eq!((rig.flow().backlog, state.backlog), (904, 904));
+    assert_eq!(state.in_flight, 4_096);
     assert_eq!(state.name, Name::Ready);
     rig.accept(send(NOW, 1, 904));
     assert_eq!((rig.state.backlog, rig.state.in_flight), (0, 5_000));
@@ -49,7 +50,7 @@ fn a_packet_leaves_the_flying_count_once() {
     rig.accept(ack(NOW, 1, 0));
     let state = &rig.state;
     assert_eq!((state.flying, state.marked, state.marked_bytes), (0, 0, 0));
-    assert_eq!((state.low, state.name), (2, Name::Idle));
+    assert_eq!((rig.flow().low, state.name), (2, Name::Idle));
 }
 
 #[test]
@@ -60,11 +61,11 @@ fn done_slots_stay_until_low_passes_them() {
         map: 0b110,
         ..ack(NOW, 9, 0)
     });
-    assert_eq!(rig.state.low, 10);
+    assert_eq!(rig.flow().low, 10);
     assert_eq!(rig.slot(11), (DONE, 111, 9_000, 0));
     assert_eq!(rig.slot(12), (DONE, 112, 9_000, 0));
     rig.accept(ack(NOW, 10, 0));
-    assert_eq!((rig.state.low, rig.state.next), (13, 14));
+    assert_eq!((rig.flow().low, rig.flow().next), (13, 14));
     for psn in [10, 11, 12] {
         assert_eq!(rig.slot(psn), (EMPTY, 0, 0, 0));
     }
@@ -79,7 +80,7 @@ fn the_map_of_an_ack_below_low_reaches_into_the_ledger() {
         map: 0b101_0001,
         ..ack(NOW, 5, 0)
     });
-    assert_eq!(rig.state.low, 11);
+    assert_eq!(rig.flow().low, 11);
     let statuses = [10, 11, 12, 13].map(|psn| rig.status(psn));
     assert_eq!(statuses, [EMPTY, FLYING, DONE, FLYING]);
 }
@@ -94,7 +95,7 @@ fn all_64_bits_of_the_map() {
         ..ack(NOW, 4_294_967_261, 0)
     });
     // 2 by cum and 64 by the map: all before PSN 4,294,967,326 - 2^32 = 30.
-    assert_eq!((rig.state.low, rig.state.flying), (30, 34));
+    assert_eq!((rig.flow().low, rig.state.flying), (30, 34));
 }
 
 #[test]
@@ -111,7 +112,7 @@ fn marked_packets_that_an_ack_covers() {
         ..ack(NOW, 4_294_967_295, 0)
     });
     let state = &rig.state;
-    assert_eq!((state.low, state.flying), (0, 1));
+    assert_eq!((rig.flow().low, state.flying), (0, 1));
     assert_eq!((state.marked, state.marked_bytes), (1, 300));
     assert_eq!(rig.status(1), DONE);
 }
@@ -120,7 +121,7 @@ fn marked_packets_that_an_ack_covers() {
 fn the_held_count_goes_forward_only() {
     let mut rig = Rig::e();
     rig.state.in_flight = 100_000;
-    rig.state.held = 1_000;
+    rig.flow_mut().held = 1_000;
     for (count, held, in_flight) in [
         (1_010, 1_010, 97_440),
         (1_010, 1_010, 97_440),     // equal
@@ -130,7 +131,7 @@ fn the_held_count_goes_forward_only() {
         (1_011, 1_011, 97_184),
     ] {
         rig.accept(ack(NOW, u32::MAX, count));
-        assert_eq!((rig.state.held, rig.state.in_flight), (held, in_flight));
+        assert_eq!((rig.flow().held, rig.state.in_flight), (held, in_flight));
     }
 }
 
@@ -148,10 +149,10 @@ fn psns_and_slots_go_round_many_times() {
             rig.accept(ack(u64::from(i), psn.wrapping_sub(40), i - 39));
             assert_eq!(rig.state.flying, 40);
             assert_eq!(rig.state.in_flight, 40 * 256);
-            assert_eq!(rig.state.low, psn.wrapping_sub(39));
+            assert_eq!(rig.flow().low, psn.wrapping_sub(39));
         }
     }
-    assert_eq!((rig.state.low, rig.state.next), (160, 200));
+    assert_eq!((rig.flow().low, rig.flow().next), (160, 200));
 }
 
 #[test]

@@ -40,13 +40,13 @@ fn ring(rng: &mut Rng) -> Rig {
 
 /// The PSNs of low..next-1.
 fn psns(rig: &Rig) -> impl Iterator<Item = u32> {
-    let (low, next) = (rig.state.low, rig.state.next);
+    let (low, next) = (rig.flow().low, rig.flow().next);
     (0..next.wrapping_sub(low)).map(move |i| low.wrapping_add(i))
 }
 
 /// An ACK that names sent packets only, of a cum in the ledger or somewhat below it.
 fn any_ack(rng: &mut Rng, rig: &Rig) -> Ack {
-    let (low, next) = (rig.state.low, rig.state.next);
+    let (low, next) = (rig.flow().low, rig.flow().next);
     let packets = u64::from(next.wrapping_sub(low));
     let inside = low.wrapping_add(rng.below(packets + 1) as u32);
     let before = low.wrapping_sub(rng.below(130) as u32);
@@ -76,7 +76,7 @@ fn delivered(rig: &Rig, ack: &Ack) -> Rig {
             break;
         }
         after.put(psn, (EMPTY, 0, 0, 0));
-        after.state.low = psn.wrapping_add(1);
+        after.flow_mut().low = psn.wrapping_add(1);
     }
     after.settle();
     after
@@ -90,11 +90,10 @@ fn acks_by_words() {
         let mut rig = ring(&mut rng);
         let ack = any_ack(&mut rng, &rig);
         let expected = delivered(&rig, &ack);
-        let before = rig.state;
+        let before = *rig.flow();
         rig.accept(ack);
         assert_eq!(rig.memory, expected.memory, "{ack:?}");
         let (state, expected) = (&rig.state, &expected.state);
-        assert_eq!((state.low, state.next), (expected.low, expected.next));
         assert_eq!(
             (state.flying, state.marked, state.marked_bytes),
             (expected.flying, expected.marked, expected.marked_bytes)
@@ -104,7 +103,7 @@ fn acks_by_words() {
         // The map starts below low, and reaches into the ledger or up to it.
         let below = before.low.wrapping_sub(1).wrapping_sub(ack.cum);
         old += u32::from(ack.map != 0 && (1..64).contains(&below));
-        passed += u32::from(state.low.wrapping_sub(before.low) > 64);
+        passed += u32::from(rig.flow().low.wrapping_sub(before.low) > 64);
     }
     assert!(full > 3_000 && old > 1_000 && passed > 1_000);
 }
@@ -119,20 +118,25 @@ fn a_full_ring_of_one_word() {
             map: u64::MAX >> 2 & !1,
             ..ack(NOW, low.wrapping_sub(1), 0)
         });
-        assert_eq!((rig.state.low, rig.state.flying), (low, 3));
+        assert_eq!((rig.flow().low, rig.state.flying), (low, 3));
         rig.accept(ack(NOW, low, 0));
         let last = low.wrapping_add(63);
-        assert_eq!(rig.state.low, last.wrapping_sub(1));
+        assert_eq!(rig.flow().low, last.wrapping_sub(1));
         assert_eq!(rig.state.flying, 2);
         rig.accept(ack(NOW, last, 0));
-        assert_eq!((rig.state.low, rig.state.flying), (last.wrapping_add(1), 0));
-        assert_eq!(rig.memory, Rig::e().memory);
+        assert_eq!(
+            (rig.flow().low, rig.state.flying),
+            (last.wrapping_add(1), 0)
+        );
+        let mut empty = Rig::e().memory;
+        (empty.flows[0].low, empty.flows[0].next) = (last.wrapping_add(1), last.wrapping_add(1));
+        assert_eq!(rig.memory, empty);
     }
 }
 
 /// Number 2 of the bits, slot by slot.
 fn bits_good(rig: &Rig) -> bool {
-    let (low, next) = (rig.state.low, rig.state.next);
+    let (low, next) = (rig.flow().low, rig.flow().next);
     let packets = next.wrapping_sub(low);
     (0..rig.capacity() as u32).all(|i| {
         let slot = low.wrapping_add(i) as usize % rig.capacity();
@@ -168,13 +172,13 @@ fn number_two_by_words() {
     let mut verdicts = [0, 0];
     for _ in 0..20_000 {
         let mut rig = ring(&mut rng);
-        let packets = rig.state.next.wrapping_sub(rig.state.low);
+        let packets = rig.flow().next.wrapping_sub(rig.flow().low);
         for _ in 0..rng.below(4) {
             // Mostly at the edges of low..next-1.
             let near = rng.below(3) as u32;
             let any = rng.next_u32();
             let psn = rng.pick(&[near, packets.wrapping_add(near), any]);
-            let psn = rig.state.low.wrapping_add(psn).wrapping_sub(1);
+            let psn = rig.flow().low.wrapping_add(psn).wrapping_sub(1);
             let slot = psn as usize % rig.capacity();
             let memory = &mut rig.memory;
             let words = match rng.below(2) {
@@ -197,7 +201,7 @@ fn what_the_ring_shows() {
     for _ in 0..3_000 {
         let mut rig = ring(&mut rng);
         let before = rig.clone();
-        let (low, next) = (rig.state.low, rig.state.next);
+        let (low, next) = (rig.flow().low, rig.flow().next);
         let all: Vec<u32> = psns(&rig).collect();
         for _ in 0..20 {
             let inside = low.wrapping_add(rng.below(all.len() as u64 + 2) as u32);
@@ -220,11 +224,11 @@ fn what_the_ring_shows() {
                 _ => Some(Status::Done),
             };
             let lent = rig.memory.lend();
-            assert_eq!(rig.state.status(&lent, psn), Ok(expected));
+            assert_eq!(rig.state.status(&lent, 0, psn), Ok(expected));
             let behind = all.iter().skip_while(|&&each| each != psn);
             let first = behind.copied().find(|&each| before.status(each) == MARKED);
             let first = first.unwrap_or(next);
-            assert_eq!(rig.state.next_marked(&lent, psn), Ok(first));
+            assert_eq!(rig.state.next_marked(&lent, 0, psn), Ok(first));
         }
         assert_eq!(rig, before);
     }
@@ -234,9 +238,12 @@ fn what_the_ring_shows() {
 fn readings_of_a_fresh_state() {
     let mut rig = Rig::e();
     let lent = rig.memory.lend();
-    assert_eq!(rig.state.status(&lent, 0), Ok(None));
-    assert_eq!(rig.state.next_marked(&lent, 0), Ok(0));
+    assert_eq!(rig.state.status(&lent, 0, 0), Ok(None));
+    assert_eq!(rig.state.next_marked(&lent, 0, 0), Ok(0));
     rig.state.cwnd = 0;
-    assert_eq!(rig.state.status(&lent, 0), Err(Refusal::NotTogether));
-    assert_eq!(rig.state.next_marked(&lent, 0), Err(Refusal::NotTogether));
+    assert_eq!(rig.state.status(&lent, 0, 0), Err(Refusal::NotTogether));
+    assert_eq!(
+        rig.state.next_marked(&lent, 0, 0),
+        Err(Refusal::NotTogether)
+    );
 }

@@ -8,10 +8,10 @@ const NOW: u64 = 10_050;
 /// A state in which every number that may be other than 0 is.
 fn rig() -> Rig {
     let mut rig = Rig::e();
+    rig.set_backlog(5_000);
+    rig.flow_mut().held = 77;
     let state = &mut rig.state;
-    state.backlog = 5_000;
     state.in_flight = 9_000;
-    state.held = 77;
     state.cwnd = 300_000;
     state.base = 90;
     state.avg = 50_000;
@@ -82,8 +82,11 @@ fn all_spoilt(changes: &[(&str, Change)]) {
             rig.refuse(2, event);
         }
         let lent = rig.memory.lend();
-        assert_eq!(rig.state.status(&lent, 0), Err(Refusal::NotTogether));
-        assert_eq!(rig.state.next_marked(&lent, 0), Err(Refusal::NotTogether));
+        assert_eq!(rig.state.status(&lent, 0, 0), Err(Refusal::NotTogether));
+        assert_eq!(
+            rig.state.next_marked(&lent, 0, 0),
+            Err(Refusal::NotTogether)
+        );
     }
 }
 
@@ -262,8 +265,8 @@ fn cwnd_up_to_a_max_wnd_that_is_rounded_down_or_the_mtu() {
 #[test]
 fn ledger_numbers() {
     all_good(&[
-        ("backlog of 2^40", |r| r.state.backlog = 1 << 40),
-        ("held", |r| r.state.held = (1 << 24) - 1),
+        ("backlog of 2^40", |r| r.set_backlog(1 << 40)),
+        ("held", |r| r.flow_mut().held = (1 << 24) - 1),
         ("in-flight of -2^24", |r| r.state.in_flight = -(1 << 24)),
         ("in-flight of MaxWnd", |r| {
             r.state.in_flight = 614_400;
@@ -272,8 +275,8 @@ fn ledger_numbers() {
         ("cursor of 255", |r| r.state.cursor = 255),
     ]);
     all_spoilt(&[
-        ("backlog", |r| r.state.backlog = (1 << 40) + 1),
-        ("held", |r| r.state.held = 1 << 24),
+        ("backlog", |r| r.set_backlog((1 << 40) + 1)),
+        ("held", |r| r.flow_mut().held = 1 << 24),
         ("in-flight below", |r| r.state.in_flight = -(1 << 24) - 1),
         ("in-flight at its lowest", |r| r.state.in_flight = i64::MIN),
         ("in-flight above", |r| {
@@ -415,11 +418,11 @@ fn distance_of_low_and_next() {
     let full = Rig::e().lay(7, &[(FLYING, 41, 9_000, 0); 64]);
     assert!(full.clone().holds());
     let mut over = full.clone();
-    over.state.next = 7 + 65;
+    over.flow_mut().next = 7 + 65;
     assert!(!over.holds());
     over.refuse(2, path(NOW));
     let mut behind = full;
-    behind.state.next = 6;
+    behind.flow_mut().next = 6;
     assert!(!behind.holds());
     behind.refuse(2, path(NOW));
 }
@@ -469,7 +472,7 @@ fn state_name() {
     only(Rig::e().lay(0, &[(FLYING, 41, 0, 0)]), Name::Pending);
     only(Rig::e().lay(0, &[(MARKED, 41, 0, 0)]), Name::Ready);
     let mut rig = Rig::e();
-    rig.state.backlog = 1;
+    rig.set_backlog(1);
     rig.state.in_flight = 610_304;
     only(rig.clone(), Name::Ready);
     rig.state.in_flight = 610_305;

@@ -57,13 +57,13 @@ fn p3_multiplicative_decrease() {
 #[test]
 fn p4_received_count_wraps() {
     let mut rig = Rig::e();
-    rig.state.held = 16_777_214;
-    let after = rig.after(ack(NOW, u32::MAX, 3)).state;
-    assert_eq!((after.in_flight, after.held), (-1_280, 3));
+    rig.flow_mut().held = 16_777_214;
+    let after = rig.after(ack(NOW, u32::MAX, 3));
+    assert_eq!((after.state.in_flight, after.flow().held), (-1_280, 3));
 
     let half_ahead = 16_777_214 - 8_388_608;
-    let after = rig.after(ack(NOW, u32::MAX, half_ahead)).state;
-    assert_eq!((after.in_flight, after.held), (0, 16_777_214));
+    let after = rig.after(ack(NOW, u32::MAX, half_ahead));
+    assert_eq!((after.state.in_flight, after.flow().held), (0, 16_777_214));
 }
 
 #[test]
@@ -108,7 +108,7 @@ fn p7_map() {
     let after = rig.after(event);
     let statuses = [5, 6, 7, 8, 9].map(|psn| after.status(psn));
     assert_eq!(statuses, [EMPTY, FLYING, DONE, FLYING, DONE]);
-    assert_eq!((after.state.low, after.state.next), (6, 10));
+    assert_eq!((after.flow().low, after.flow().next), (6, 10));
     assert_eq!(after.state.flying, 2);
 
     let unsent = Ack {
@@ -121,9 +121,9 @@ fn p7_map() {
 #[test]
 fn p8_psn_wraps() {
     let rig = Rig::e().lay(4_294_967_294, &[(FLYING, 100, 9_000, 0); 4]);
-    assert_eq!(rig.state.next, 2);
+    assert_eq!(rig.flow().next, 2);
     let after = rig.after(ack(NOW, 0, 0));
-    assert_eq!((after.state.low, after.state.next), (1, 2));
+    assert_eq!((after.flow().low, after.flow().next), (1, 2));
     assert_eq!(after.state.flying, 1);
     let statuses = [4_294_967_294, 4_294_967_295, 0, 1].map(|psn| after.status(psn));
     assert_eq!(statuses, [EMPTY, EMPTY, EMPTY, FLYING]);
@@ -132,7 +132,7 @@ fn p8_psn_wraps() {
 #[test]
 fn p9_window_on_a_send() {
     let mut rig = Rig::e();
-    rig.state.backlog = 4_096;
+    rig.set_backlog(4_096);
     rig.state.in_flight = 610_304;
     rig.settle();
     assert_eq!(rig.after(send(NOW, 0, 4_096)).state.in_flight, 614_400);

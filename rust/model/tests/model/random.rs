@@ -1,126 +1,12 @@
 //! Random logs against a naive ledger that knows no wrap and no ring, and random garbage.
 
+use crate::naive::{check_totals, Naive};
 use crate::rig::*;
-use model::{gen, Event, Memory, Name, Outcome, Reader, Refusal, Rng, Settings, State};
+use model::{gen, Event, Flow, Memory, Name, Outcome, Reader, Refusal, Rng, Settings, State};
 use std::collections::BTreeMap;
 
 /// Room for every number of an answer.
-const NUMBERS: usize = Refusal::Trigger as usize + 1;
-
-/// A ledger by plain counting: PSNs and counts as numbers that never wrap.
-struct Naive {
-    first: i64,
-    /// Status and size of every packet ever sent.
-    packets: BTreeMap<i64, (u8, i64)>,
-    sent: i64,
-    lost: i64,
-    units: i64,
-    added: i64,
-    taken: i64,
-}
-
-impl Naive {
-    fn new(first_psn: u32) -> Naive {
-        Naive {
-            first: i64::from(first_psn),
-            packets: BTreeMap::new(),
-            sent: 0,
-            lost: 0,
-            units: 0,
-            added: 0,
-            taken: 0,
-        }
-    }
-
-    fn next(&self) -> i64 {
-        self.first + self.packets.len() as i64
-    }
-
-    /// The number nearest to the last PSN that wraps to `psn`.
-    fn unwrap(&self, psn: u32) -> i64 {
-        let around = 1 << 32;
-        let near = self.next() - 1;
-        let ahead = (i64::from(psn) - near).rem_euclid(around);
-        near + if ahead < around / 2 {
-            ahead
-        } else {
-            ahead - around
-        }
-    }
-
-    /// Takes in an accepted event.
-    fn take(&mut self, event: &Event) {
-        match *event {
-            Event::NewData(event) => self.added += event.bytes as i64,
-            Event::Send(event) => {
-                let psn = self.unwrap(event.psn);
-                let size = i64::from(event.size);
-                assert_eq!(event.resend, self.packets.contains_key(&psn));
-                self.packets.insert(psn, (FLYING, size));
-                self.sent += size;
-                self.taken += if event.resend { 0 } else { size };
-            }
-            Event::Ack(event) => {
-                let cum = self.unwrap(event.cum);
-                let by_map = (0..64).filter(|i| event.map >> i & 1 == 1);
-                let covered: Vec<i64> = by_map.map(|i| cum + 1 + i).collect();
-                let last = covered.iter().copied().max().unwrap_or(cum).max(cum);
-                assert!(
-                    last < self.next(),
-                    "an ACK of an unsent packet was accepted"
-                );
-                for (psn, packet) in self.packets.iter_mut().rev() {
-                    // Far below, all is done for good.
-                    if *psn < cum - 5_000 {
-                        break;
-                    }
-                    if *psn <= cum || covered.contains(psn) {
-                        packet.0 = DONE;
-                    }
-                }
-                let ahead = (i64::from(event.count) - self.units).rem_euclid(1 << 24);
-                if ahead < 1 << 23 {
-                    self.units += ahead;
-                }
-            }
-            Event::Nack(event) => self.lose(event.psn),
-            Event::Loss(event) => self.lose(event.psn),
-            Event::Path { .. } => {}
-        }
-    }
-
-    fn lose(&mut self, psn: u32) {
-        let psn = self.unwrap(psn);
-        let packet = self
-            .packets
-            .get_mut(&psn)
-            .expect("a loss of an unsent packet");
-        assert_eq!(packet.0, FLYING);
-        packet.0 = MARKED;
-        self.lost += packet.1;
-    }
-
-    fn check(&self, rig: &Rig) {
-        let state = &rig.state;
-        assert_eq!(state.in_flight, self.sent - 256 * self.units - self.lost);
-        assert_eq!(state.backlog as i64, self.added - self.taken);
-        assert_eq!(i64::from(state.held), self.units % (1 << 24));
-        let recent = || self.packets.range(self.next() - 5_000..);
-        let with = |status| recent().filter(move |(_, packet)| packet.0 == status);
-        assert_eq!(state.flying as usize, with(FLYING).count());
-        assert_eq!(state.marked as usize, with(MARKED).count());
-        let bytes: i64 = with(MARKED).map(|(_, packet)| packet.1).sum();
-        assert_eq!(state.marked_bytes as i64, bytes);
-        assert_eq!(state.next, self.next() as u32);
-        let low = recent().find(|(_, packet)| packet.0 != DONE);
-        let low = low.map_or(self.next(), |(&psn, _)| psn);
-        assert_eq!(state.low, low as u32);
-        for psn in low..self.next() {
-            let (status, size, _, _) = rig.slot(psn as u32);
-            assert_eq!((status, i64::from(size)), self.packets[&psn]);
-        }
-    }
-}
+const NUMBERS: usize = Refusal::Flow as usize + 1;
 
 /// cwnd lies between MTU and max_wnd: the latter without its division.
 fn check_window(state: &State) {
@@ -150,11 +36,13 @@ struct Seen {
 }
 
 impl Seen {
-    fn note(&mut self, event: &Event, outcome: Outcome, before: &State, after: &State) {
+    fn note(&mut self, event: &Event, outcome: Outcome, before: &Rig, after: &Rig) {
         self.answers[usize::from(outcome.number)] += 1;
         if outcome.number != 0 {
             return;
         }
+        self.wraps += u32::from(after.flow().low < before.flow().low);
+        let (before, after) = (&before.state, &after.state);
         if let Some(sampling) = outcome.sampling {
             let of_ack = matches!(event, Event::Ack(_));
             let letters = if of_ack {
@@ -171,7 +59,7 @@ impl Seen {
             Event::Ack(_) => 3,
             Event::Nack(_) => 4,
             Event::Loss(_) => 5,
-            Event::Path { .. } => 6,
+            Event::Path(_) => 6,
         }] += 1;
         self.names[match after.name {
             Name::Idle => 0,
@@ -183,7 +71,6 @@ impl Seen {
         self.fired += u32::from(after.bytes_to_ignore != before.bytes_to_ignore);
         self.fast += u32::from(after.fast_mode && !before.fast_mode);
         self.clamped += u32::from(before.cwnd > after.max_wnd());
-        self.wraps += u32::from(after.low < before.low);
         self.negative += u32::from(after.in_flight < 0);
     }
 
@@ -227,9 +114,10 @@ fn follow(log: &[u8], seen: &mut Seen) {
         } else {
             assert_eq!(rig, before);
         }
-        naive.check(&rig);
+        naive.check(&rig, 0);
+        check_totals(&rig, std::slice::from_ref(&naive));
         check_window(&rig.state);
-        seen.note(&event, outcome, &before.state, &rig.state);
+        seen.note(&event, outcome, &before, &rig);
     }
 }
 
@@ -346,33 +234,30 @@ fn edge(rng: &mut Rng) -> u64 {
 
 fn spoil_state(rng: &mut Rng, state: &mut State) {
     let number = edge(rng);
-    match rng.below(28) {
+    match rng.below(25) {
         0 => state.clock = number,
-        1 => state.low = number as u32,
-        2 => state.next = number as u32,
-        3 => state.flying = number,
-        4 => state.marked = number,
-        5 => state.marked_bytes = number,
-        6 => state.backlog = number,
-        7 => state.in_flight = number as i64,
-        8 => state.held = number as u32,
-        9 => state.cwnd = number,
-        10 => state.base = number,
-        11 => state.avg = number,
-        12 => state.inc_bytes = number,
-        13 => state.received = number,
-        14 => state.achieved = number,
-        15 => state.ignored = number,
-        16 => state.bytes_to_ignore = number,
-        17 => state.fi_count = number,
-        18 => state.qa_end = number,
-        19 => state.last_adjust = number,
-        20 => state.last_dec = number,
-        21 => state.cursor = number,
-        22 => state.trigger = !state.trigger,
-        23 => state.fast_mode = !state.fast_mode,
-        24 => state.name = rng.pick(&[Name::Idle, Name::Pending, Name::Ready, Name::Active]),
-        25 => state.settings.ev_count = rng.pick(&[255, 256, 512, number as u32]),
+        1 => state.flying = number,
+        2 => state.marked = number,
+        3 => state.marked_bytes = number,
+        4 => state.backlog = number,
+        5 => state.in_flight = number as i64,
+        6 => state.cwnd = number,
+        7 => state.base = number,
+        8 => state.avg = number,
+        9 => state.inc_bytes = number,
+        10 => state.received = number,
+        11 => state.achieved = number,
+        12 => state.ignored = number,
+        13 => state.bytes_to_ignore = number,
+        14 => state.fi_count = number,
+        15 => state.qa_end = number,
+        16 => state.last_adjust = number,
+        17 => state.last_dec = number,
+        18 => state.cursor = number,
+        19 => state.trigger = !state.trigger,
+        20 => state.fast_mode = !state.fast_mode,
+        21 => state.name = rng.pick(&[Name::Idle, Name::Pending, Name::Ready, Name::Active]),
+        22 => state.settings.ev_count = rng.pick(&[255, 256, 512, number as u32]),
         _ => {
             let mut numbers = state.settings.numbers();
             numbers[rng.below(12) as usize] = number;
@@ -381,13 +266,26 @@ fn spoil_state(rng: &mut Rng, state: &mut State) {
     }
 }
 
+fn any_flow(rng: &mut Rng) -> Flow {
+    Flow {
+        low: edge(rng) as u32,
+        next: edge(rng) as u32,
+        held: edge(rng) as u32,
+        backlog: edge(rng),
+    }
+}
+
 fn spoil_memory(rng: &mut Rng, memory: &mut Memory) {
     let number = edge(rng);
-    let i = rng.below(64) as usize;
-    let length = rng.pick(&[0, 1, 32, 63, 65, 128, 255, 257]);
-    match rng.below(10) {
-        0 => memory.outstanding[0] ^= 1 << i,
-        1 => memory.marked[0] ^= 1 << i,
+    let i = rng.below(128) as usize;
+    let length = rng.pick(&[0, 1, 32, 63, 64, 65, 127, 129, 192, 255, 256, 257]);
+    let word = i / 64;
+    let any = any_flow(rng);
+    let flow = rng.pick(&[0, 1]);
+    let record = &mut memory.flows[flow];
+    match rng.below(16) {
+        0 => memory.outstanding[word] ^= 1 << (i % 64),
+        1 => memory.marked[word] ^= 1 << (i % 64),
         2 => memory.sizes[i] = number as u32,
         3 => memory.sent[i] = number,
         4 => memory.ev_times[i] = number,
@@ -395,7 +293,13 @@ fn spoil_memory(rng: &mut Rng, memory: &mut Memory) {
         6 => memory.marked.resize(length / 32, 0),
         7 => memory.sizes.resize(length, 0),
         8 => memory.sent.resize(length, 0),
-        _ => memory.ev_times.resize(length, 0),
+        9 => memory.ev_times.resize(length, 0),
+        10 => record.low = any.low,
+        11 => record.next = any.next,
+        12 => record.held = any.held,
+        13 => record.backlog = any.backlog,
+        14 => memory.flows.swap(0, 1),
+        _ => memory.flows.resize(rng.pick(&[0, 1, 3, 4, 8, 9]), any),
     }
 }
 
@@ -408,10 +312,17 @@ fn any_event(rng: &mut Rng) -> Event {
         1 => send(time, psn, edge(rng) as u32),
         2 => resend(time, psn, edge(rng) as u32),
         3 => nack(time, psn, rng.below(4) as u8).into(),
-        4 => model::Loss { time, psn, ev }.into(),
+        4 => model::Loss {
+            time,
+            flow: 0,
+            psn,
+            ev,
+        }
+        .into(),
         5 => path(time),
         _ => model::Ack {
             time,
+            flow: 0,
             cum: psn,
             map: edge(rng),
             trigger: edge(rng) as u32,
@@ -430,10 +341,9 @@ fn garbage_is_answered() {
     let mut rng = Rng::new(5);
     let mut answers = [0; NUMBERS];
     for _ in 0..60_000 {
-        let mut rig = Rig::e().lay(
-            u32::MAX,
-            &[(FLYING, 100, 9_000, 0), (MARKED, 100, 9_000, 1)],
-        );
+        let slots = [(FLYING, 100, 9_000, 0), (MARKED, 100, 9_000, 1)];
+        let rig = Rig::e_with_flows(2).lay(u32::MAX, &slots);
+        let mut rig = rig.lay_in(1, 62, &slots);
         for _ in 0..rng.below(3) {
             spoil_state(&mut rng, &mut rig.state);
         }
@@ -442,7 +352,9 @@ fn garbage_is_answered() {
         }
         let before = rig.clone();
         let good = rig.holds();
-        let event = any_event(&mut rng);
+        let flow = edge(&mut rng);
+        let flow = rng.pick(&[0, 0, 1, 1, flow]);
+        let event = of(flow, any_event(&mut rng));
         let number = rig.take(event).number;
         assert_eq!(number == 2, !good);
         if number == 0 {
@@ -453,13 +365,16 @@ fn garbage_is_answered() {
         answers[usize::from(number)] += 1;
     }
     assert!(answers[0] > 100 && answers[2] > 1_000 && answers[3] > 100);
+    assert!(answers[25] > 100);
 }
 
 #[test]
 fn a_state_of_nothing_but_garbage_is_answered() {
     let mut rng = Rng::new(6);
     for _ in 0..20_000 {
-        let mut memory = Memory::new(rng.pick(&[0, 1, 63, 64, 65, 128]));
+        let flows = rng.pick(&[0, 1, 1, 2, 8, 9]);
+        let mut memory = Memory::with_flows(flows, rng.pick(&[0, 1, 63, 64, 65, 128]), 256);
+        memory.flows.fill_with(|| any_flow(&mut rng));
         memory.outstanding.fill_with(|| edge(&mut rng));
         memory.marked.fill_with(|| edge(&mut rng));
         memory.sizes.fill_with(|| edge(&mut rng) as u32);
@@ -482,8 +397,11 @@ fn any_settings_are_answered() {
         let evs = rng.pick(&[0, 255, 256, 512, 4_096, 8_192]);
         let settings = Settings::from_numbers(numbers, 0, false).with_evs(evs);
         let lent = rng.pick(&[256, 512, evs as usize]);
-        let mut memory = Memory::with_evs(rng.pick(&[0, 63, 64]), lent);
-        let good_lengths = memory.sizes.len() == 64 && lent == evs as usize;
+        let flows = rng.pick(&[0, 1, 1, 8, 8, 9]);
+        let capacity = rng.pick(&[0, 63, 64]);
+        let mut memory = Memory::with_flows(flows, capacity, lent);
+        let good_flows = flows == 1 || flows == 8;
+        let good_lengths = good_flows && capacity == 64 && lent == evs as usize;
         let (answer, state) = State::set_up(&settings, &mut memory.lend());
         match answer {
             0 => assert!(good_lengths),

@@ -1,14 +1,14 @@
 //! Each refusal number at its edge: one step inside, one outside. And their order.
 
 use crate::rig::*;
-use model::{Ack, Loss, Memory, Nack, Outcome, Settings, State};
+use model::{Ack, Flow, Loss, Memory, Nack, Outcome, Settings, State};
 
 const NOW: u64 = 10_050;
 
 /// Low 100, next 104: flying, marked, done, flying; 5,000 bytes of backlog.
 fn rig() -> Rig {
     let mut rig = Rig::e();
-    rig.state.backlog = 5_000;
+    rig.set_backlog(5_000);
     rig.state.in_flight = 8_192;
     rig.lay(
         100,
@@ -36,6 +36,7 @@ fn one_of_each(time: u64) -> Vec<model::Event> {
 
 /// Setting up on memory of ones: the answer, the state, and whether the memory was left alone.
 fn set_up(settings: &Settings, mut memory: Memory) -> (u8, State, bool) {
+    memory.flows.fill(Flow::fresh(1));
     memory.outstanding.fill(1);
     memory.marked.fill(1);
     memory.sizes.fill(1);
@@ -132,6 +133,7 @@ fn number_1_comes_before_2() {
 #[test]
 fn a_fresh_state() {
     let mut memory = Memory::new(64);
+    memory.flows[0].backlog = 5;
     memory.outstanding.fill(3);
     memory.ev_times.fill(9);
     let mut settings = e();
@@ -140,15 +142,20 @@ fn a_fresh_state() {
     let (answer, state) = State::set_up(&settings, &mut memory.lend());
     let expected = State {
         settings,
-        low: 77,
-        next: 77,
         cwnd: 614_400,
         base: 96,
         ..State::default()
     };
     assert_eq!((answer, state), (0, expected));
     assert_eq!(state.name.word(), "IDLE");
-    assert_eq!(memory, Memory::new(64));
+    let mut fresh = Memory::new(64);
+    fresh.flows[0] = Flow {
+        low: 77,
+        next: 77,
+        held: 0,
+        backlog: 0,
+    };
+    assert_eq!(memory, fresh);
 }
 
 #[test]
@@ -271,12 +278,12 @@ fn number_24_trigger() {
 #[test]
 fn number_5_backlog() {
     let mut rig = rig();
-    rig.state.backlog = 1_000;
+    rig.set_backlog(1_000);
     rig.settle();
     rig.refuse(5, send(NOW, 104, 1_001));
     assert_eq!(rig.after(send(NOW, 104, 1_000)).state.backlog, 0);
     // A resend needs no backlog.
-    rig.state.backlog = 0;
+    rig.set_backlog(0);
     rig.settle();
     rig.accept(resend(NOW, 101, 1_000));
 }
@@ -301,7 +308,7 @@ fn number_6_window() {
 fn number_7_full_ring() {
     let filled = |packets: usize| {
         let mut rig = Rig::e();
-        rig.state.backlog = 5_000;
+        rig.set_backlog(5_000);
         rig.lay(4_294_967_290, &vec![(FLYING, 41, 9_000, 0); packets])
     };
     let mut almost = filled(63);
@@ -315,7 +322,7 @@ fn number_7_a_done_slot_is_not_used_again_before_low_has_passed_it() {
     let mut slots = [(DONE, 41, 9_000, 0); 64];
     slots[0] = (FLYING, 41, 9_000, 0);
     let mut rig = Rig::e();
-    rig.state.backlog = 5_000;
+    rig.set_backlog(5_000);
     let mut rig = rig.lay(0, &slots);
     rig.refuse(7, send(NOW, 64, 41));
     rig.accept(ack(NOW, 0, 0));
@@ -376,7 +383,7 @@ fn an_ack_of_an_empty_ledger_and_one_below_low_are_accepted() {
     let after = rig.after(ack(NOW, 50, 0));
     assert_eq!(after.memory.outstanding, rig.memory.outstanding);
     assert_eq!(after.memory.marked, rig.memory.marked);
-    assert_eq!((after.state.low, after.state.flying), (100, 2));
+    assert_eq!((after.flow().low, after.state.flying), (100, 2));
 }
 
 #[test]
@@ -453,7 +460,7 @@ fn order_of_a_send_4_8_5_7_6() {
     rig.refuse(4, send(NOW, 1, 40));
     rig.refuse(8, send(NOW, 1, 41));
     rig.refuse(5, send(NOW, 64, 41));
-    rig.state.backlog = 100;
+    rig.set_backlog(100);
     rig.settle();
     rig.refuse(7, send(NOW, 64, 41));
     let mut rig = rig.after(ack(NOW, 0, 0));

@@ -1,6 +1,8 @@
 //! A state with memory of its own, and short ways to make events.
 
-use model::{Ack, Event, Loss, Memory, Nack, Name, NewData, Outcome, Send, Settings, State};
+use model::{
+    Ack, Event, Flow, Loss, Memory, Nack, Name, NewData, Outcome, Path, Send, Settings, State,
+};
 
 pub const EMPTY: u8 = 0;
 pub const FLYING: u8 = 1;
@@ -43,7 +45,12 @@ impl Rig {
     }
 
     pub fn with_capacity(settings: Settings, capacity: usize) -> Rig {
-        let mut memory = Memory::with_evs(capacity, settings.ev_count as usize);
+        Rig::with_flows(settings, 1, capacity)
+    }
+
+    /// So many flows, each with a ring of so many slots.
+    pub fn with_flows(settings: Settings, flows: usize, capacity: usize) -> Rig {
+        let mut memory = Memory::with_flows(flows, capacity, settings.ev_count as usize);
         let (answer, state) = State::set_up(&settings, &mut memory.lend());
         assert_eq!(answer, 0);
         Rig { state, memory }
@@ -51,29 +58,63 @@ impl Rig {
 
     /// Settings E at clock 10,000, with no adjustment due before 10,096.
     pub fn e() -> Rig {
-        let mut rig = Rig::new(e());
+        Rig::e_with_flows(1)
+    }
+
+    /// The same with so many flows, each with a ring of 64 slots.
+    pub fn e_with_flows(flows: usize) -> Rig {
+        let mut rig = Rig::with_flows(e(), flows, 64);
         rig.state.clock = 10_000;
         rig.state.last_adjust = 10_000;
         rig
     }
 
-    /// Puts packets into the ring from `low` on, then settles.
-    pub fn lay(mut self, low: u32, slots: &[Slot]) -> Rig {
-        self.state.low = low;
-        self.state.next = low.wrapping_add(slots.len() as u32);
+    /// Flow 0.
+    pub fn flow(&self) -> &Flow {
+        &self.memory.flows[0]
+    }
+
+    pub fn flow_mut(&mut self) -> &mut Flow {
+        &mut self.memory.flows[0]
+    }
+
+    /// Flow 0 has this backlog, and so have all flows together. Names nothing.
+    pub fn set_backlog(&mut self, bytes: u64) {
+        self.flow_mut().backlog = bytes;
+        self.state.backlog = bytes;
+    }
+
+    /// Puts packets into the ring of flow 0 from `low` on, then settles.
+    pub fn lay(self, low: u32, slots: &[Slot]) -> Rig {
+        self.lay_in(0, low, slots)
+    }
+
+    pub fn lay_in(mut self, flow: usize, low: u32, slots: &[Slot]) -> Rig {
+        self.memory.flows[flow].low = low;
+        self.memory.flows[flow].next = low.wrapping_add(slots.len() as u32);
         for (i, &slot) in slots.iter().enumerate() {
-            self.put(low.wrapping_add(i as u32), slot);
+            self.put_in(flow, low.wrapping_add(i as u32), slot);
         }
         self.settle();
         self
     }
 
+    /// Slots of each flow's ring.
     pub fn capacity(&self) -> usize {
-        self.memory.sizes.len()
+        self.memory.sizes.len() / self.memory.flows.len()
     }
 
-    pub fn put(&mut self, psn: u32, (status, size, sent, resent): Slot) {
-        let slot = psn as usize % self.capacity();
+    /// Where a PSN of a flow lives in the buffer.
+    pub fn place(&self, flow: usize, psn: u32) -> usize {
+        flow * self.capacity() + psn as usize % self.capacity()
+    }
+
+    pub fn put(&mut self, psn: u32, slot: Slot) {
+        self.put_in(0, psn, slot);
+    }
+
+    pub fn put_in(&mut self, flow: usize, psn: u32, (status, size, sent, resent): Slot) {
+        let slot = self.place(flow, psn);
         self.mark(slot, status);
         self.memory.sizes[slot] = size + 65_536 * u32::from(resent);
         self.memory.sent[slot] = sent;
@@ -91,20 +132,28 @@ impl Rig {
     }
 
     pub fn slot(&self, psn: u32) -> Slot {
-        let slot = psn as usize % self.capacity();
+        self.slot_in(0, psn)
+    }
+
+    pub fn slot_in(&self, flow: usize, psn: u32) -> Slot {
+        let slot = self.place(flow, psn);
         let number = self.memory.sizes[slot];
         (
-            self.status(psn),
+            self.status_in(flow, psn),
             number % 65_536,
             self.memory.sent[slot],
             (number / 65_536) as u8,
         )
     }
 
-    /// What the bits show; without any, a slot of low..next-1 is done.
     pub fn status(&self, psn: u32) -> u8 {
-        let slot = psn as usize % self.capacity();
-        let (low, next) = (self.state.low, self.state.next);
+        self.status_in(0, psn)
+    }
+
+    /// What the bits show; without any, a slot of low..next-1 is done.
+    pub fn status_in(&self, flow: usize, psn: u32) -> u8 {
+        let slot = self.place(flow, psn);
+        let Flow { low, next, .. } = self.memory.flows[flow];
         let in_ledger = psn.wrapping_sub(low) < next.wrapping_sub(low);
         let outstanding = is_set(&self.memory.outstanding, slot);
         match (outstanding, is_set(&self.memory.marked, slot)) {
@@ -116,12 +165,20 @@ impl Rig {
         }
     }
 
-    /// Counts the totals in low..next-1 and names the state.
+    /// What low..next-1 of a flow holds.
+    fn packets(&self, flow: usize) -> impl Iterator<Item = Slot> + '_ {
+        let Flow { low, next, .. } = self.memory.flows[flow];
+        (0..next.wrapping_sub(low)).map(move |i| self.slot_in(flow, low.wrapping_add(i)))
+    }
+
+    /// Counts the totals in low..next-1 of every flow, and its backlog, and names the state.
     pub fn settle(&mut self) {
-        let low = self.state.low;
-        let psns = 0..self.state.next.wrapping_sub(low);
-        let slots: Vec<Slot> = psns.map(|i| self.slot(low.wrapping_add(i))).collect();
+        let flows = &self.memory.flows;
+        let slots: Vec<Slot> = (0..flows.len())
+            .flat_map(|flow| self.packets(flow))
+            .collect();
         let marked = || slots.iter().filter(|slot| slot.0 == MARKED);
+        self.state.backlog = flows.iter().map(|flow| flow.backlog).sum();
         self.state.flying = slots.iter().filter(|slot| slot.0 == FLYING).count() as u64;
         self.state.marked = marked().count() as u64;
         self.state.marked_bytes = marked().map(|slot| u64::from(slot.1)).sum();
@@ -155,7 +212,7 @@ impl Rig {
         assert!(self.holds(), "before {event:?}: {:?}", self.state);
         let outcome = self.take(event);
         assert_eq!(outcome.number, 0, "{event:?}");
-        assert_eq!(outcome.ev.is_some(), matches!(event, Event::Path { .. }));
+        assert_eq!(outcome.ev.is_some(), matches!(event, Event::Path(_)));
         let reports = matches!(event, Event::Ack(_) | Event::Nack(_));
         assert_eq!(outcome.sampling.is_some(), reports, "{event:?}");
         assert_eq!(self.state.clock, time_of(&event));
@@ -200,17 +257,37 @@ pub fn time_of(event: &Event) -> u64 {
         Event::Ack(event) => event.time,
         Event::Nack(event) => event.time,
         Event::Loss(event) => event.time,
-        Event::Path { time } => *time,
+        Event::Path(event) => event.time,
     }
 }
 
+/// The same event of another flow. The others below are of flow 0.
+pub fn of(number: u64, event: impl Into<Event>) -> Event {
+    let mut event = event.into();
+    let flow = match &mut event {
+        Event::NewData(event) => &mut event.flow,
+        Event::Send(event) => &mut event.flow,
+        Event::Ack(event) => &mut event.flow,
+        Event::Nack(event) => &mut event.flow,
+        Event::Loss(event) => &mut event.flow,
+        Event::Path(event) => &mut event.flow,
+    };
+    *flow = number;
+    event
+}
+
 pub fn new_data(time: u64, bytes: u64) -> Event {
-    Event::NewData(NewData { time, bytes })
+    Event::NewData(NewData {
+        time,
+        flow: 0,
+        bytes,
+    })
 }
 
 pub fn send(time: u64, psn: u32, size: u32) -> Event {
     Event::Send(Send {
         time,
+        flow: 0,
         size,
         psn,
         resend: false,
@@ -220,6 +297,7 @@ pub fn send(time: u64, psn: u32, size: u32) -> Event {
 pub fn resend(time: u64, psn: u32, size: u32) -> Event {
     Event::Send(Send {
         time,
+        flow: 0,
         size,
         psn,
         resend: true,
@@ -230,6 +308,7 @@ pub fn resend(time: u64, psn: u32, size: u32) -> Event {
 pub fn ack(time: u64, cum: u32, count: u32) -> Ack {
     Ack {
         time,
+        flow: 0,
         cum,
         map: 0,
         trigger: cum,
@@ -244,6 +323,7 @@ pub fn ack(time: u64, cum: u32, count: u32) -> Ack {
 pub fn nack(time: u64, psn: u32, reason: u8) -> Nack {
     Nack {
         time,
+        flow: 0,
         psn,
         ev: 0,
         reason,
@@ -253,9 +333,14 @@ pub fn nack(time: u64, psn: u32, reason: u8) -> Nack {
 }
 
 pub fn loss(time: u64, psn: u32) -> Loss {
-    Loss { time, psn, ev: 0 }
+    Loss {
+        time,
+        flow: 0,
+        psn,
+        ev: 0,
+    }
 }
 
 pub fn path(time: u64) -> Event {
-    Event::Path { time }
+    Event::Path(Path { time, flow: 0 })
 }

@@ -260,7 +260,7 @@ fn quick_adapt_has_a_floor_and_a_negative_in_flight_is_0() {
 #[test]
 fn a_firing_ack_still_sets_its_ev_time_and_the_name() {
     let mut rig = firing();
-    rig.state.backlog = 1;
+    rig.set_backlog(1);
     rig.settle();
     let after = rig.after(ack_of_1(0, true));
     assert_eq!(after.memory.ev_times[0], NOW + 96);
