@@ -25,6 +25,7 @@ use Rattle.context.specs.Context.{Context, context, Answered, answered, 
 use Rattle.context.specs.Rows.{flowRow, withFlowRow}
 use Rattle.context.specs.Events.{decided, chosen}
 use Rattle.context.specs.declared.Controller.{Controller}
+use Rattle.context.proofs.Joins.{Here, here-same}
 
 -- ---- the row of the flow
 
@@ -94,25 +95,25 @@ module _ (k : ℕ) (x : Context) (same : putWorld k x (worldAt k x) ≡ x) where
       (λ z. eq-yes n 0 _ _ _ z refl)
       (λ z. eq-no n 0 _ _ _ z (ap (λ (y : Context). record { number = n; ev = 0; after = y }) same))
 
-  -- AN EVENT OF FLOW k, as the code leaves the context: the step's answer on what flow k sees, put back
-  module _ (h : k < flowCount x) (late : Bool) (rows : List Row) (w : World) {m : ℕ} {s : Sender} {p slots : Memory} {times flows : List ℕ}
-      {c : Controller} (ec : c ≡ sharedOf s) (ef : flows ≡ withFlow (x .flows) k (s .flow))
-      (es : slots ≡ putPart (capIn x) k (x .slots) p) where
-    pub lift-answer : oneAnswered m s p times ≡ oneDecided (firstOf (row late 3 ∷ rows)) (worldAt k x) w
-        → answered m c flows slots times ≡ decided (firstOf (row late 3 ∷ flowRow k x ∷ rows)) x (putWorld k x w)
-    unfolding putWorld
-    lift-answer e =
-        rw (ec, ef, es) (ap (lifted k x) e) ∙ lift-decided (firstOf (row late 3 ∷ rows)) w
-        ∙ ap (λ (n : ℕ). decided n x (putWorld k x w)) (flow-passed k x late rows h)
+-- AN EVENT OF FLOW k, as the code leaves the context: the step's answer on what flow k sees, put back
+module _ {x : Context} {k from end at to : ℕ} (H : Here x k from end at to) (late : Bool) (rows : List Row) (w : World)
+    {m : ℕ} {s : Sender} {p slots : Memory} {times flows : List ℕ} {c : Controller} (ec : c ≡ sharedOf s)
+    (ef : flows ≡ withFlow (x .flows) k (s .flow)) (es : slots ≡ putPart (capIn x) k (x .slots) p) where
+  pub lift-answer : oneAnswered m s p times ≡ oneDecided (firstOf (row late 3 ∷ rows)) (worldAt k x) w
+      → answered m c flows slots times ≡ decided (firstOf (row late 3 ∷ flowRow k x ∷ rows)) x (putWorld k x w)
+  unfolding putWorld
+  lift-answer e =
+      rw (ec, ef, es) (ap (lifted k x) e) ∙ lift-decided k x (here-same H) (firstOf (row late 3 ∷ rows)) w
+      ∙ ap (λ (n : ℕ). decided n x (putWorld k x w)) (flow-passed k x late rows (H .inside))
 
-    pub lift-route : {ev : ℕ} (route : ℕ) → oneRouted m ev s p times
-        ≡ ifEq (firstOf (row late 3 ∷ rows)) 0 (record { number = 0; ev = route; after = w })
-        (record { number = firstOf (row late 3 ∷ rows); ev = 0; after = worldAt k x })
-        → routed m ev c flows slots times ≡ chosen (firstOf (row late 3 ∷ flowRow k x ∷ rows)) route x (putWorld k x w)
-    unfolding putWorld
-    lift-route route e =
-        rw (ec, ef, es) (ap (liftedPath k x) e) ∙ lift-chosen (firstOf (row late 3 ∷ rows)) route w
-        ∙ ap (λ (n : ℕ). chosen n route x (putWorld k x w)) (flow-passed k x late rows h)
+  pub lift-route : {ev : ℕ} (route : ℕ) → oneRouted m ev s p times
+      ≡ ifEq (firstOf (row late 3 ∷ rows)) 0 (record { number = 0; ev = route; after = w })
+      (record { number = firstOf (row late 3 ∷ rows); ev = 0; after = worldAt k x })
+      → routed m ev c flows slots times ≡ chosen (firstOf (row late 3 ∷ flowRow k x ∷ rows)) route x (putWorld k x w)
+  unfolding putWorld
+  lift-route route e =
+      rw (ec, ef, es) (ap (liftedPath k x) e) ∙ lift-chosen k x (here-same H) (firstOf (row late 3 ∷ rows)) route w
+      ∙ ap (λ (n : ℕ). chosen n route x (putWorld k x w)) (flow-passed k x late rows (H .inside))
 
 -- what an ACK or a NACK says: by the number, which is the step's
 pub lift-says : {m : ℕ} {a : OneAnswered} {b : Answered} {s : Sender} {p slots : Memory} {times ys flows : List ℕ} {c : Controller}
