@@ -21,6 +21,55 @@ ghost use Rattle.context.specs.Lent.{contextGiven, contextBefore, answer
 ghost use Rattle.context.specs.Sound.{soundContext};
 ghost use Rattle.context.specs.Events.{pastNewData, pastSend, pastAck, pastAckSays, pastNack, pastNackSays, pastLoss, pastPath};
 
+// A flow's new packet or resend.
+pub fn send<'a, 'b, 'c, 'd, 'e, 'f>(
+    c: Controller,
+    flows: &'a mut [u64],
+    outstanding: &'b mut [u64],
+    marked: &'c mut [u64],
+    sizes: &'d mut [u32],
+    sent: &'e mut [u64],
+    evs: &'f [u64],
+    time: u64,
+    flow: usize,
+    a: Send,
+) -> Answer
+    requires { ⌜ soundContext (contextGiven c flows outstanding marked sizes sent evs) ≡ true ⌝ }
+    ensures { λ r. ⌜ answeredAfter (numberOf (r .verdict)) (r .state) flows outstanding marked sizes sent evs
+        ≡ pastSend time flow a (contextBefore c flows outstanding marked sizes sent evs) ⌝ }
+{
+    let n = flow_table::count(flows);
+    if n <= flow {
+        return Answer {
+            state: c,
+            verdict: no_flow(time, c.clock),
+        };
+    }
+    let p = cut_of(sizes.len(), n, flow);
+    let from = p.from;
+    let end = p.end;
+    let at = p.at;
+    let to = p.to;
+    let s = joined(c, flow_table::flow_at(flows, flow));
+    let told = sender::rely::send(
+        s,
+        &mut outstanding[from..end],
+        &mut marked[from..end],
+        &mut sizes[at..to],
+        &mut sent[at..to],
+        evs,
+        time,
+        a,
+    );
+    let after = told.state;
+    let verdict = told.verdict;
+    flow_table::put(flows, flow, after.flow);
+    Answer {
+        state: shared(after),
+        verdict,
+    }
+}
+
 // An ACK of a flow.
 pub fn ack<'a, 'b, 'c, 'd, 'e, 'f>(
     c: Controller,
