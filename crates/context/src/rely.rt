@@ -122,3 +122,56 @@ pub fn ack<'a, 'b, 'c, 'd, 'e, 'f>(
         feedback,
     }
 }
+
+// A NACK of a flow.
+pub fn nack<'a, 'b, 'c, 'd>(
+    c: Controller,
+    flows: &'a mut [u64],
+    outstanding: &'c [u64],
+    marked: &'b mut [u64],
+    sizes: &'c [u32],
+    sent: &'c [u64],
+    evs: &'d mut [u64],
+    time: u64,
+    flow: usize,
+    a: Nack,
+) -> Heard
+    requires { ⌜ soundContext (contextGiven c flows outstanding marked sizes sent evs) ≡ true ⌝ }
+    ensures { λ r. ⌜ answeredAfter (numberOf (r .verdict)) (r .state) flows outstanding marked sizes sent evs
+        ≡ pastNack time flow a (contextBefore c flows outstanding marked sizes sent evs) ⌝ }
+    ensures { λ r. ⌜ saysOf (r .feedback) ≡ pastNackSays time flow a (contextBefore c flows outstanding marked sizes sent evs) ⌝ }
+{
+    let n = flow_table::count(flows);
+    if n <= flow {
+        return Heard {
+            state: c,
+            verdict: no_flow(time, c.clock),
+            feedback: Feedback::Nothing,
+        };
+    }
+    let p = cut_of(sizes.len(), n, flow);
+    let from = p.from;
+    let end = p.end;
+    let at = p.at;
+    let to = p.to;
+    let s = joined(c, flow_table::flow_at(flows, flow));
+    let heard = sender::rely::nack(
+        s,
+        &outstanding[from..end],
+        &mut marked[from..end],
+        &sizes[at..to],
+        &sent[at..to],
+        evs,
+        time,
+        a,
+    );
+    let after = heard.state;
+    let verdict = heard.verdict;
+    let feedback = heard.feedback;
+    flow_table::put(flows, flow, after.flow);
+    Heard {
+        state: shared(after),
+        verdict,
+        feedback,
+    }
+}
