@@ -175,3 +175,52 @@ pub fn nack<'a, 'b, 'c, 'd>(
         feedback,
     }
 }
+
+// A loss of a flow.
+pub fn loss<'a, 'b, 'c, 'd>(
+    c: Controller,
+    flows: &'a mut [u64],
+    outstanding: &'c [u64],
+    marked: &'b mut [u64],
+    sizes: &'c [u32],
+    sent: &'c [u64],
+    evs: &'d mut [u64],
+    time: u64,
+    flow: usize,
+    a: Loss,
+) -> Answer
+    requires { ⌜ soundContext (contextGiven c flows outstanding marked sizes sent evs) ≡ true ⌝ }
+    ensures { λ r. ⌜ answeredAfter (numberOf (r .verdict)) (r .state) flows outstanding marked sizes sent evs
+        ≡ pastLoss time flow a (contextBefore c flows outstanding marked sizes sent evs) ⌝ }
+{
+    let n = flow_table::count(flows);
+    if n <= flow {
+        return Answer {
+            state: c,
+            verdict: no_flow(time, c.clock),
+        };
+    }
+    let p = cut_of(sizes.len(), n, flow);
+    let from = p.from;
+    let end = p.end;
+    let at = p.at;
+    let to = p.to;
+    let s = joined(c, flow_table::flow_at(flows, flow));
+    let told = sender::rely::loss(
+        s,
+        &outstanding[from..end],
+        &mut marked[from..end],
+        &sizes[at..to],
+        &sent[at..to],
+        evs,
+        time,
+        a,
+    );
+    let after = told.state;
+    let verdict = told.verdict;
+    flow_table::put(flows, flow, after.flow);
+    Answer {
+        state: shared(after),
+        verdict,
+    }
+}
