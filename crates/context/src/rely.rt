@@ -21,6 +21,55 @@ ghost use Rattle.context.specs.Lent.{contextGiven, contextBefore, answer
 ghost use Rattle.context.specs.Sound.{soundContext};
 ghost use Rattle.context.specs.Events.{pastNewData, pastSend, pastAck, pastAckSays, pastNack, pastNackSays, pastLoss, pastPath};
 
+// New data of a flow. Its ring and the EV times are lent for what the step requires of them.
+pub fn new_data<'a, 'b>(
+    c: Controller,
+    flows: &'a mut [u64],
+    outstanding: &'b [u64],
+    marked: &'b [u64],
+    sizes: &'b [u32],
+    sent: &'b [u64],
+    evs: &'b [u64],
+    time: u64,
+    flow: usize,
+    bytes: u64,
+) -> Answer
+    requires { ⌜ soundContext (contextGiven c flows outstanding marked sizes sent evs) ≡ true ⌝ }
+    ensures { λ r. ⌜ answeredAfter (numberOf (r .verdict)) (r .state) flows outstanding marked sizes sent evs
+        ≡ pastNewData time flow bytes (contextBefore c flows outstanding marked sizes sent evs) ⌝ }
+{
+    let n = flow_table::count(flows);
+    if n <= flow {
+        return Answer {
+            state: c,
+            verdict: no_flow(time, c.clock),
+        };
+    }
+    let p = cut_of(sizes.len(), n, flow);
+    let from = p.from;
+    let end = p.end;
+    let at = p.at;
+    let to = p.to;
+    let s = joined(c, flow_table::flow_at(flows, flow));
+    let told = sender::rely::new_data(
+        s,
+        &outstanding[from..end],
+        &marked[from..end],
+        &sizes[at..to],
+        &sent[at..to],
+        evs,
+        time,
+        bytes,
+    );
+    let after = told.state;
+    let verdict = told.verdict;
+    flow_table::put(flows, flow, after.flow);
+    Answer {
+        state: shared(after),
+        verdict,
+    }
+}
+
 // A flow's new packet or resend.
 pub fn send<'a, 'b, 'c, 'd, 'e, 'f>(
     c: Controller,
