@@ -16,12 +16,14 @@ use Rattle.ledger.specs.Memory.{Memory}
 use Rattle.sender.specs.World.{World, world}
 use Rattle.sender.specs.World.{Answered as OneAnswered, answered as oneAnswered, Routing as OneRouting, routed as oneRouted}
 use Rattle.sender.specs.Events.{says}
-use Rattle.sender.specs.Events.{decided as oneDecided}
-use Rattle.sender.specs.Rows.{timeRow}
+use Rattle.sender.specs.Events.{decided as oneDecided, pastPath as onePath}
+use Rattle.sender.specs.Rows.{timeRow, pathRows}
+use Rattle.sender.specs.Steps.{stateOf, pathState, pathStep}
 use Rattle.sender.specs.declared.Controller.{Controller as Sender}
 use Rattle.flow_table.specs.Words.{withFlow}
 use Rattle.flow_table.specs.Parts.{putPart}
-use Rattle.context.specs.Context.{Context, context, Answered, answered, Routing, routed, flowCount, capIn, sharedOf, worldAt, putWorld}
+use Rattle.flow_table.proofs.Places.{with-same}
+use Rattle.context.specs.Context.{Context, context, Answered, answered, Routing, routed, flowCount, capIn, joinedOf, sharedOf, worldAt, putWorld}
 use Rattle.context.specs.Rows.{flowRow, withFlowRow}
 use Rattle.context.specs.Events.{decided, chosen}
 use Rattle.context.specs.declared.Controller.{Controller}
@@ -114,6 +116,20 @@ module _ {x : Context} {k from end at to : ℕ} (H : Here x k from end at to) (l
   lift-route route e =
       rw (ec, ef, es) (ap (liftedPath k x) e) ∙ lift-chosen k x (here-same H) (firstOf (row late 3 ∷ rows)) route w
       ∙ ap (λ (n : ℕ). chosen n route x (putWorld k x w)) (flow-passed k x late rows (H .inside))
+
+-- a path choice leaves the flow's record as it was, also where it is refused
+path-keeps : (time : ℕ) (w : World) → onePath time w .after .state .flow ≡ w .state .flow
+unfolding onePath pathStep pathState stateOf
+path-keeps time w =
+    eq-both (λ (r : OneRouting). r .after .state .flow ≡ w .state .flow) (firstOf (pathRows time (w .state))) 0 _ _ (λ _. refl) (λ _. refl)
+
+-- so the table is the one with what it leaves put back
+pub path-flow : (k : ℕ) (x : Context) (time : ℕ) {m ev : ℕ} {s : Sender} {p : Memory} {times : List ℕ}
+    → oneRouted m ev s p times ≡ onePath time (worldAt k x) → x .flows ≡ withFlow (x .flows) k (s .flow)
+unfolding worldAt joinedOf
+path-flow k x time e =
+    let kept = ap (λ (r : OneRouting). r .after .state .flow) e ∙ path-keeps time (worldAt k x) in
+    sym (ap (withFlow (x .flows) k) kept ∙ with-same (x .flows) k)
 
 -- what an ACK or a NACK says: by the number, which is the step's
 pub lift-says : {m : ℕ} {a : OneAnswered} {b : Answered} {s : Sender} {p slots : Memory} {times ys flows : List ℕ} {c : Controller}

@@ -273,3 +273,51 @@ pub fn loss<'a, 'b, 'c, 'd>(
         verdict,
     }
 }
+
+// A flow's next path. It changes no flow: the table is only read.
+pub fn path<'a>(
+    c: Controller,
+    flows: &'a [u64],
+    outstanding: &'a [u64],
+    marked: &'a [u64],
+    sizes: &'a [u32],
+    sent: &'a [u64],
+    evs: &'a [u64],
+    time: u64,
+    flow: usize,
+) -> Routed
+    requires { ⌜ soundContext (contextGiven c flows outstanding marked sizes sent evs) ≡ true ⌝ }
+    ensures { λ r. ⌜ routedAfter (numberOf (r .verdict)) (r .ev) (r .state) flows outstanding marked sizes sent evs
+        ≡ pastPath time flow (contextBefore c flows outstanding marked sizes sent evs) ⌝ }
+{
+    let n = flow_table::count(flows);
+    if n <= flow {
+        return Routed {
+            state: c,
+            verdict: no_flow(time, c.clock),
+            ev: 0,
+        };
+    }
+    let p = cut_of(sizes.len(), n, flow);
+    let from = p.from;
+    let end = p.end;
+    let at = p.at;
+    let to = p.to;
+    let s = joined(c, flow_table::flow_at(flows, flow));
+    let chosen = sender::rely::path(
+        s,
+        &outstanding[from..end],
+        &marked[from..end],
+        &sizes[at..to],
+        &sent[at..to],
+        evs,
+        time,
+    );
+    let after = chosen.state;
+    let verdict = chosen.verdict;
+    Routed {
+        state: shared(after),
+        verdict,
+        ev: chosen.ev,
+    }
+}
