@@ -1,6 +1,6 @@
 -- One flow of a sound context: where its part lies, what is lent of it, and that it is put back in its place.
 -- Assumes nothing.
-use mathlib.Core.Path.{_≡_, refl, sym, ap, ap₂, _∙_, subst}
+use mathlib.Core.Path.{_≡_, sym, ap, ap₂, _∙_, subst}
 use mathlib.Core.Bool.{true}
 use mathlib.Core.List.{List, _++_}
 use Prim.Native.Nat.{ℕ, _+_, _-_, _*_, _/_, _≤_, _<_}
@@ -10,16 +10,15 @@ use lib.ListN.{length, take, drop, take-append-drop}
 use Rattle.ledger.specs.Memory.{Memory, memory}
 use Rattle.ledger.specs.declared.Flow.{Flow}
 use Rattle.ledger.proofs.Geometry.{cap-facts}
-use Rattle.flow_table.specs.Words.{flowsMost, flowAt, withFlow, Fits}
-use Rattle.flow_table.specs.Parts.{wordsIn, part, around, partOf, putPart}
+use Rattle.flow_table.specs.Words.{flowsMost, Fits}
+use Rattle.flow_table.specs.Parts.{wordsIn, putPart}
 use Rattle.flow_table.proofs.Places.{with-same}
-use Rattle.flow_table.proofs.Cuts.{part-in, lent-part, lent-around, put-part}
+use Rattle.flow_table.proofs.Cuts.{part-in, put-part, lent-ring, lent-put}
 use Rattle.sender.specs.World.{World, world}
 use Rattle.sender.specs.Sound.{Holds}
 use Rattle.sender.specs.declared.Controller.{Controller as Sender}
-use Rattle.context.specs.Context.{Context, context, flowCount, capIn, flowIn, memoryIn, joinedOf, sharedOf, worldAt, putWorld}
+use Rattle.context.specs.Context.{Context, context, flowCount, capIn, flowIn, joinedOf, sharedOf, worldAt, putWorld}
 use Rattle.context.specs.Sound.{soundContext}
-use Rattle.context.specs.declared.Controller.{Controller}
 use Rattle.context.proofs.Sounds.{SoundContext, context-facts, flow-facts, one-holds}
 
 -- the bits of flow k's part are the words from..end-1, its slots at..to-1
@@ -113,18 +112,11 @@ module _ {x : Context} {k from end at to : ℕ} (L : Lies x k from end at to) wh
       (take (to - at) (drop at (x .slots .sizes))) (take (to - at) (drop at (x .slots .sent))))
       (x .times)
       ≡ worldAt k x
-  unfolding worldAt partOf
+  unfolding worldAt
   lent-world ef es =
-      rw (
-        es,
-        ef,
-        lent-part from end (wordsIn (capIn x)) (x .slots .outstanding) (L .end-is),
-        lent-part from end (wordsIn (capIn x)) (x .slots .marked) (L .end-is),
-        lent-part at to (capIn x) (x .slots .sizes) (L .to-is),
-        lent-part at to (capIn x) (x .slots .sent) (L .to-is),
-        L .from-is,
-        L .at-is,
-      )
+      rw (es, ef)
+      (ap (λ (m : Memory). world (joinedOf (x .state) (flowIn x k)) m (x .times))
+      (lent-ring (capIn x) k from end at to (x .slots) (L .from-is) (L .end-is) (L .at-is) (L .to-is)))
 
   -- and what comes back stands in its place
   pub put-slots : (o m z t : List ℕ)
@@ -133,16 +125,8 @@ module _ {x : Context} {k from end at to : ℕ} (L : Lies x k from end at to) wh
       (take at (x .slots .sizes) ++ (z ++ drop (to - at) (drop at (x .slots .sizes))))
       (take at (x .slots .sent) ++ (t ++ drop (to - at) (drop at (x .slots .sent))))
       ≡ putPart (capIn x) k (x .slots) (memory o m z t)
-  unfolding putPart
   put-slots o m z t =
-      rw (
-        lent-around from end (wordsIn (capIn x)) (x .slots .outstanding) (L .end-is) o,
-        lent-around from end (wordsIn (capIn x)) (x .slots .marked) (L .end-is) m,
-        lent-around at to (capIn x) (x .slots .sizes) (L .to-is) z,
-        lent-around at to (capIn x) (x .slots .sent) (L .to-is) t,
-        L .from-is,
-        L .at-is,
-      )
+      lent-put (capIn x) k from end at to (x .slots) (L .from-is) (L .end-is) (L .at-is) (L .to-is) (memory o m z t)
 
 -- a part that was only read: the slice is as it was
 pub lent-same : (from n : ℕ) (xs : List ℕ) → take from xs ++ (take n (drop from xs) ++ drop n (drop from xs)) ≡ xs
@@ -168,7 +152,8 @@ module _ {x : Context} {k from end at to : ℕ} (L : Lies x k from end at to) wh
       (take (to - at) (drop at (x .slots .sent))))
 
   -- no slice was
-  pub put-none : x .slots ≡ putPart (capIn x) k (x .slots) (lentBut from end at to (x .slots) (take (end - from) (drop from (x .slots .marked))))
+  pub put-none : x .slots
+      ≡ putPart (capIn x) k (x .slots) (lentBut from end at to (x .slots) (take (end - from) (drop from (x .slots .marked))))
   put-none =
       let m = take (end - from) (drop from (x .slots .marked)) in
       rw (lent-same from (end - from) (x .slots .marked)) at (put-marked m)

@@ -1,30 +1,30 @@
 -- The answer of flow k's step, lifted to the context: number and context are those of the event's definition.
 -- Assumes nothing.
-use mathlib.Core.Path.{_≡_, refl, sym, ap, ap₂, _∙_}
-use mathlib.Core.Bool.{Bool, true, false, not, _||_}
-use mathlib.Core.List.{List, [], _∷_}
+use mathlib.Core.Path.{_≡_, refl, sym, ap, _∙_}
+use mathlib.Core.Bool.{Bool}
+use mathlib.Core.List.{List, _∷_}
 use mathlib.Core.Option.{Option, none, some}
 use Prim.Native.Nat.{ℕ, _≤_, _<_}
 use native.Mathlib.Omega.{arith}
-use lib.Dec.{ltb, leb}
+use lib.Dec.{leb}
 use borrow.Author.Tests.{le-leb, lt-leb}
 use Rattle.rules.specs.Branch.{ifSo, ifEq, eq-yes, eq-no, so-both, eq-both}
 use Rattle.rules.specs.Rows.{Row, row, firstOf, first-here, first-later}
-use Rattle.window.specs.Limits.{timeEnd}
 use Rattle.window.specs.declared.Sampling.{Sampling}
 use Rattle.ledger.specs.Memory.{Memory}
-use Rattle.sender.specs.World.{World, world}
+use Rattle.sender.specs.World.{World}
 use Rattle.sender.specs.World.{Answered as OneAnswered, answered as oneAnswered, Routing as OneRouting, routed as oneRouted}
 use Rattle.sender.specs.Events.{says}
 use Rattle.sender.specs.Events.{decided as oneDecided, pastPath as onePath}
-use Rattle.sender.specs.Rows.{timeRow, pathRows}
+use Rattle.sender.specs.Rows.{pathRows}
 use Rattle.sender.specs.Steps.{stateOf, pathState, pathStep}
 use Rattle.sender.specs.declared.Controller.{Controller as Sender}
 use Rattle.flow_table.specs.Words.{withFlow}
 use Rattle.flow_table.specs.Parts.{putPart}
 use Rattle.flow_table.proofs.Places.{with-same}
-use Rattle.context.specs.Context.{Context, context, Answered, answered, Routing, routed, flowCount, capIn, joinedOf, sharedOf, worldAt, putWorld}
-use Rattle.context.specs.Rows.{flowRow, withFlowRow}
+use Rattle.context.specs.Context.{Context, Answered, answered, Routing, routed, flowCount, capIn}
+use Rattle.context.specs.Context.{joinedOf, sharedOf, worldAt, putWorld}
+use Rattle.context.specs.Rows.{flowRow}
 use Rattle.context.specs.Events.{decided, chosen}
 use Rattle.context.specs.declared.Controller.{Controller}
 use Rattle.context.proofs.Joins.{Here, here-same}

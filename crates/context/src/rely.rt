@@ -1,5 +1,5 @@
-// Each event of a flow for a caller who knows that state and buffers hold together: the sender's step on that flow's record and its part of the
-// ring buffer. A replay tests once; what an event leaves holds together again, whatever it answers.
+// Each event of a flow for a caller who knows that state and buffers hold together: the sender's step on that flow's record and its part of
+// the ring buffer. A replay tests once; what an event leaves holds together again, whatever it answers.
 use crate::Answer;
 use crate::Controller;
 use crate::Heard;

@@ -3,7 +3,8 @@ use mathlib.Core.Path.{ap, _∙_}
 use Prim.Native.Nat.{_≤_}
 use native.Mathlib.Omega.{arith}
 use borrow.Author.Needs.{needs}
-use Rattle.sender.specs.World.{World, viewOf, worldOf}
+use Rattle.window.specs.declared.Sampling.{Sampling}
+use Rattle.sender.specs.World.{World, View, viewOf, worldOf}
 use Rattle.sender.specs.Events.{saysOf}
 use Rattle.sender.specs.Events.{pastAck as oneAck, pastAckSays as oneSays}
 use Rattle.sender.specs.Steps.{ackSampling, ackStep}
@@ -15,14 +16,20 @@ use Rattle.context.proofs.Lifts.{no-flow-decided, not-zero, lift-answer
 use Rattle.context.proofs.rely.ack.Statement.{statement}
 use Rattle.context.proofs.rely.ack.Tie as tie
 
--- what was handed in, and flow k's world after the step
+-- what was handed in, and what flow k's step sees of it and leaves
 abbrev handed : tie.Start → Context
 handed s =
     let a = s .args in
     contextGiven (a .c) (a .flows) (a .outstanding) (a .marked) (a .sizes) (a .sent) (a .evs)
 
+abbrev sees : tie.Start → View
+sees s = viewOf (worldAt (s .args .flow) (handed s))
+
 abbrev stepped : tie.Start → World
-stepped s = worldOf (ackStep (s .args .time) (s .args .a) (viewOf (worldAt (s .args .flow) (handed s))))
+stepped s = worldOf (ackStep (s .args .time) (s .args .a) (sees s))
+
+abbrev sampled : tie.Start → Sampling
+sampled s = ackSampling (s .args .time) (s .args .a) (sees s)
 
 -- from the count back to the entry
 abbrev start : tie.After-count → tie.Start
@@ -59,7 +66,7 @@ returns c =
     let out : flowCount (handed s) ≤ s .args .flow = omega (arith, c .before .if1 .taken, n .count .ensures) in
     let e = c .no-flow .ensures in
     let answer = no-flow-decided (s .args .flow) (handed s) _ _ out e _ in
-    (answer, no-flow-says (ackSampling (s .args .time) (s .args .a) (viewOf (worldAt (s .args .flow) (handed s)))) answer (not-zero _ e))
+    (answer, no-flow-says (sampled s) answer (not-zero _ e))
 
 cut-of-requires : tie.Need-cut-of-requires
 cut-of-requires c κs = let s = start (c .before) in cut-asks (handed s) (s .pre) (c .before .count .ensures) (c .if1 .left)
@@ -163,7 +170,7 @@ returns-2 c =
     let e = k .ack .ensures .0 ∙ ap (oneAck (s .args .time) (s .args .a)) seen in
     let answer = lift-answer H _ _ (stepped s) (c .shared .ensures) (c .before .before .before .put .ensures)
     (put-slots (H .lies) (l .1 .0) (l .1 .1 .0) (l .1 .1 .1 .0) (l .1 .1 .1 .1 .0)) e in
-    (answer, lift-says (ackSampling (s .args .time) (s .args .a) (viewOf (worldAt (s .args .flow) (handed s)))) e answer (k .ack .ensures .1 ∙ ap (oneSays (s .args .time) (s .args .a)) seen))
+    (answer, lift-says (sampled s) e answer (k .ack .ensures .1 ∙ ap (oneSays (s .args .time) (s .args .a)) seen))
 
 pub ack-spec : {M : Type 1} → statement M
 ack-spec =

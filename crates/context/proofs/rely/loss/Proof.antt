@@ -1,10 +1,10 @@
--- `loss` lends flow k's part to the sender's step, its marked bits to be changed, and puts back what it leaves (`lift-answer`); a flow out of
--- range is 3 or 25.
+-- `loss` lends flow k's part to the sender's step, its marked bits to be changed, and puts back what it leaves (`lift-answer`); a flow out
+-- of range is 3 or 25.
 use mathlib.Core.Path.{ap, _∙_}
 use Prim.Native.Nat.{_≤_}
 use native.Mathlib.Omega.{arith}
 use borrow.Author.Needs.{needs}
-use Rattle.sender.specs.World.{World, viewOf, worldOf}
+use Rattle.sender.specs.World.{World, View, viewOf, worldOf}
 use Rattle.sender.specs.Events.{pastLoss as oneLoss}
 use Rattle.sender.specs.Steps.{lossStep}
 use Rattle.context.specs.Context.{Context, joinedOf, worldAt, flowCount}
@@ -15,14 +15,17 @@ use Rattle.context.proofs.Lifts.{no-flow-decided, lift-answer}
 use Rattle.context.proofs.rely.loss.Statement.{statement}
 use Rattle.context.proofs.rely.loss.Tie as tie
 
--- what was handed in, and flow k's world after the step
+-- what was handed in, and what flow k's step sees of it and leaves
 abbrev handed : tie.Start → Context
 handed s =
     let a = s .args in
     contextGiven (a .c) (a .flows) (a .outstanding) (a .marked) (a .sizes) (a .sent) (a .evs)
 
+abbrev sees : tie.Start → View
+sees s = viewOf (worldAt (s .args .flow) (handed s))
+
 abbrev stepped : tie.Start → World
-stepped s = worldOf (lossStep (s .args .time) (s .args .a) (viewOf (worldAt (s .args .flow) (handed s))))
+stepped s = worldOf (lossStep (s .args .time) (s .args .a) (sees s))
 
 -- from the count back to the entry
 abbrev start : tie.After-count → tie.Start

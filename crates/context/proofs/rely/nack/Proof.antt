@@ -1,10 +1,11 @@
--- `nack` lends flow k's part to the sender's step, its marked bits to be changed, and puts back what it leaves (`lift-answer`); a flow out of
--- range is 3 or 25.
+-- `nack` lends flow k's part to the sender's step, its marked bits to be changed, and puts back what it leaves (`lift-answer`); a flow out
+-- of range is 3 or 25.
 use mathlib.Core.Path.{ap, _∙_}
 use Prim.Native.Nat.{_≤_}
 use native.Mathlib.Omega.{arith}
 use borrow.Author.Needs.{needs}
-use Rattle.sender.specs.World.{World, viewOf, worldOf}
+use Rattle.window.specs.declared.Sampling.{Sampling}
+use Rattle.sender.specs.World.{World, View, viewOf, worldOf}
 use Rattle.sender.specs.Events.{saysOf}
 use Rattle.sender.specs.Events.{pastNack as oneNack, pastNackSays as oneSays}
 use Rattle.sender.specs.Steps.{nackSampling, nackStep}
@@ -16,14 +17,20 @@ use Rattle.context.proofs.Lifts.{no-flow-decided, not-zero, lift-answer
 use Rattle.context.proofs.rely.nack.Statement.{statement}
 use Rattle.context.proofs.rely.nack.Tie as tie
 
--- what was handed in, and flow k's world after the step
+-- what was handed in, and what flow k's step sees of it and leaves
 abbrev handed : tie.Start → Context
 handed s =
     let a = s .args in
     contextGiven (a .c) (a .flows) (a .outstanding) (a .marked) (a .sizes) (a .sent) (a .evs)
 
+abbrev sees : tie.Start → View
+sees s = viewOf (worldAt (s .args .flow) (handed s))
+
 abbrev stepped : tie.Start → World
-stepped s = worldOf (nackStep (s .args .time) (s .args .a) (viewOf (worldAt (s .args .flow) (handed s))))
+stepped s = worldOf (nackStep (s .args .time) (s .args .a) (sees s))
+
+abbrev sampled : tie.Start → Sampling
+sampled s = nackSampling (s .args .time) (s .args .a) (sees s)
 
 -- from the count back to the entry
 abbrev start : tie.After-count → tie.Start
@@ -60,7 +67,7 @@ returns c =
     let out : flowCount (handed s) ≤ s .args .flow = omega (arith, c .before .if1 .taken, n .count .ensures) in
     let e = c .no-flow .ensures in
     let answer = no-flow-decided (s .args .flow) (handed s) _ _ out e _ in
-    (answer, no-flow-says (nackSampling (s .args .time) (s .args .a) (viewOf (worldAt (s .args .flow) (handed s)))) answer (not-zero _ e))
+    (answer, no-flow-says (sampled s) answer (not-zero _ e))
 
 cut-of-requires : tie.Need-cut-of-requires
 cut-of-requires c κs = let s = start (c .before) in cut-asks (handed s) (s .pre) (c .before .count .ensures) (c .if1 .left)
@@ -153,7 +160,7 @@ returns-2 c =
     let e = k .nack .ensures .0 ∙ ap (oneNack (s .args .time) (s .args .a)) seen in
     let answer = lift-answer H _ _ (stepped s) (c .shared .ensures) (c .before .before .before .put .ensures)
     (put-marked (H .lies) (l .1 .1 .0)) e in
-    (answer, lift-says (nackSampling (s .args .time) (s .args .a) (viewOf (worldAt (s .args .flow) (handed s)))) e answer (k .nack .ensures .1 ∙ ap (oneSays (s .args .time) (s .args .a)) seen))
+    (answer, lift-says (sampled s) e answer (k .nack .ensures .1 ∙ ap (oneSays (s .args .time) (s .args .a)) seen))
 
 pub nack-spec : {M : Type 1} → statement M
 nack-spec =

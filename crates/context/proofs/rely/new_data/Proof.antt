@@ -1,10 +1,10 @@
--- `new_data` lends flow k's part to the sender's step for what that requires, and puts back its record (`lift-answer`); a flow out of range is 3
--- or 25.
+-- `new_data` lends flow k's part to the sender's step for what that requires, and puts back its record (`lift-answer`); a flow out of
+-- range is 3 or 25.
 use mathlib.Core.Path.{ap, _∙_}
 use Prim.Native.Nat.{_≤_}
 use native.Mathlib.Omega.{arith}
 use borrow.Author.Needs.{needs}
-use Rattle.sender.specs.World.{World, viewOf, worldOf}
+use Rattle.sender.specs.World.{World, View, viewOf, worldOf}
 use Rattle.sender.specs.Events.{pastNewData as oneNewData}
 use Rattle.sender.specs.Steps.{newDataStep}
 use Rattle.context.specs.Context.{Context, joinedOf, worldAt, flowCount}
@@ -15,14 +15,17 @@ use Rattle.context.proofs.Lifts.{no-flow-decided, lift-answer}
 use Rattle.context.proofs.rely.new_data.Statement.{statement}
 use Rattle.context.proofs.rely.new_data.Tie as tie
 
--- what was handed in, and flow k's world after the step
+-- what was handed in, and what flow k's step sees of it and leaves
 abbrev handed : tie.Start → Context
 handed s =
     let a = s .args in
     contextGiven (a .c) (a .flows) (a .outstanding) (a .marked) (a .sizes) (a .sent) (a .evs)
 
+abbrev sees : tie.Start → View
+sees s = viewOf (worldAt (s .args .flow) (handed s))
+
 abbrev stepped : tie.Start → World
-stepped s = worldOf (newDataStep (s .args .time) (s .args .bytes) (viewOf (worldAt (s .args .flow) (handed s))))
+stepped s = worldOf (newDataStep (s .args .time) (s .args .bytes) (sees s))
 
 -- from the count back to the entry
 abbrev start : tie.After-count → tie.Start

@@ -4,7 +4,7 @@ use mathlib.Core.Path.{ap, _∙_}
 use Prim.Native.Nat.{_≤_}
 use native.Mathlib.Omega.{arith}
 use borrow.Author.Needs.{needs}
-use Rattle.sender.specs.World.{World, viewOf, worldOf}
+use Rattle.sender.specs.World.{World, View, viewOf, worldOf}
 use Rattle.sender.specs.Events.{pastPath as onePath}
 use Rattle.sender.specs.Steps.{pathStep, routeOf}
 use Rattle.context.specs.Context.{Context, joinedOf, worldAt, flowCount}
@@ -15,14 +15,17 @@ use Rattle.context.proofs.Lifts.{no-flow-chosen, path-flow, lift-route}
 use Rattle.context.proofs.rely.path.Statement.{statement}
 use Rattle.context.proofs.rely.path.Tie as tie
 
--- what was handed in, and flow k's world after the step
+-- what was handed in, and what flow k's step sees of it and leaves
 abbrev handed : tie.Start → Context
 handed s =
     let a = s .args in
     contextGiven (a .c) (a .flows) (a .outstanding) (a .marked) (a .sizes) (a .sent) (a .evs)
 
+abbrev sees : tie.Start → View
+sees s = viewOf (worldAt (s .args .flow) (handed s))
+
 abbrev stepped : tie.Start → World
-stepped s = worldOf (pathStep (s .args .time) (viewOf (worldAt (s .args .flow) (handed s))))
+stepped s = worldOf (pathStep (s .args .time) (sees s))
 
 -- from the count back to the entry
 abbrev start : tie.After-count → tie.Start
@@ -128,7 +131,8 @@ returns-2 c =
     let H = here p in
     let seen = lent-world (H .lies) (j .before .flow-at .ensures) (j .joined .ensures) in
     let e = k .path .ensures ∙ ap (onePath (s .args .time)) seen in
-    lift-route H _ _ (stepped s) (c .shared .ensures) (path-flow (s .args .flow) (handed s) (s .args .time) e) (put-none (H .lies)) (routeOf (s .args .time) (viewOf (worldAt (s .args .flow) (handed s))) .ev) e
+    lift-route H _ _ (stepped s) (c .shared .ensures) (path-flow (s .args .flow) (handed s) (s .args .time) e) (put-none (H .lies))
+    (routeOf (s .args .time) (sees s) .ev) e
 
 pub path-spec : {M : Type 1} → statement M
 path-spec =

@@ -3,7 +3,7 @@ use mathlib.Core.Path.{ap, _∙_}
 use Prim.Native.Nat.{_≤_}
 use native.Mathlib.Omega.{arith}
 use borrow.Author.Needs.{needs}
-use Rattle.sender.specs.World.{World, viewOf, worldOf}
+use Rattle.sender.specs.World.{World, View, viewOf, worldOf}
 use Rattle.sender.specs.Events.{pastSend as oneSend}
 use Rattle.sender.specs.Steps.{sendStep}
 use Rattle.context.specs.Context.{Context, joinedOf, worldAt, flowCount}
@@ -14,14 +14,17 @@ use Rattle.context.proofs.Lifts.{no-flow-decided, lift-answer}
 use Rattle.context.proofs.rely.send.Statement.{statement}
 use Rattle.context.proofs.rely.send.Tie as tie
 
--- what was handed in, and flow k's world after the step
+-- what was handed in, and what flow k's step sees of it and leaves
 abbrev handed : tie.Start → Context
 handed s =
     let a = s .args in
     contextGiven (a .c) (a .flows) (a .outstanding) (a .marked) (a .sizes) (a .sent) (a .evs)
 
+abbrev sees : tie.Start → View
+sees s = viewOf (worldAt (s .args .flow) (handed s))
+
 abbrev stepped : tie.Start → World
-stepped s = worldOf (sendStep (s .args .time) (s .args .a) (viewOf (worldAt (s .args .flow) (handed s))))
+stepped s = worldOf (sendStep (s .args .time) (s .args .a) (sees s))
 
 -- from the count back to the entry
 abbrev start : tie.After-count → tie.Start
