@@ -3,3 +3,6 @@ pub mod Sums
 pub mod Sounds
 pub mod Joins
 pub mod Lifts
+pub mod Puts
+pub mod Kept
+pub mod Apart

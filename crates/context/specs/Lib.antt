@@ -4,3 +4,4 @@ pub mod Sound
 pub mod Rows
 pub mod Events
 pub mod Lent
+pub mod Statements
