@@ -26,7 +26,7 @@ ghost use Rattle.ledger.specs.Sound.{stands as Sound·stands};
 ghost use Rattle.ledger.specs.Stretch.{allIn, liveAt, zeroAt, slotAt, tallyOf, totalsOk};
 
 // Whether a length is a capacity.
-fn is_capacity(n: usize) -> bool
+pub fn is_capacity(n: usize) -> bool
     ensures { λ r. ⌜ r ≡ isCapacity n ⌝ }
 {
     (n == 64) | (n == 128) | (n == 256) | (n == 512) | (n == 1024) | (n == 2048) | (n == 4096)

@@ -83,7 +83,7 @@ pub fn fresh(settings: Settings) -> Controller
 }
 
 // An empty ring's memory and EV times, all zeros.
-fn clear<'a, 'b, 'c, 'd, 'e>(
+pub fn clear<'a, 'b, 'c, 'd, 'e>(
     outstanding: &'a mut [u64],
     marked: &'b mut [u64],
     sizes: &'c mut [u32],
