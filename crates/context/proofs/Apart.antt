@@ -1,5 +1,5 @@
--- FLOWS ARE APART (request M-107): no event of a flow changes another flow's ring, low, next, count or backlog, whatever the context, whatever
--- the flow's number and whatever is answered.
+-- FLOWS ARE APART (request M-107): no event of a flow changes another flow's ring, low, next, count or backlog, whatever the context,
+-- whatever the flow's number and whatever is answered.
 -- Assumes nothing.
 use mathlib.Core.Path.{_≡_, refl, ap}
 use mathlib.Core.Bool.{not}

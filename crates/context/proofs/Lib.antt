@@ -6,3 +6,4 @@ pub mod Lifts
 pub mod Puts
 pub mod Kept
 pub mod Apart
+pub mod Starts

@@ -1,4 +1,5 @@
--- The context with another world for one flow: as many flows, of as many slots each; that flow is the world's, and every other is as it was.
+-- The context with another world for one flow: as many flows, of as many slots each; that flow is the world's, and every other is as it
+-- was.
 -- Assumes nothing.
 use mathlib.Core.Path.{_≡_, sym, ap, _∙_}
 use mathlib.Core.Logic.{_≢_}

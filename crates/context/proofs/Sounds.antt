@@ -53,7 +53,7 @@ pub record SoundContext (x : Context) : Type 0 where
   pub cursor-ok : x .state .cursor < x .state .settings .«ev_count»
   pub named : x .state .phase ≡ phaseOf (x .state .settings .mtu) (x .state .window .cwnd) (x .state .totals)
 
-cut-facts : (n cap : ℕ) (m : Memory) → isCut n cap m ≡ true → (isCapacity cap ≡ true) × Rings n cap m
+pub cut-facts : (n cap : ℕ) (m : Memory) → isCut n cap m ≡ true → (isCapacity cap ≡ true) × Rings n cap m
 unfolding isCut
 cut-facts n cap m e =
     let p = both _ (eqb (length (m .sent)) (n * cap)) e in

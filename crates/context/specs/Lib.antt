@@ -4,4 +4,5 @@ pub mod Sound
 pub mod Rows
 pub mod Events
 pub mod Lent
+pub mod Start
 pub mod Statements

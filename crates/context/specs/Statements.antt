@@ -5,8 +5,8 @@ use mathlib.Core.Logic.{_≢_}
 use Prim.Native.Nat.{ℕ}
 use Rattle.context.specs.Context.{Context, flowCount, capIn, flowIn, memoryIn, ringIn}
 
--- Request M-107: "an ACK of one flow changes no other flow's ring, low, next, count or backlog". Of the contexts before and after an event of
--- flow k; `memory` is the other flow's part of the ring buffer, word by word.
+-- Request M-107: "an ACK of one flow changes no other flow's ring, low, next, count or backlog". Of the contexts before and after an event
+-- of flow k; `memory` is the other flow's part of the ring buffer, word by word.
 pub record OthersKept (k : ℕ) (before after : Context) : Type 0 where
   pub flows : flowCount after ≡ flowCount before
   pub slots : capIn after ≡ capIn before

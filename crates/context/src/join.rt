@@ -49,7 +49,7 @@ pub(crate) fn shared(s: sender::Controller) -> Controller
 }
 
 // Slots in equal shares. One and eight are what contexts mostly have; the compiler divides by these without a division.
-fn share(slots: usize, n: usize) -> usize
+pub(crate) fn share(slots: usize, n: usize) -> usize
     requires { ⌜ 0 < n ⌝ }
     ensures { λ r. ⌜ r ≡ slots / n ⌝ }
 {

@@ -2,6 +2,7 @@
 // buffer; what is shared is the controller, by value. An event of flow k is the sender's step on flow k's ledger, every other flow as it was.
 mod join;
 pub mod rely;
+pub mod start;
 
 use ledger::Totals;
 use rules::verdict::Verdict;
