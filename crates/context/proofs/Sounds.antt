@@ -1,5 +1,4 @@
--- What a sound context has, fact by fact, and the way back; each flow of it is sound among the others (`one-holds`), and a context in which one
--- flow's world is replaced by one that is sound among the same others is sound (`put-sound`).
+-- What a sound context has, fact by fact, and the way back; and that each flow of it is sound among the others (`one-holds`).
 -- Assumes nothing.
 use mathlib.Core.Path.{_≡_, refl, sym, ap, _∙_}
 use mathlib.Core.Bool.{Bool, true, _&&_}
@@ -166,7 +165,8 @@ module _ (x : Context) (S : SoundContext x) where
       }
 
   module _ (k : ℕ) (h : k < flowCount x) where
-    one-ledger : soundLedger (x .state .settings .mtu) (x .state .settings .maxwnd) (x .state .clock) (othersOf k x) (ledgerIn (viewOf (worldAt k x))) ≡ true
+    one-ledger : soundLedger (x .state .settings .mtu) (x .state .settings .maxwnd) (x .state .clock) (othersOf k x)
+        (ledgerIn (viewOf (worldAt k x))) ≡ true
     unfolding worldAt joinedOf othersOf standsAt
     one-ledger =
         sound-ledger-whole _ _ _ (othersOf k x) (ledgerIn (viewOf (worldAt k x))) (S .stand k h)

@@ -1,5 +1,5 @@
--- Each event of flow k: the number of the first row that applies and the context as it was, or 0 and the context with document 01's step made
--- on flow k's ledger, every other flow as it was. "past" is the event past number 2, for a caller who knows that it does not apply.
+-- Each event of flow k: the number of the first row that applies and the context as it was, or 0 and the context with document 01's step
+-- made on flow k's ledger, every other flow as it was. "past" is the event past number 2, for a caller who knows that it does not apply.
 -- Assumes nothing.
 use mathlib.Core.Option.{Option}
 use mathlib.Core.List.{List}

@@ -1,5 +1,5 @@
--- The context as contracts name it: a state with the lent table, ring buffer and EV times as they are given, before the call and after it; and
--- what a call answers.
+-- The context as contracts name it: a state with the lent table, ring buffer and EV times as they are given, before the call and after
+-- it; and what a call answers.
 -- Assumes nothing.
 use Prim.Native.Nat.{ℕ}
 use Rattle.ledger.specs.Lent.{Slice, LentSlice, memoryGiven, memoryBefore, memoryAfter}

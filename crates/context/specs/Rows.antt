@@ -1,5 +1,5 @@
--- The refusals of each event of a flow, in their order: 2, 3, 25, then the others. Request M-107: "A flow out of range is refusal 25, tested
--- after 3." The rows behind it are the sender's, of flow k.
+-- The refusals of each event of a flow, in their order: 2, 3, 25, then the others. Request M-107: "A flow out of range is refusal 25,
+-- tested after 3." The rows behind it are the sender's, of flow k.
 -- Assumes nothing.
 use mathlib.Core.Bool.{not}
 use mathlib.Core.List.{List, [], _∷_}

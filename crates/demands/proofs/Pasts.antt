@@ -22,7 +22,8 @@ use Rattle.ledger.specs.Packets.{noPacket, markedStatus, doneStatus, withStatus
 use Rattle.ledger.specs.Ring.{Ledger, ledger, capOf, laid, longOf, packets, offsetOf, packetOf}
 use Rattle.ledger.specs.Memory.{Memory}
 use Rattle.ledger.specs.Sound.{isCapacity}
-use Rattle.ledger.specs.Steps.{changed, newPacket, resentPacket, supplied, suppliedTotals, supplyOf, pushOf, resendOf, markOf, acknowledgeOf, heldOf}
+use Rattle.ledger.specs.Steps.{changed, newPacket, resentPacket, supplied, suppliedTotals, supplyOf, pushOf, resendOf, markOf}
+use Rattle.ledger.specs.Steps.{acknowledgeOf, heldOf}
 use Rattle.ledger.specs.declared.Flow.{Flow}
 use Rattle.ledger.specs.declared.Totals.{Totals}
 use Rattle.ledger.specs.declared.Packet.{Packet}

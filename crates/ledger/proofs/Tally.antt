@@ -563,4 +563,5 @@ module _ (mtu maxwnd clock : ℕ) (f : Flow) (t : Totals) (m : Memory) (ok : Boo
   standing e a b ea eb =
       let so = sym is ∙ not-false ok e in
       let T = tally-adds mtu clock f m so in
-      rw (ea, eb, so) (totals-test maxwnd t f (tallyOf f m) (packets f (shown (f .low) (f .next) m)) (T .0) (T .1) (T .2) (tally-backlog f m))
+      rw (ea, eb, so)
+      (totals-test maxwnd t f (tallyOf f m) (packets f (shown (f .low) (f .next) m)) (T .0) (T .1) (T .2) (tally-backlog f m))

@@ -127,7 +127,8 @@ given-numbers : map (λ (a : Answered). a .number) given ≡ 0 ∷ 0 ∷ 0 ∷ 8
 unfolding lent settingsE answers onSetUp freshState freshOf firstOf inRange inside isEvCount isRing isEven isCapacity ifSo ifEq ifLt
     onNewData onSend onAck bit isWord bitAt one valueOf wordsOf packed sizeIn resentIn slotsOf inWindow statusOf wordsAt statusAt shown
     isOutStatus isMarkStatus stored
-    decided newDataStep newDataState sendStep settled stateOf supplied suppliedTotals pushOf changed soundAmong soundWindow maxWndOf soundLedger
+    decided newDataStep newDataState sendStep settled stateOf supplied suppliedTotals pushOf changed soundAmong soundWindow maxWndOf
+    soundLedger
     stands longOf minus
     allTo slotOk isLive isZero headOk tallies sumOf flyingOne markedOne markedSize inBounds packets queueOf tabulate packetAt placeOf
     plus ageOf lay
@@ -139,7 +140,8 @@ given-flights : map (λ (a : Answered). a .after .state .totals .«in_flight») 
 unfolding lent settingsE answers onSetUp freshState freshOf firstOf inRange inside isEvCount isRing isEven isCapacity ifSo ifEq ifLt
     onNewData onSend onAck bit isWord bitAt one valueOf wordsOf packed sizeIn resentIn slotsOf inWindow statusOf wordsAt statusAt shown
     isOutStatus isMarkStatus stored
-    decided newDataStep newDataState sendStep settled stateOf supplied suppliedTotals pushOf changed soundAmong soundWindow maxWndOf soundLedger
+    decided newDataStep newDataState sendStep settled stateOf supplied suppliedTotals pushOf changed soundAmong soundWindow maxWndOf
+    soundLedger
     stands longOf minus
     allTo slotOk isLive isZero headOk tallies sumOf flyingOne markedOne markedSize inBounds packets queueOf tabulate packetAt placeOf
     plus ageOf lay
@@ -156,7 +158,8 @@ given-sums : summed sentBy ∷ summed reportedBy ∷ summed lostBy ∷ [] ≡ 40
 unfolding lent settingsE answers onSetUp freshState freshOf firstOf inRange inside isEvCount isRing isEven isCapacity ifSo ifEq ifLt
     onNewData onSend onAck bit isWord bitAt one valueOf wordsOf packed sizeIn resentIn slotsOf inWindow statusOf wordsAt statusAt shown
     isOutStatus isMarkStatus stored
-    decided newDataStep newDataState sendStep settled stateOf supplied suppliedTotals pushOf changed soundAmong soundWindow maxWndOf soundLedger
+    decided newDataStep newDataState sendStep settled stateOf supplied suppliedTotals pushOf changed soundAmong soundWindow maxWndOf
+    soundLedger
     stands longOf minus
     allTo slotOk isLive isZero headOk tallies sumOf flyingOne markedOne markedSize inBounds packets queueOf tabulate packetAt placeOf
     plus ageOf lay

@@ -221,7 +221,8 @@ unfolding resentLog onceLog lent recordBytes bytesOf littleEndian numberAt lookU
     markedSize sumOf inBounds
     sinks packetAt tabulate placeOf ageOf lay laid queueOf longOf packets offsetOf packetOf isLive isZero slotOk headOk stands tallies
     soundLedger changed
-    supplied suppliedTotals pushOf resendOf markOf newlyOf hasRoom phaseOf isOn isMode modeOf timesOk namedOk soundAmong stateOf settled avoidedIn
+    supplied suppliedTotals pushOf resendOf markOf newlyOf hasRoom phaseOf isOn isMode modeOf timesOk namedOk soundAmong stateOf settled
+    avoidedIn
     newDataState newDataStep
     sendStep ackSampling lossStep decided says onNewData onSend onAck onLoss howMany kindTest isAck ackStands mayDiffer
     isEven slotsOf inWindow statusOf wordsAt statusAt shown sizeIn resentIn stored packed isOutStatus isMarkStatus bit isWord bitAt one

@@ -36,7 +36,8 @@ use Rattle.sender.proofs.Stepping.{Ready, time-facts, new-data-facts, s
 use Rattle.sender.proofs.Stepping.{send-ready, ack-ready, marked-ready, path-ready, taken-inside}
 
 -- after a ledger's step and the window's rules, with one EV's time changed or none
-kept-of : {o : Others} {v : View} (S : SoundFacts o v) {time : ℕ} {l : Ledger} (R : Ready o (v .state .settings) time (v .state .window) l) {u : Window}
+kept-of : {o : Others} {v : View} (S : SoundFacts o v) {time : ℕ} {l : Ledger}
+    (R : Ready o (v .state .settings) time (v .state .window) l) {u : Window}
     → SoundWindow (v .state .settings) time u → (on : Bool) (ev : ℕ)
     → soundAmong o (settled time (v .state) l u (avoidedIn on ev time (v .state .window .base) (v .times))) ≡ true
 kept-of {o} {v} S {time} {l} R {u} H on ev =
@@ -54,10 +55,12 @@ new-data-kept o time bytes v e rows =
     let S = among-facts o v e in
     let N = new-data-facts time bytes c rows in
     let R = supply-ready S bytes (N .0) (N .1) in
-    stated-sound _ (c .settings) (supplied bytes (c .flow)) (suppliedTotals bytes (c .totals)) (c .window) time (c .cursor) (v .slots) (v .times)
+    stated-sound _ (c .settings) (supplied bytes (c .flow)) (suppliedTotals bytes (c .totals)) (c .window) time (c .cursor) (v .slots)
+    (v .times)
     (R .range) (R .sound-window) (R .sound-ledger) (R .early) (S .times-long) (S .times-ok) (S .cursor-ok)
 
-pub send-kept : (o : Others) (time : ℕ) (a : Send) (v : View) → soundAmong o v ≡ true → firstOf (sendAllRows time a (v .state) (v .slots)) ≡ 0
+pub send-kept : (o : Others) (time : ℕ) (a : Send) (v : View) → soundAmong o v ≡ true
+    → firstOf (sendAllRows time a (v .state) (v .slots)) ≡ 0
     → soundAmong o (sendStep time a v) ≡ true
 unfolding sendStep
 send-kept o time a v e rows =
@@ -79,7 +82,8 @@ ack-kept o time a v e rows =
     (sample-bounds (isOut x) (x .resent) (a .retx) time (x .sent) (a .service)) (R .sound-window))
     (a .marked) (a .ev)
 
-pub nack-kept : (o : Others) (time : ℕ) (a : Nack) (v : View) → soundAmong o v ≡ true → firstOf (nackAllRows time a (v .state) (v .slots)) ≡ 0
+pub nack-kept : (o : Others) (time : ℕ) (a : Nack) (v : View) → soundAmong o v ≡ true
+    → firstOf (nackAllRows time a (v .state) (v .slots)) ≡ 0
     → soundAmong o (nackStep time a v) ≡ true
 unfolding nackStep nackSample
 nack-kept o time a v e rows =
@@ -92,7 +96,8 @@ nack-kept o time a v e rows =
     (sample-bounds (isOut x) (x .resent) (a .retx) time (x .sent) 0) (R .sound-window))
     (a .marked || eqb (a .reason) 0) (a .ev)
 
-pub loss-kept : (o : Others) (time : ℕ) (a : Loss) (v : View) → soundAmong o v ≡ true → firstOf (lossAllRows time a (v .state) (v .slots)) ≡ 0
+pub loss-kept : (o : Others) (time : ℕ) (a : Loss) (v : View) → soundAmong o v ≡ true
+    → firstOf (lossAllRows time a (v .state) (v .slots)) ≡ 0
     → soundAmong o (lossStep time a v) ≡ true
 unfolding lossStep
 loss-kept o time a v e rows =
@@ -102,7 +107,8 @@ loss-kept o time a v e rows =
     kept-of S R (sound-loss (R .range) _ (R .early) (R .flown .high) (packetOf (c .flow) (v .slots) (a .psn) .size) (R .sound-window))
     true (a .ev)
 
-pub path-kept : (o : Others) (time : ℕ) (v : View) → soundAmong o v ≡ true → firstOf (pathRows time (v .state)) ≡ 0 → soundAmong o (pathStep time v) ≡ true
+pub path-kept : (o : Others) (time : ℕ) (v : View) → soundAmong o v ≡ true → firstOf (pathRows time (v .state)) ≡ 0
+    → soundAmong o (pathStep time v) ≡ true
 unfolding pathStep pathState
 path-kept o time v e rows =
     let c = v .state in

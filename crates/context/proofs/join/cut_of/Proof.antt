@@ -12,7 +12,8 @@ few : (k cap slots : ℕ) → k ≤ 8 → cap ≤ slots → slots ≤ 32768 → 
 few k cap slots h l m = mul-le-mul {m₂ = 32768} h (omega arith)
 
 -- both products are small
-small : (s : tie.Start) (cap : ℕ) → cap ≡ s .args .slots / s .args .n → (s .args .k * cap ≤ 8 * 32768) × (s .args .k * (cap / 64) ≤ 8 * 32768)
+small : (s : tie.Start) (cap : ℕ) → cap ≡ s .args .slots / s .args .n
+    → (s .args .k * cap ≤ 8 * 32768) × (s .args .k * (cap / 64) ≤ 8 * 32768)
 small s cap e =
     let a = s .args in
     let l : cap ≤ a .slots = rw e (div-le-self (a .slots) (a .n)) in

@@ -44,7 +44,8 @@ returns-2 c =
     let a = s .args in
     let t = a .books .totals in
     let word : toZ w64 (ofZ w64 (t .«in_flight»)) ≡ t .«in_flight» = search needs in
-    standing (a .mtu) (a .maxwnd) (a .clock) (a .books .flow) t (slots s) _ (c .before .before .before .before .before .stands .ensures) (c .before .before .before .before .if1 .left) _ _
+    standing (a .mtu) (a .maxwnd) (a .clock) (a .books .flow) t (slots s) _ (c .before .before .before .before .before .stands .ensures)
+    (c .before .before .before .before .if1 .left) _ _
     (c .before .before .totals-ok .ensures ∙ ap (totalsOk t) (c .before .before .before .tally-of .ensures .0))
     (c .in-bounds .ensures ∙ ap (inBounds (a .maxwnd)) word)
 

@@ -96,7 +96,8 @@ returns-3 c =
     let f = a .flow in
     let m = memoryAt d in
     let n = c .before .before .before .before .before .before .long .ensures in
-    all-tests (a .mtu) (a .clock) f m (lengths d) (words d) (evenly d) (omega (arith, c .before .before .before .before .before .if2 .left, n, slots d)) _ _ _
+    all-tests (a .mtu) (a .clock) f m (lengths d) (words d) (evenly d)
+    (omega (arith, c .before .before .before .before .before .if2 .left, n, slots d)) _ _ _
     (c .before .before .before .before .marks-within .ensures
     ∙ ap (allTo (markOk (m .outstanding) (m .marked))) (sym (slots-even m (lengths d))))
     (c .before .before .before .slots-ok .ensures

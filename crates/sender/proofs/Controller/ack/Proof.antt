@@ -83,8 +83,10 @@ returns-2 c =
     let k = c .before .before .before .before .before .before .before .before .before .before in
     let e = k .before .before .before .before .before .before in
     let s = start (e .before) in
-    let so = sym (e .before .is-sound .ensures) ∙ not-false _ (e .if1 .left) in
-    (k .ack .ensures .0 ∙ past-ack (handed s) so (s .args .time) (s .args .a), k .ack .ensures .1 ∙ past-ack-says (handed s) so (s .args .time) (s .args .a))
+    let so = sym (e .before .is-sound .ensures) ∙ not-false _ (e .if1 .left) in (
+      k .ack .ensures .0 ∙ past-ack (handed s) so (s .args .time) (s .args .a),
+      k .ack .ensures .1 ∙ past-ack-says (handed s) so (s .args .time) (s .args .a),
+    )
 
 pub ack-spec : {M : Type 1} → statement M
 ack-spec =

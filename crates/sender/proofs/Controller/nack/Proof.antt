@@ -65,8 +65,10 @@ returns-2 c =
     let k = c .before .before .before .before in
     let e = k .before .before .before in
     let s = start (e .before) in
-    let so = sym (e .before .is-sound .ensures) ∙ not-false _ (e .if1 .left) in
-    (k .nack .ensures .0 ∙ past-nack (handed s) so (s .args .time) (s .args .a), k .nack .ensures .1 ∙ past-nack-says (handed s) so (s .args .time) (s .args .a))
+    let so = sym (e .before .is-sound .ensures) ∙ not-false _ (e .if1 .left) in (
+      k .nack .ensures .0 ∙ past-nack (handed s) so (s .args .time) (s .args .a),
+      k .nack .ensures .1 ∙ past-nack-says (handed s) so (s .args .time) (s .args .a),
+    )
 
 pub nack-spec : {M : Type 1} → statement M
 nack-spec =

@@ -66,7 +66,8 @@ returns-2 c =
     let zero = accepted-zero _ _ (e .before .is-accepted .ensures) (not-false _ (e .if1 .left)) in
     answer-accepted (handed s) (rows s) (stepped s) _ _ (numberOf (j .judge-new-data .result)) (j .judge-new-data .ensures) zero
     (c .new-data .result) (handed s .slots) (handed s .times)
-    (ap₂ (λ (x : Controller) (m : Memory). world x m (handed s .times)) (c .new-data .ensures) (sym (stored-ring _ (handed s) (s .pre .so)))) refl
+    (ap₂ (λ (x : Controller) (m : Memory). world x m (handed s .times)) (c .new-data .ensures)
+    (sym (stored-ring _ (handed s) (s .pre .so)))) refl
     accepted-number
 
 pub new-data-spec : {M : Type 1} → statement M

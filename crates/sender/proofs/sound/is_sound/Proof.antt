@@ -29,7 +29,8 @@ is-sound-requires c κs = range-facts _ (sym (c .before .in-range .ensures) ∙ 
 returns-2 : tie.Need-returns-2
 returns-2 c =
     let r = c .before .before in
-    not-window alone alone-few (given (r .before)) _ (r .before .in-range .ensures) (r .if1 .left) _ (c .before .is-sound .ensures) (c .if2 .taken)
+    not-window alone alone-few (given (r .before)) _ (r .before .in-range .ensures) (r .if1 .left) _ (c .before .is-sound .ensures)
+    (c .if2 .taken)
 
 is-sound-requires-2 : tie.Need-is-sound-requires-2
 is-sound-requires-2 c κs = search needs
@@ -38,7 +39,8 @@ returns-3 : tie.Need-returns-3
 returns-3 c =
     let h = c .before .before in
     let r = h .before .before in
-    not-ledger alone alone-few (given (r .before)) _ (r .before .in-range .ensures) (r .if1 .left) _ (h .before .is-sound .ensures) (h .if2 .left) _
+    not-ledger alone alone-few (given (r .before)) _ (r .before .in-range .ensures) (r .if1 .left) _ (h .before .is-sound .ensures)
+    (h .if2 .left) _
     (c .before .is-sound2 .ensures) (c .if3 .taken)
 
 times-ok-requires : tie.Need-times-ok-requires
@@ -53,7 +55,8 @@ phase-of-requires c κs =
     let h = l .before .before in
     let r = h .before .before in
     let B =
-    tests-bounded alone alone-few (given (r .before)) _ (r .before .in-range .ensures) (r .if1 .left) _ (h .before .is-sound .ensures) (h .if2 .left) _
+    tests-bounded alone alone-few (given (r .before)) _ (r .before .in-range .ensures) (r .if1 .left) _ (h .before .is-sound .ensures)
+    (h .if2 .left) _
     (l .before .is-sound2 .ensures) (l .if3 .left) in
     (B .flown, (B .mtu-high, B .cwnd-high))
 
@@ -62,7 +65,8 @@ returns-4 c =
     let l = c .before .before .before .before .before .before .before in
     let h = l .before .before in
     let r = h .before .before in
-    tests-left alone alone-few (given (r .before)) _ (r .before .in-range .ensures) (r .if1 .left) _ (h .before .is-sound .ensures) (h .if2 .left) _
+    tests-left alone alone-few (given (r .before)) _ (r .before .in-range .ensures) (r .if1 .left) _ (h .before .is-sound .ensures)
+    (h .if2 .left) _
     (l .before .is-sound2 .ensures) (l .if3 .left) _ _ (c .before .before .before .before .times-ok .ensures) (c .before .phase-of .ensures)
 
 pub is-sound-spec : {M : Type 1} → statement M

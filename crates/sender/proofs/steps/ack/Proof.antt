@@ -40,7 +40,8 @@ kept-out p =
 abbrev ledger-out : tie.After-acknowledge → Ledger
 ledger-out p = acknowledgeOf (entry p .args .a .cum) (entry p .args .a .map) (entry p .args .a .count) (ledgerOf (world-in (entry p)))
 
-after : (p : tie.After-acknowledge) → Ready (entry p .pre .0 .others) (entry p .args .c .settings) (entry p .args .time) (entry p .args .c .window) (ledger-out p)
+after : (p : tie.After-acknowledge) → Ready (entry p .pre .0 .others) (entry p .args .c .settings) (entry p .args .time)
+    (entry p .args .c .window) (ledger-out p)
 after p = ack-ready (facts (entry p)) (accepted (entry p))
 
 newly-requires : tie.Need-newly-requires

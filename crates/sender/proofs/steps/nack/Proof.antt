@@ -40,7 +40,8 @@ kept-out p =
 abbrev ledger-out : tie.After-mark → Ledger
 ledger-out p = markOf (entry p .args .a .psn) (ledgerOf (world-in (entry p)))
 
-after : (p : tie.After-mark) → Ready (entry p .pre .0 .others) (entry p .args .c .settings) (entry p .args .time) (entry p .args .c .window) (ledger-out p)
+after : (p : tie.After-mark) → Ready (entry p .pre .0 .others) (entry p .args .c .settings) (entry p .args .time)
+    (entry p .args .c .window) (ledger-out p)
 after p = marked-ready (facts (entry p)) (accepted (entry p))
 
 find-requires : tie.Need-find-requires
