@@ -1,7 +1,7 @@
--- `burst`: the ledger after a burst is the one that the newest alone leaves. Over a burst, in-flight less 256 bytes for each unit that
--- the held count lies behind the newest's stays the same, so the newest is never refused and its count is held in the end; and the
--- packets that are out at the start are covered by an accepted member exactly where the newest covers them. Both lists, the burst and
--- the newest alone, then settle one ledger alike.
+-- `burst-among`: the ledger after a burst of one flow among others is the one that the newest alone leaves; `burst`: so of a flow by
+-- itself. Over a burst, in-flight less 256 bytes for each unit that the held count lies behind the newest's stays the same, so the newest
+-- is never refused and its count is held in the end; and the packets that are out at the start are covered by an accepted member exactly
+-- where the newest covers them. Both lists, the burst and the newest alone, then settle one ledger alike.
 -- Assumes nothing.
 use mathlib.Core.Path.{_≡_, refl, sym, ap, ap₂, _∙_}
 use mathlib.Core.Logic.{inl, ⊎-elim, by-cases}
@@ -26,21 +26,23 @@ use Rattle.window.specs.declared.Settings.{Settings}
 use Rattle.ledger.specs.Packets.{coverAll}
 use Rattle.ledger.specs.Bounds.{unit, inFlightLeast, fallen, sinks}
 use Rattle.ledger.specs.Ring.{Ledger, packets}
+use Rattle.ledger.specs.Sound.{Others, alone}
 use Rattle.ledger.specs.Steps.{heldOf, newlyOf, acknowledgeOf}
 use Rattle.ledger.proofs.Facts.{packets-long}
 use Rattle.window.specs.Limits.{timeEnd}
-use Rattle.sender.specs.World.{World, ringOf, Answered, ledgerOf}
-use Rattle.sender.specs.Sound.{sound}
+use Rattle.sender.specs.World.{World, ringOf, viewOf, Answered, ledgerOf}
+use Rattle.sender.specs.Sound.{soundAmong}
 use Rattle.sender.specs.Rows.{ackAllRows}
-use Rattle.sender.specs.Events.{onAck}
+use Rattle.sender.specs.Events.{pastAck}
 use Rattle.sender.specs.declared.Ack.{Ack}
 use Rattle.demands.specs.Events.{ack, stepOf}
-use Rattle.demands.specs.Burst.{Arrival, deliver, Timely, Newest, Of, Arrives, coversPsn, psnOf, wasCovered}
+use Rattle.demands.specs.Burst.{Arrival, Timely, Of, Arrives, coversPsn, psnOf}
+use Rattle.demands.specs.Past.{pastDeliver, pastCovered, NewestPast, BurstAmong}
 use Rattle.demands.specs.Demands.{Burst}
-use Rattle.demands.proofs.Runs.{accepted, step-clock, step-settings}
+use Rattle.demands.proofs.Runs.{past-cases, past-answer, accepted, step-clock, step-settings}
 use Rattle.demands.proofs.Sounded.{ledger-facts, step-sound, step-ledger}
-use Rattle.demands.proofs.Ledgers.{cover-agree, settledBy, settled-same, ack-cases, badFields, fields-count, Fine, accepted-fine}
-use Rattle.demands.proofs.Ledgers.{fine-rows, fine-accepted, heldIn, inFlightIn, deliver-settles}
+use Rattle.demands.proofs.Ledgers.{cover-agree, settledBy, settled-same, badFields, fields-count, Fine, accepted-fine}
+use Rattle.demands.proofs.Ledgers.{fine-rows, fine-accepted, heldIn, inFlightIn, deliver-settles, past-deliver}
 
 -- ---- signed in-flight
 
@@ -120,16 +122,16 @@ lag-self n = minus-self counts n (omega arith)
 -- ---- a burst
 
 -- a world of a burst whose newest is n: `rest` is what is left of in-flight once n is taken in
-record Good (n : Ack) (evs next : ℕ) (rest : ℤ) (w : World) : Type 0 where
-  holds : sound w ≡ true
+record Good (o : Others) (n : Ack) (evs next : ℕ) (rest : ℤ) (w : World) : Type 0 where
+  holds : soundAmong o (viewOf w) ≡ true
   evs-is : w .state .settings .«ev_count» ≡ evs
   next-is : w .state .flow .next ≡ next
   near : lag (n .count) (heldIn w) < half
   left : fallen (inFlightIn w) (unit * lag (n .count) (heldIn w)) ≡ rest
 
 -- after a member that came at the time t
-record Went (n : Ack) (evs next : ℕ) (rest : ℤ) (before t : ℕ) (w : World) : Type 0 where
-  good : Good n evs next rest w
+record Went (o : Others) (n : Ack) (evs next : ℕ) (rest : ℤ) (before t : ℕ) (w : World) : Type 0 where
+  good : Good o n evs next rest w
   nearer : lag (n .count) (heldIn w) ≤ before
   clocked : w .state .clock ≤ t
 
@@ -137,32 +139,32 @@ timely-from : (ds : List Arrival) (c t : ℕ) → c ≤ t → Timely t ds → Ti
 timely-from [] c t le h = tt
 timely-from (d ∷ ds) c t le h = (omega arith, h .1, h .2)
 
-module _ (n : Ack) (evs next : ℕ) (rest : ℤ) (fields : badFields evs n ≡ false)
+module _ (o : Others) (n : Ack) (evs next : ℕ) (rest : ℤ) (fields : badFields evs n ≡ false)
     (sent : unsentOrOld next (n .cum) (n .map) ≡ false) (afloat : ltZ rest inFlightLeast ≡ false) where
   -- a member that is accepted
-  module _ (w : World) (t : ℕ) (a : Ack) (g : Good n evs next rest w) (close : lag (n .count) (a .count) < half)
+  module _ (w : World) (t : ℕ) (a : Ack) (g : Good o n evs next rest w) (close : lag (n .count) (a .count) < half)
       (rows : firstOf (ackAllRows t a (w .state)) ≡ 0) where
     took-a : Took (n .count) (heldIn w) (a .count)
     took-a = taken (n .count) (heldIn w) (a .count) (g .near) close
 
     held-is : heldIn (stepOf (ack t a) w) ≡ heldOf (a .count) (heldIn w)
     unfolding acknowledgeOf
-    held-is = ap (λ (l : Ledger). l .flow .held) (step-ledger (ack t a) w (g .holds) rows)
+    held-is = ap (λ (l : Ledger). l .flow .held) (step-ledger o (ack t a) w (g .holds) rows)
 
     in-flight-is : inFlightIn (stepOf (ack t a) w) ≡ fallen (inFlightIn w) (newlyOf (a .count) (heldIn w))
     unfolding acknowledgeOf
-    in-flight-is = ap (λ (l : Ledger). l .totals .«in_flight») (step-ledger (ack t a) w (g .holds) rows)
+    in-flight-is = ap (λ (l : Ledger). l .totals .«in_flight») (step-ledger o (ack t a) w (g .holds) rows)
 
     next-same : stepOf (ack t a) w .state .flow .next ≡ w .state .flow .next
     unfolding acknowledgeOf
-    next-same = ap (λ (l : Ledger). l .flow .next) (step-ledger (ack t a) w (g .holds) rows)
+    next-same = ap (λ (l : Ledger). l .flow .next) (step-ledger o (ack t a) w (g .holds) rows)
 
-    member : Went n evs next rest (lag (n .count) (heldIn w)) t (stepOf (ack t a) w)
+    member : Went o n evs next rest (lag (n .count) (heldIn w)) t (stepOf (ack t a) w)
     member =
         record {
           good =
               record {
-                holds = step-sound (ack t a) w (g .holds) rows;
+                holds = step-sound o (ack t a) w (g .holds) rows;
                 evs-is = ap (λ (x : Settings). x .«ev_count») (step-settings (ack t a) w) ∙ g .evs-is;
                 next-is = next-same ∙ g .next-is;
                 near = rw held-is (omega (arith, took-a .less, g .near));
@@ -179,14 +181,14 @@ module _ (n : Ack) (evs next : ℕ) (rest : ℤ) (fields : badFields evs n ≡ f
     caught-up = rw held-is (took-a .caught)
 
   -- any member
-  went : (w : World) (t : ℕ) (a : Ack) → Good n evs next rest w → lag (n .count) (a .count) < half → w .state .clock ≤ t
-      → Went n evs next rest (lag (n .count) (heldIn w)) t (onAck t a w .after)
+  went : (w : World) (t : ℕ) (a : Ack) → Good o n evs next rest w → lag (n .count) (a .count) < half → w .state .clock ≤ t
+      → Went o n evs next rest (lag (n .count) (heldIn w)) t (pastAck t a w .after)
   went w t a g close h =
-      ack-cases (λ x. Went n evs next rest (lag (n .count) (heldIn w)) t (x .after)) t a w (member w t a g close)
+      past-cases (λ x. Went o n evs next rest (lag (n .count) (heldIn w)) t (x .after)) (ack t a) w (member w t a g close)
       (λ k z. record { good = g; nearer = omega arith; clocked = h })
 
   -- the newest is never refused
-  newest-fine : (w : World) (t : ℕ) → Good n evs next rest w → w .state .clock ≤ t → t < timeEnd
+  newest-fine : (w : World) (t : ℕ) → Good o n evs next rest w → w .state .clock ≤ t → t < timeEnd
       → Fine t n (w .state .settings .«ev_count») (w .state .clock) (ledgerOf w)
   unfolding sinks
   newest-fine w t g h k =
@@ -203,27 +205,27 @@ module _ (n : Ack) (evs next : ℕ) (rest : ℤ) (fields : badFields evs n ≡ f
   Close ds = (d : Arrival) → List·Memᴰ d ds → lag (n .count) (d .ack .count) < half
 
   -- a run of members
-  goes : (ds : List Arrival) (w : World) → Good n evs next rest w → Close ds → Timely (w .state .clock) ds
-      → Good n evs next rest (deliver w ds) × (lag (n .count) (heldIn (deliver w ds)) ≤ lag (n .count) (heldIn w))
+  goes : (ds : List Arrival) (w : World) → Good o n evs next rest w → Close ds → Timely (w .state .clock) ds
+      → Good o n evs next rest (pastDeliver w ds) × (lag (n .count) (heldIn (pastDeliver w ds)) ≤ lag (n .count) (heldIn w))
   goes [] w g c h = (g, omega arith)
   goes (d ∷ ds) w g c h =
-      let v = onAck (d .time) (d .ack) w .after in
+      let v = pastAck (d .time) (d .ack) w .after in
       let s = went w (d .time) (d .ack) g (c d (List·Memᴰ·head refl)) (h .0) in
       let r = goes ds v (s .good) (λ e m. c e (List·Memᴰ·tail m)) (timely-from ds (v .state .clock) (d .time) (s .clocked) (h .2)) in
       (r .0, omega (arith, r .1, s .nearer))
 
   -- a run in which the newest is: its count is held in the end, and what it covers was covered
   abbrev Ends : World → List Arrival → Type 0
-  Ends w ds = (lag (n .count) (heldIn (deliver w ds)) ≤ 0) × ((p : ℕ) → coversPsn n p ≡ true → wasCovered w ds p ≡ true)
+  Ends w ds = (lag (n .count) (heldIn (pastDeliver w ds)) ≤ 0) × ((p : ℕ) → coversPsn n p ≡ true → pastCovered w ds p ≡ true)
 
-  ends : (ds : List Arrival) (w : World) → Good n evs next rest w → Close ds → Timely (w .state .clock) ds → Arrives n ds → Ends w ds
+  ends : (ds : List Arrival) (w : World) → Good o n evs next rest w → Close ds → Timely (w .state .clock) ds → Arrives n ds → Ends w ds
   ends [] w g c h x = absurd (List·Memᴰ·not-nil (x .1))
   ends (d ∷ ds) w g c h x = ⊎-elim first (λ m. later (ends ds v (s .good) c' h' (x .0, m, x .2))) (List·Memᴰ·cases-cons (x .1))
     where
       v : World
-      v = onAck (d .time) (d .ack) w .after
+      v = pastAck (d .time) (d .ack) w .after
 
-      s : Went n evs next rest (lag (n .count) (heldIn w)) (d .time) v
+      s : Went o n evs next rest (lag (n .count) (heldIn w)) (d .time) v
       s = went w (d .time) (d .ack) g (c d (List·Memᴰ·head refl)) (h .0)
 
       c' : Close ds
@@ -236,8 +238,8 @@ module _ (n : Ack) (evs next : ℕ) (rest : ℤ) (fields : badFields evs n ≡ f
       first q =
           let is-n : d .ack ≡ n = ap (λ (y : Arrival). y .ack) (sym q) ∙ x .2 in
           let fine = newest-fine w (d .time) g (h .0) (h .1) in
-          let e : onAck (d .time) (d .ack) w ≡ record { number = 0; after = stepOf (ack (d .time) n) w } =
-          ap (λ (a : Ack). onAck (d .time) a w) is-n ∙ fine-accepted (d .time) n w fine (g .holds) in
+          let e : pastAck (d .time) (d .ack) w ≡ record { number = 0; after = stepOf (ack (d .time) n) w } =
+          ap (λ (a : Ack). pastAck (d .time) a w) is-n ∙ fine-accepted (d .time) n w fine in
           let z : lag (n .count) (heldIn v) ≤ 0 =
           rw (ap (λ (y : Answered). y .after) e)
           (omega (
@@ -249,26 +251,26 @@ module _ (n : Ack) (evs next : ℕ) (rest : ℤ) (fields : badFields evs n ≡ f
           (omega (arith, goes ds v (s .good) c' h' .1), λ p k. rw (ap (λ (y : Answered). y .number) e, is-n, k))
 
       later : Ends v ds → Ends w (d ∷ ds)
-      later r = (r .0, λ p k. rw (r .1 p k) (or-true (eqb (onAck (d .time) (d .ack) w .number) 0 && coversPsn (d .ack) p)))
+      later r = (r .0, λ p k. rw (r .1 p k) (or-true (eqb (pastAck (d .time) (d .ack) w .number) 0 && coversPsn (d .ack) p)))
 
 -- ---- what is covered
 
 -- what an accepted member covers, the newest covers
 covered-too : (n : Ack) (others : List Ack) (p : ℕ) → ((a : Ack) → List·Memᴰ a others → coversPsn a p ≡ true → coversPsn n p ≡ true)
-    → (ds : List Arrival) (w : World) → Of n others ds → wasCovered w ds p ≡ true → coversPsn n p ≡ true
-covered-too n others p sub [] w o e = absurd (false≢true e)
-covered-too n others p sub (d ∷ ds) w o e =
-    go (eqb (onAck (d .time) (d .ack) w .number) 0) (coversPsn (d .ack) p) refl
-    (covered-too n others p sub ds v (λ y m. o y (List·Memᴰ·tail m))) e
+    → (ds : List Arrival) (w : World) → Of n others ds → pastCovered w ds p ≡ true → coversPsn n p ≡ true
+covered-too n others p sub [] w of e = absurd (false≢true e)
+covered-too n others p sub (d ∷ ds) w of e =
+    go (eqb (pastAck (d .time) (d .ack) w .number) 0) (coversPsn (d .ack) p) refl
+    (covered-too n others p sub ds v (λ y m. of y (List·Memᴰ·tail m))) e
   where
     v : World
-    v = onAck (d .time) (d .ack) w .after
+    v = pastAck (d .time) (d .ack) w .after
 
     hit : coversPsn (d .ack) p ≡ true → coversPsn n p ≡ true
-    hit k = ⊎-elim (λ q. rw (← q) k) (λ m. sub (d .ack) m k) (o d (List·Memᴰ·head refl))
+    hit k = ⊎-elim (λ q. rw (← q) k) (λ m. sub (d .ack) m k) (of d (List·Memᴰ·head refl))
 
-    go : (b k : Bool) → coversPsn (d .ack) p ≡ k → (wasCovered v ds p ≡ true → coversPsn n p ≡ true)
-        → ((b && k) || wasCovered v ds p) ≡ true → coversPsn n p ≡ true
+    go : (b k : Bool) → coversPsn (d .ack) p ≡ k → (pastCovered v ds p ≡ true → coversPsn n p ≡ true)
+        → ((b && k) || pastCovered v ds p) ≡ true → coversPsn n p ≡ true
     go true true q ih h = hit q
     go true false q ih h = ih h
     go false k q ih h = ih h
@@ -280,18 +282,15 @@ bool-same false false f g = refl
 
 -- ---- the theorem
 
-module _ (w : World) (at : ℕ) (n : Ack) (others : List Ack) (nw : Newest w at n others) where
-  -- it is accepted, so the start is sound
-  holds : sound w ≡ true
-  holds = accepted (ack at n) w (nw .accepted) .sound-so
-
+module _ (o : Others) (w : World) (holds : soundAmong o (viewOf w) ≡ true) (at : ℕ) (n : Ack) (others : List Ack)
+    (nw : NewestPast w at n others) where
   fine : Fine at n (w .state .settings .«ev_count») (w .state .clock) (ledgerOf w)
   fine = accepted-fine at n w (nw .accepted)
 
   rest : ℤ
   rest = fallen (inFlightIn w) (unit * lag (n .count) (heldIn w))
 
-  start : Good n (w .state .settings .«ev_count») (w .state .flow .next) rest w
+  start : Good o n (w .state .settings .«ev_count») (w .state .flow .next) rest w
   unfolding rest
   start = record { holds = holds; evs-is = refl; next-is = refl; near = nw .not-behind; left = refl }
 
@@ -305,15 +304,15 @@ module _ (w : World) (at : ℕ) (n : Ack) (others : List Ack) (nw : Newest w at 
 
   -- every run in which the newest is leaves this ledger
   leaves : (ds : List Arrival) → Of n others ds → Arrives n ds → Timely (w .state .clock) ds
-      → ledgerOf (deliver w ds) ≡ settledBy (coversPsn n) (n .count) rest (ledgerOf w)
-  leaves ds o ar tm =
-      deliver-settles ds w holds
-      ∙ ap₂ (λ (h : ℕ) (z : ℤ). settledBy (wasCovered w ds) h z (ledgerOf w)) held-n in-flight-n
-      ∙ settled-same (w .state .settings .mtu) (w .state .clock) (ledgerOf w) (ledger-facts w holds) (wasCovered w ds) (coversPsn n)
+      → ledgerOf (pastDeliver w ds) ≡ settledBy (coversPsn n) (n .count) rest (ledgerOf w)
+  leaves ds of ar tm =
+      deliver-settles o ds w holds
+      ∙ ap₂ (λ (h : ℕ) (z : ℤ). settledBy (pastCovered w ds) h z (ledgerOf w)) held-n in-flight-n
+      ∙ settled-same (w .state .settings .mtu) (w .state .clock) (ledgerOf w) (ledger-facts o w holds) (pastCovered w ds) (coversPsn n)
       agree (n .count) rest
     where
       close : (d : Arrival) → List·Memᴰ d ds → lag (n .count) (d .ack .count) < half
-      close d m = ⊎-elim (λ q. rw q (omega (arith, lag-self (n .count)))) (λ k. nw .others-behind (d .ack) k) (o d m)
+      close d m = ⊎-elim (λ q. rw q (omega (arith, lag-self (n .count)))) (λ k. nw .others-behind (d .ack) k) (of d m)
 
       evs : ℕ
       evs = w .state .settings .«ev_count»
@@ -321,39 +320,55 @@ module _ (w : World) (at : ℕ) (n : Ack) (others : List Ack) (nw : Newest w at 
       next : ℕ
       next = w .state .flow .next
 
-      g : Good n evs next rest (deliver w ds)
-      g = goes n evs next rest (fine .fields) (fine .sent) rest-afloat ds w start close tm .0
+      g : Good o n evs next rest (pastDeliver w ds)
+      g = goes o n evs next rest (fine .fields) (fine .sent) rest-afloat ds w start close tm .0
 
-      e : Ends n evs next rest (fine .fields) (fine .sent) rest-afloat w ds
-      e = ends n evs next rest (fine .fields) (fine .sent) rest-afloat ds w start close tm ar
+      e : Ends o n evs next rest (fine .fields) (fine .sent) rest-afloat w ds
+      e = ends o n evs next rest (fine .fields) (fine .sent) rest-afloat ds w start close tm ar
 
-      none-left : lag (n .count) (heldIn (deliver w ds)) ≡ 0
+      none-left : lag (n .count) (heldIn (pastDeliver w ds)) ≡ 0
       none-left = omega (arith, e .0)
 
-      held-n : heldIn (deliver w ds) ≡ n .count
-      held-n = minus-none counts (n .count) (heldIn (deliver w ds)) (fields-count evs n (fine .fields))
-          (ledger-facts (deliver w ds) (g .holds) .held) none-left
+      held-n : heldIn (pastDeliver w ds) ≡ n .count
+      held-n = minus-none counts (n .count) (heldIn (pastDeliver w ds)) (fields-count evs n (fine .fields))
+          (ledger-facts o (pastDeliver w ds) (g .holds) .held) none-left
 
-      in-flight-n : inFlightIn (deliver w ds) ≡ rest
-      in-flight-n = sym (fall-none (inFlightIn (deliver w ds))) ∙ (rw none-left at (g .left))
+      in-flight-n : inFlightIn (pastDeliver w ds) ≡ rest
+      in-flight-n = sym (fall-none (inFlightIn (pastDeliver w ds))) ∙ (rw none-left at (g .left))
 
-      agree : coverAll (wasCovered w ds) (w .state .flow .low) (packets (w .state .flow) (ringOf w))
+      agree : coverAll (pastCovered w ds) (w .state .flow .low) (packets (w .state .flow) (ringOf w))
           ≡ coverAll (coversPsn n) (w .state .flow .low) (packets (w .state .flow) (ringOf w))
       agree =
-          cover-agree (wasCovered w ds) (coversPsn n) (w .state .flow .low) (packets (w .state .flow) (ringOf w))
-          (ledger-facts w holds .low-psn)
+          cover-agree (pastCovered w ds) (coversPsn n) (w .state .flow .low) (packets (w .state .flow) (ringOf w))
+          (ledger-facts o w holds .low-psn)
           (λ k hk out.
-          bool-same (wasCovered w ds (psnOf w k)) (coversPsn n (psnOf w k))
+          bool-same (pastCovered w ds (psnOf w k)) (coversPsn n (psnOf w k))
           (covered-too n others (psnOf w k)
-          (λ a m. nw .covers-too a m k (record { within = omega (arith, packets-long (w .state .flow) (ringOf w)); out = out })) ds w o)
+          (λ a m. nw .covers-too a m k (record { within = omega (arith, packets-long (w .state .flow) (ringOf w)); out = out })) ds w of)
           (e .1 (psnOf w k)))
 
-pub burst : Burst
-burst w at n others ds nw o ar tm =
-    let f = fine w at n others nw in
-    let alone : Arrival = record { time = at; ack = n } in
-    leaves w at n others nw ds o ar tm
-    ∙ sym (leaves w at n others nw (alone ∷ [])
+pub burst-among : BurstAmong
+burst-among o w at n others ds h nw of ar tm =
+    let f = fine o w h at n others nw in
+    let single : Arrival = record { time = at; ack = n } in
+    leaves o w h at n others nw ds of ar tm
+    ∙ sym (leaves o w h at n others nw (single ∷ [])
     (λ d m. inl (ap (λ (y : Arrival). y .ack) (List·Memᴰ·eq-of-singleton m)))
-    (alone, List·Memᴰ·head refl, refl)
+    (single, List·Memᴰ·head refl, refl)
     (f .later, f .early, tt))
+
+-- a flow by itself: the newest is accepted, so the start is sound
+pub burst : Burst
+burst w at n others ds nw of ar tm =
+    let h = accepted (ack at n) w (nw .accepted) .sound-so in
+    let same = past-answer (ack at n) w h in
+    ap ledgerOf (sym (past-deliver ds w h))
+    ∙ burst-among alone w at n others ds h
+    (record {
+      accepted = ap (λ (x : Answered). x .number) same ∙ nw .accepted;
+      not-behind = nw .not-behind;
+      others-behind = nw .others-behind;
+      covers-too = nw .covers-too;
+    })
+    of ar tm
+    ∙ ap (λ (x : Answered). ledgerOf (x .after)) same

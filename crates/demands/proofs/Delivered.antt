@@ -1,6 +1,6 @@
--- `delivers`: of any list of ACKs, a packet outstanding at the start counts as delivered exactly if an accepted one covered it.
--- Read off the ledger that the list leaves (`deliver-settles`): a PSN that low has passed lies outside low..next-1, any other is
--- packet k - gone of those left.
+-- `delivers-among`: of any list of ACKs of one flow among others, a packet outstanding at the start counts as delivered exactly if an
+-- accepted one covered it; `delivers`: so of a flow by itself, from any start. Read off the ledger that the list leaves
+-- (`deliver-settles`): a PSN that low has passed lies outside low..next-1, any other is packet k - gone of those left.
 -- Assumes nothing.
 use mathlib.Core.Path.{_≡_, refl, sym, ap, _∙_}
 use mathlib.Core.Logic.{by-cases}
@@ -21,6 +21,7 @@ use Rattle.serial.proofs.Wraps.{minus-is, minus-lt}
 use Rattle.serial.proofs.Cover.{plus-lt, plus-plus, minus-plus}
 use Rattle.ledger.specs.Packets.{doneStatus, noPacket, isOut, isDone, coverOne, coverAll, doneRun}
 use Rattle.ledger.specs.Ring.{Ledger, longOf, packets, offsetOf, packetOf}
+use Rattle.ledger.specs.Sound.{alone}
 use Rattle.ledger.specs.declared.Packet.{Packet}
 use Rattle.ledger.proofs.Facts.{Facts, packets-long}
 use Rattle.ledger.proofs.Queues.{cover-no, cover-out, cover-at, done-in, now-done, goneOf, leftOf}
@@ -29,10 +30,12 @@ use Rattle.sender.specs.Sound.{sound}
 use Rattle.sender.specs.Events.{onAck}
 use Rattle.demands.specs.Events.{ack}
 use Rattle.demands.specs.Burst.{Arrival, deliver, Outstanding, psnOf, isDelivered, wasCovered}
+use Rattle.demands.specs.Past.{pastDeliver, pastCovered, DeliversAmong}
 use Rattle.demands.specs.Demands.{Delivers}
-use Rattle.demands.proofs.Runs.{refused-same, accepted}
+use Rattle.demands.proofs.Runs.{refused-same, unsound-refused}
 use Rattle.demands.proofs.Sounded.{ledger-facts}
 use Rattle.demands.proofs.Ledgers.{settledBy, left-long, settled-long, settled-packets, heldIn, inFlightIn, deliver-settles}
+use Rattle.demands.proofs.Ledgers.{past-deliver, past-covered}
 
 -- every packet of the run at the front is done
 run-done : (ys : List Packet) (k : ℕ) → k < doneRun ys → isDone (getD ys k noPacket) ≡ true
@@ -119,23 +122,22 @@ module _ (mtu clock : ℕ) (l : Ledger) (F : Facts mtu clock (l .flow) (l .slots
       let q = past (omega arith) in
       sym (lt-no _ _ (isDone (getD ys k noPacket)) _ true (omega (arith, long, few)) (run-done ys k (omega arith))))
 
-from-sound : (w : World) (ds : List Arrival) → sound w ≡ true → (k : ℕ) → Outstanding w k
-    → isDelivered (ledgerOf (deliver w ds)) (psnOf w k) ≡ wasCovered w ds (psnOf w k)
-from-sound w ds h k o =
-    let F = ledger-facts w h in
-    let c = wasCovered w ds in
+pub delivers-among : DeliversAmong
+delivers-among o w ds k h out =
+    let F = ledger-facts o w h in
+    let c = pastCovered w ds in
     let f = w .state .flow in
     let xs = packets f (ringOf w) in
-    ap (λ (l : Ledger). isDelivered l (psnOf w k)) (deliver-settles ds w h)
-    ∙ settled-delivers (w .state .settings .mtu) (w .state .clock) (ledgerOf w) F c (heldIn (deliver w ds)) (inFlightIn (deliver w ds))
-    k (o .within)
-    ∙ ap isDone (cover-at c (f .low) k xs (F .low-psn) (omega (arith, packets-long f (ringOf w), o .within)))
-    ∙ cover-done (c (psnOf w k)) (getD xs k noPacket) (o .out)
+    let v = pastDeliver w ds in
+    ap (λ (l : Ledger). isDelivered l (psnOf w k)) (deliver-settles o ds w h)
+    ∙ settled-delivers (w .state .settings .mtu) (w .state .clock) (ledgerOf w) F c (heldIn v) (inFlightIn v) k (out .within)
+    ∙ ap isDone (cover-at c (f .low) k xs (F .low-psn) (omega (arith, packets-long f (ringOf w), out .within)))
+    ∙ cover-done (c (psnOf w k)) (getD xs k noPacket) (out .out)
 
 -- a start that does not hold together: every ACK is refused, and an outstanding packet stays so
 module _ (w : World) (h : sound w ≡ false) where
   refused : (d : Arrival) → onAck (d .time) (d .ack) w .number ≡ 0 → ⊥
-  refused d z = true≢false (sym (accepted (ack (d .time) (d .ack)) w z .sound-so) ∙ h)
+  refused d = unsound-refused (ack (d .time) (d .ack)) w h
 
   stays : (d : Arrival) → onAck (d .time) (d .ack) w .after ≡ w
   stays d = refused-same (ack (d .time) (d .ack)) w (refused d)
@@ -159,9 +161,13 @@ module _ (w : World) (h : sound w ≡ false) where
       (sym (ap (λ (j : ℕ). isDone (getD xs j noPacket)) e ∙ rw (cover-no (getD xs k noPacket)) at
       (cover-done false (getD xs k noPacket) (o .out)))))
 
+-- a flow by itself, from any start
 pub delivers : Delivers
 delivers w ds k o = go (sound w) refl
   where
     go : (b : Bool) → sound w ≡ b → isDelivered (ledgerOf (deliver w ds)) (psnOf w k) ≡ wasCovered w ds (psnOf w k)
-    go true h = from-sound w ds h k o
+    go true h =
+        ap (λ (v : World). isDelivered (ledgerOf v) (psnOf w k)) (sym (past-deliver ds w h))
+        ∙ delivers-among alone w ds k h o
+        ∙ past-covered ds w h (psnOf w k)
     go false h = rw (none-moves w h ds, none-covers w h ds (psnOf w k)) (still-out w h k o)

@@ -38,7 +38,7 @@ use Rattle.ledger.specs.Ring.{Ledger, packetAt, tabulate, placeOf, ageOf, lay, 
 use Rattle.ledger.specs.Ring.{packetOf}
 use Rattle.ledger.specs.Memory.{Memory, memory, packed, sizeIn, resentIn, slotsOf, inWindow, statusOf, wordsAt, statusAt, shown}
 use Rattle.ledger.specs.Memory.{isOutStatus, isMarkStatus, stored}
-use Rattle.ledger.specs.Sound.{allTo, isCapacity, isRing, isEven, isLive, isZero, slotOk, headOk, stands, tallies, soundLedger}
+use Rattle.ledger.specs.Sound.{allTo, isCapacity, isRing, isEven, isLive, isZero, slotOk, headOk, stands, alone, tallies, soundLedger}
 use Rattle.ledger.specs.Steps.{changed, supplied, suppliedTotals, pushOf, resendOf, markOf, heldOf, newlyOf, acknowledgeOf}
 use Rattle.ledger.specs.declared.Packet.{Packet}
 use Rattle.sender.specs.World.{World, world, Answered, ledgerOf}
@@ -54,7 +54,7 @@ use Rattle.demands.specs.Events.{Event, newData, send, ack, loss, stepOf
 use Rattle.demands.specs.Sums.{noPast, remember, sentBy, reportedBy, lostBy, sum}
 use Rattle.demands.specs.Burst.{Arrival, deliver, Timely, Outstanding, psnOf, coversPsn, Of, Arrives}
 use Rattle.demands.specs.Cases.{settingsE}
-use Rattle.demands.proofs.Runs.{step-clock, step-settings}
+use Rattle.demands.proofs.Runs.{past-answer, step-clock, step-settings}
 use Rattle.demands.proofs.Sounded.{step-sound, step-ledger}
 use Rattle.demands.proofs.Ledgers.{Fine, fine-accepted, fine-rows}
 use Rattle.demands.proofs.Bursts.{burst}
@@ -242,7 +242,7 @@ unfolding start settingsE stateOf covered bitOf minus plus unsentOrOld backOf sp
 newest-fine = record { later = omega arith; early = omega arith; fields = refl; sent = refl; afloat = refl }
 
 newest-accepted : onAck 110 newest start ≡ record { number = 0; after = stepOf (ack 110 newest) start }
-newest-accepted = fine-accepted 110 newest start newest-fine start-sound
+newest-accepted = sym (past-answer (ack 110 newest) start start-sound) ∙ fine-accepted 110 newest start newest-fine
 
 newest-near : minus counts (newest .count) (start .state .flow .held) < half
 unfolding start stateOf minus
@@ -335,7 +335,7 @@ left = acknowledgeOf 0 0 3 (ledgerOf start)
 
 left-is : ledgerOf (stepOf (ack 110 newest) start) ≡ left
 unfolding left
-left-is = step-ledger (ack 110 newest) start start-sound (fine-rows 110 newest start newest-fine)
+left-is = step-ledger alone (ack 110 newest) start start-sound (fine-rows 110 newest start newest-fine)
 
 abbrev evs : ℕ
 evs = start .state .settings .«ev_count»
@@ -345,7 +345,7 @@ module _ (a : Ack) (f : Fine 120 a evs 110 left) where
   w = stepOf (ack 110 newest) start
 
   w-sound : sound w ≡ true
-  w-sound = step-sound (ack 110 newest) start start-sound (fine-rows 110 newest start newest-fine)
+  w-sound = step-sound alone (ack 110 newest) start start-sound (fine-rows 110 newest start newest-fine)
 
   fine-here : Fine 120 a (w .state .settings .«ev_count») (w .state .clock) (ledgerOf w)
   fine-here =
@@ -357,8 +357,8 @@ module _ (a : Ack) (f : Fine 120 a evs 110 left) where
   both-leave =
       ap (λ (x : Answered). ledgerOf (onAck 120 a (x .after) .after)) newest-accepted
       ∙ ap (λ (x : Answered). ledgerOf (x .after))
-      (fine-accepted 120 a w fine-here w-sound)
-      ∙ step-ledger (ack 120 a) w w-sound (fine-rows 120 a w fine-here)
+      (sym (past-answer (ack 120 a) w w-sound) ∙ fine-accepted 120 a w fine-here)
+      ∙ step-ledger alone (ack 120 a) w w-sound (fine-rows 120 a w fine-here)
       ∙ ap (acknowledgeOf (a .cum) (a .map) (a .count)) left-is
 
   -- a number that the two ledgers have differently

@@ -1,6 +1,7 @@
--- ACKs and the ledger: when one is accepted, told by the clock and the ledger alone (`Fine`), and what a list of them leaves:
--- the ledger that one ACK would leave which covers whatever an accepted one of them covers (`deliver-settles`). By the union
--- law of queues (`settle-twice`).
+-- ACKs past number 2 and the ledger: when one is accepted, told by the clock and the ledger alone (`Fine`), and what a list of them leaves
+-- of a flow among others: the ledger that one ACK would leave which covers whatever an accepted one of them covers (`deliver-settles`). By
+-- the union law of queues (`settle-twice`). For a flow by itself the list is the same as with the tests of number 2 (`past-deliver`,
+-- `past-covered`).
 -- Assumes nothing.
 use mathlib.Core.Path.{_≡_, refl, sym, ap, ap₂, _∙_}
 use mathlib.Core.Bool.{Bool, true, false, not, _&&_, _||_}
@@ -13,7 +14,6 @@ use lib.Dec.{leb, eqb}
 use lib.IntN.{ℤ}
 use lib.ListN.{length, getD, drop, length-drop}
 use borrow.Author.Tests.{le-ltb, lt-leb, leb-false, ne-eqb, eqb-false}
-use Rattle.rules.specs.Branch.{eq-yes, eq-both}
 use Rattle.rules.specs.Test.{neither}
 use Rattle.rules.specs.Rows.{firstOf, first-later, none-here}
 use Rattle.serial.specs.Psn.{psns, plus, covered, unsentOrOld}
@@ -23,6 +23,7 @@ use Rattle.ledger.specs.Packets.{doneStatus, noPacket, isOut, isDone, flyingOne
 use Rattle.ledger.specs.Packets.{coveredSum, doneRun}
 use Rattle.ledger.specs.Bounds.{fallen, sinks}
 use Rattle.ledger.specs.Ring.{Ledger, ledger, capOf, laid, longOf, packets}
+use Rattle.ledger.specs.Sound.{Others}
 use Rattle.ledger.specs.Steps.{heldOf, newlyOf, acknowledgeOf}
 use Rattle.ledger.specs.declared.Packet.{Packet}
 use Rattle.ledger.proofs.Geometry.{laid-cap}
@@ -31,16 +32,18 @@ use Rattle.ledger.proofs.Queues.{plus-none, plus-next, cover-no, cover-stays, c
 use Rattle.ledger.proofs.Queues.{cover-sum, run-le, run-stop, run-end, either, goneOf, leftOf, settle-twice, covered-twice}
 use Rattle.ledger.proofs.Judging.{ack-0, ack-facts}
 use Rattle.window.specs.Limits.{timeEnd}
-use Rattle.sender.specs.World.{World, viewOf, worldOf, Answered, ledgerOf}
-use Rattle.sender.specs.Sound.{sound}
-use Rattle.sender.specs.Rows.{withSound, ackAllRows}
-use Rattle.sender.specs.Steps.{ackStep}
-use Rattle.sender.specs.Events.{decided, onAck}
+use Rattle.sender.specs.World.{World, viewOf, Answered, ledgerOf}
+use Rattle.sender.specs.Sound.{soundAmong, sound}
+use Rattle.sender.specs.Rows.{ackAllRows}
+use Rattle.sender.specs.Events.{onAck, pastAck}
 use Rattle.sender.specs.declared.Ack.{Ack}
+use Rattle.sender.proofs.Rowing.{decided-yes}
 use Rattle.sender.proofs.Stepping.{time-facts}
 use Rattle.demands.specs.Events.{ack, stepOf}
 use Rattle.demands.specs.Burst.{Arrival, deliver, coversPsn, wasCovered}
-use Rattle.demands.proofs.Sounded.{ledger-facts, step-sound, step-ledger}
+use Rattle.demands.specs.Past.{pastDeliver, pastCovered}
+use Rattle.demands.proofs.Runs.{past-cases, past-answer}
+use Rattle.demands.proofs.Sounded.{ledger-facts, step-sound, step-ledger, answer-sound}
 
 -- ---- queues
 
@@ -184,15 +187,6 @@ module _ (mtu clock : ℕ) (l : Ledger) (F : Facts mtu clock (l .flow) (l .slots
 
 -- ---- one ACK
 
--- an ACK is accepted, and the world is stepped, or refused, and the world is as it was
-pub ack-cases : (P : Answered → Type 0) (time : ℕ) (a : Ack) (w : World)
-    → (firstOf (ackAllRows time a (w .state)) ≡ 0 → P (record { number = 0; after = worldOf (ackStep time a (viewOf w)) }))
-    → ((n : ℕ) → (n ≡ 0 → ⊥) → P (record { number = n; after = w })) → P (onAck time a w)
-unfolding onAck decided
-ack-cases P time a w f g =
-    let rows = ackAllRows time a (w .state) in
-    eq-both P (firstOf (withSound w rows)) 0 _ _ (λ e. f (none-here 2 _ rows (omega arith) e .1)) (g (firstOf (withSound w rows)))
-
 -- the tests of the rows for an ACK's fields, 21, 23 and 24, of so many EVs
 abbrev pub badFields : ℕ → Ack → Bool
 badFields evs a = leb counts (a .count) || leb evs (a .ev) || not (covered (a .cum) (a .map) (a .trigger))
@@ -202,7 +196,7 @@ fields-count evs a e =
     leb-false counts (a .count) (neither (leb counts (a .count)) (leb evs (a .ev))
     (neither (leb counts (a .count) || leb evs (a .ev)) _ e .0) .0)
 
--- When an ACK is accepted in a sound world: told by the number of EVs, the clock and the ledger alone
+-- When an ACK is accepted past number 2: told by the number of EVs, the clock and the ledger alone
 pub record Fine (time : ℕ) (a : Ack) (evs clock : ℕ) (l : Ledger) : Type 0 where
   pub later : clock ≤ time
   pub early : time < timeEnd
@@ -211,9 +205,9 @@ pub record Fine (time : ℕ) (a : Ack) (evs clock : ℕ) (l : Ledger) : Type 0 w
   pub afloat : sinks (l .totals .«in_flight») (newlyOf (a .count) (l .flow .held)) ≡ false
 
 module _ (time : ℕ) (a : Ack) (w : World) where
-  pub accepted-fine : onAck time a w .number ≡ 0 → Fine time a (w .state .settings .«ev_count») (w .state .clock) (ledgerOf w)
+  pub accepted-fine : pastAck time a w .number ≡ 0 → Fine time a (w .state .settings .«ev_count») (w .state .clock) (ledgerOf w)
   accepted-fine =
-      ack-cases (λ x. x .number ≡ 0 → Fine time a (w .state .settings .«ev_count») (w .state .clock) (ledgerOf w)) time a w
+      past-cases (λ x. x .number ≡ 0 → Fine time a (w .state .settings .«ev_count») (w .state .clock) (ledgerOf w)) (ack time a) w
       (λ rows e.
       let t = time-facts time (w .state) _ rows in
       let k = none-here 21 _ _ (omega arith) (t .1) in
@@ -239,9 +233,9 @@ module _ (time : ℕ) (a : Ack) (w : World) where
         both-ok : (leb counts (a .count) ≡ false) × (leb (w .state .settings .«ev_count») (a .ev) ≡ false)
         both-ok = neither (leb counts (a .count)) (leb (w .state .settings .«ev_count») (a .ev)) (ok .0)
 
-    pub fine-accepted : sound w ≡ true → onAck time a w ≡ record { number = 0; after = worldOf (ackStep time a (viewOf w)) }
-    unfolding onAck decided
-    fine-accepted h = sym (eq-yes _ 0 _ _ _ (sym (first-later 0 2 _ _ (ap not h) (sym fine-rows))) refl)
+    pub fine-accepted : pastAck time a w ≡ record { number = 0; after = stepOf (ack time a) w }
+    unfolding pastAck
+    fine-accepted = sym (decided-yes (firstOf (ackAllRows time a (w .state))) w (stepOf (ack time a) w) fine-rows)
 
 -- ---- a list of ACKs
 
@@ -257,28 +251,50 @@ Settles v cov l = ledgerOf v ≡ settledBy cov (heldIn v) (inFlightIn v) l
 
 -- the same of the first ACK's answer, and the others
 abbrev SettlesOn : World → Ack → List Arrival → Answered → Type 0
-SettlesOn w a ds x = Settles (deliver (x .after) ds) (λ psn. (eqb (x .number) 0 && coversPsn a psn) || wasCovered (x .after) ds psn)
-    (ledgerOf w)
+SettlesOn w a ds x =
+    Settles (pastDeliver (x .after) ds) (λ psn. (eqb (x .number) 0 && coversPsn a psn) || pastCovered (x .after) ds psn) (ledgerOf w)
 
-pub deliver-settles : (ds : List Arrival) (w : World) → sound w ≡ true → Settles (deliver w ds) (wasCovered w ds) (ledgerOf w)
-deliver-settles [] w h = sym (settled-none (w .state .settings .mtu) (w .state .clock) (ledgerOf w) (ledger-facts w h))
-deliver-settles (d ∷ ds) w h = go (λ v K. deliver-settles ds v K)
+pub deliver-settles : (o : Others) (ds : List Arrival) (w : World) → soundAmong o (viewOf w) ≡ true
+    → Settles (pastDeliver w ds) (pastCovered w ds) (ledgerOf w)
+deliver-settles o [] w h = sym (settled-none (w .state .settings .mtu) (w .state .clock) (ledgerOf w) (ledger-facts o w h))
+deliver-settles o (d ∷ ds) w h = go (λ v K. deliver-settles o ds v K)
   where
-    go : ((v : World) → sound v ≡ true → Settles (deliver v ds) (wasCovered v ds) (ledgerOf v))
-        → SettlesOn w (d .ack) ds (onAck (d .time) (d .ack) w)
+    go : ((v : World) → soundAmong o (viewOf v) ≡ true → Settles (pastDeliver v ds) (pastCovered v ds) (ledgerOf v))
+        → SettlesOn w (d .ack) ds (pastAck (d .time) (d .ack) w)
     go ih =
         let a = d .ack in
-        ack-cases (SettlesOn w a ds) (d .time) a w
+        past-cases (SettlesOn w a ds) (ack (d .time) a) w
         (λ rows.
         let v = stepOf (ack (d .time) a) w in
-        let u = deliver v ds in
-        ih v (step-sound (ack (d .time) a) w h rows)
-        ∙ ap (settledBy (wasCovered v ds) (heldIn u) (inFlightIn u))
-        (step-ledger (ack (d .time) a) w h rows ∙ acked-settled (a .cum) (a .map) (a .count) (ledgerOf w))
-        ∙ settled-twice (w .state .settings .mtu) (w .state .clock) (ledgerOf w) (ledger-facts w h)
-        (covered (a .cum) (a .map)) _ _ (wasCovered v ds) (heldIn u) (inFlightIn u))
+        let u = pastDeliver v ds in
+        ih v (step-sound o (ack (d .time) a) w h rows)
+        ∙ ap (settledBy (pastCovered v ds) (heldIn u) (inFlightIn u))
+        (step-ledger o (ack (d .time) a) w h rows ∙ acked-settled (a .cum) (a .map) (a .count) (ledgerOf w))
+        ∙ settled-twice (w .state .settings .mtu) (w .state .clock) (ledgerOf w) (ledger-facts o w h)
+        (covered (a .cum) (a .map)) _ _ (pastCovered v ds) (heldIn u) (inFlightIn u))
         (λ n z.
-        let u = deliver w ds in
+        let u = pastDeliver w ds in
         ih w h
-        ∙ ap (λ (b : Bool). settledBy (λ psn. (b && coversPsn a psn) || wasCovered w ds psn) (heldIn u) (inFlightIn u) (ledgerOf w))
+        ∙ ap (λ (b : Bool). settledBy (λ psn. (b && coversPsn a psn) || pastCovered w ds psn) (heldIn u) (inFlightIn u) (ledgerOf w))
         (sym (ne-eqb n 0 z)))
+
+-- ---- a flow by itself: with the tests of number 2
+
+module _ (d : Arrival) (w : World) (h : sound w ≡ true) where
+  past-first : pastAck (d .time) (d .ack) w ≡ onAck (d .time) (d .ack) w
+  past-first = past-answer (ack (d .time) (d .ack)) w h
+
+  first-sound : sound (onAck (d .time) (d .ack) w .after) ≡ true
+  first-sound = answer-sound (ack (d .time) (d .ack)) w h
+
+pub past-deliver : (ds : List Arrival) (w : World) → sound w ≡ true → pastDeliver w ds ≡ deliver w ds
+past-deliver [] w h = refl
+past-deliver (d ∷ ds) w h =
+    ap (λ (x : Answered). pastDeliver (x .after) ds) (past-first d w h) ∙ past-deliver ds _ (first-sound d w h)
+
+pub past-covered : (ds : List Arrival) (w : World) → sound w ≡ true → (psn : ℕ) → pastCovered w ds psn ≡ wasCovered w ds psn
+past-covered [] w h psn = refl
+past-covered (d ∷ ds) w h psn =
+    ap (λ (x : Answered). (eqb (x .number) 0 && coversPsn (d .ack) psn) || pastCovered (x .after) ds psn) (past-first d w h)
+    ∙ ap (λ (b : Bool). (eqb (onAck (d .time) (d .ack) w .number) 0 && coversPsn (d .ack) psn) || b)
+    (past-covered ds _ (first-sound d w h) psn)

@@ -1,6 +1,6 @@
--- What is remembered of the events so far agrees with the ledger, along any run: the newest count is the held one, and every packet of the
--- queue has the size of the last new packet of its PSN (`agrees-fresh`, `agrees-step`). A new packet's PSN is none of the others', for
--- there are at most 4,096 of them. By the ledger's laws of queues that are laid and read back.
+-- What is remembered of a flow's events so far agrees with its ledger, along any run: the newest count is the held one, and every packet
+-- of the queue has the size of the last new packet of its PSN (`agrees-fresh`, `agrees-step`). A new packet's PSN is none of the others',
+-- for there are at most 4,096 of them. By the ledger's laws of queues that are laid and read back.
 -- Assumes nothing.
 use mathlib.Core.Path.{_≡_, refl, sym, ap, _∙_}
 use mathlib.Core.Bool.{Bool, true, false, _&&_}
@@ -21,7 +21,7 @@ use Rattle.window.specs.declared.Settings.{Settings}
 use Rattle.ledger.specs.Packets.{noPacket, markedStatus, doneStatus, withStatus, isOut, coverOne, coverAll}
 use Rattle.ledger.specs.Ring.{Ledger, ledger, capOf, laid, longOf, packets, offsetOf, packetOf}
 use Rattle.ledger.specs.Memory.{Memory}
-use Rattle.ledger.specs.Sound.{isCapacity}
+use Rattle.ledger.specs.Sound.{isCapacity, Others}
 use Rattle.ledger.specs.Steps.{changed, newPacket, resentPacket, supplied, suppliedTotals, supplyOf, pushOf, resendOf, markOf}
 use Rattle.ledger.specs.Steps.{acknowledgeOf, heldOf}
 use Rattle.ledger.specs.declared.Flow.{Flow}
@@ -31,14 +31,15 @@ use Rattle.ledger.proofs.Queues.{cover-long, cover-at, goneOf, leftOf}
 use Rattle.ledger.proofs.Facts.{Facts, packets-long, packets-laid, packet-some}
 use Rattle.ledger.proofs.Judging.{new-facts}
 use Rattle.ledger.proofs.Sends.{new-room}
-use Rattle.sender.specs.World.{World, ringOf, ledgerOf}
-use Rattle.sender.specs.Sound.{sound}
+use Rattle.sender.specs.World.{World, ringOf, viewOf, ledgerOf}
+use Rattle.sender.specs.Sound.{soundAmong}
 use Rattle.sender.specs.Start.{freshState}
 use Rattle.sender.proofs.Starts.{set-up-fresh}
 use Rattle.sender.proofs.Stepping.{send-facts}
 use Rattle.demands.specs.Events.{Event, newData, send, ack, nack, loss, path, SetUp}
 use Rattle.demands.specs.Sums.{Past, noPast, remember}
-use Rattle.demands.proofs.Runs.{rowsOf, ledgerStep}
+use Rattle.demands.specs.Past.{pastRows, Agrees}
+use Rattle.demands.proofs.Runs.{ledgerStep}
 use Rattle.demands.proofs.Sounded.{ledger-facts}
 use Rattle.demands.proofs.Ledgers.{settledBy, left-long, settled-long}
 
@@ -88,10 +89,6 @@ sized-more bytes low xs y few S k h =
         omega arith
 
 -- ---- the past and a ledger
-
-pub record Agrees (p : Past) (l : Ledger) : Type 0 where
-  pub count-is : p .count ≡ l .flow .held
-  pub sizes : (k : ℕ) → k < longOf (l .flow) → getD (packets (l .flow) (l .slots)) k noPacket .size ≡ p .bytes (plus (l .flow .low) k)
 
 -- a ledger that a queue is laid in, by the queue
 agrees-laid : (p : Past) (cap : ℕ) (f : Flow) (t : Totals) (xs : List Packet) → isCapacity cap ≡ true → longOf f ≡ length xs
@@ -184,13 +181,13 @@ agrees-either true f g = f refl
 agrees-either false f g = g refl
 
 -- an accepted event, remembered, agrees with what it leaves
-pub agrees-step : (e : Event) (w : World) (p : Past) → sound w ≡ true → firstOf (rowsOf e w) ≡ 0 → Agrees p (ledgerOf w)
-    → Agrees (remember e p) (ledgerStep e (ledgerOf w))
+pub agrees-step : (o : Others) (e : Event) (w : World) (p : Past) → soundAmong o (viewOf w) ≡ true → firstOf (pastRows e w) ≡ 0
+    → Agrees p (ledgerOf w) → Agrees (remember e p) (ledgerStep e (ledgerOf w))
 unfolding remember
-agrees-step (newData time bytes) w p h rows A = supplied-agrees (ledgerOf w) (ledger-facts w h) A bytes
-agrees-step (send time a) w p h rows A =
+agrees-step o (newData time bytes) w p h rows A = supplied-agrees (ledgerOf w) (ledger-facts o w h) A bytes
+agrees-step o (send time a) w p h rows A =
     let f = w .state .flow in
-    let F = ledger-facts w h in
+    let F = ledger-facts o w h in
     let S = send-facts time a (w .state) (ringOf w) rows in
     agrees-either (a .resend)
     (λ again. resent-agrees (ledgerOf w) F A time (a .psn))
@@ -198,10 +195,10 @@ agrees-step (send time a) w p h rows A =
     let R = rw new at (S .rows) in
     pushed-agrees (ledgerOf w) F A (new-room _ _ f (ringOf w) F (a .psn) (a .size) R .1) time (a .psn) (a .size)
     (new-facts f (capOf (ringOf w)) (a .psn) (a .size) R .0))
-agrees-step (ack time a) w p h rows A = acked-agrees (ledgerOf w) (ledger-facts w h) A (a .cum) (a .map) (a .count)
-agrees-step (nack time a) w p h rows A = marked-agrees (ledgerOf w) (ledger-facts w h) A (a .psn)
-agrees-step (loss time a) w p h rows A = marked-agrees (ledgerOf w) (ledger-facts w h) A (a .psn)
-agrees-step (path time) w p h rows A = A
+agrees-step o (ack time a) w p h rows A = acked-agrees (ledgerOf w) (ledger-facts o w h) A (a .cum) (a .map) (a .count)
+agrees-step o (nack time a) w p h rows A = marked-agrees (ledgerOf w) (ledger-facts o w h) A (a .psn)
+agrees-step o (loss time a) w p h rows A = marked-agrees (ledgerOf w) (ledger-facts o w h) A (a .psn)
+agrees-step o (path time) w p h rows A = A
 
 -- going on from low by how far a number lies ahead leads to its PSN
 leads-there : (low psn : ℕ) → plus low (minus psns psn low) ≡ psn % psns

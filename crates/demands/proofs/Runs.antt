@@ -1,40 +1,102 @@
--- Events one by one. A refused one leaves the world as it was (`refused-same`; of setting up `set-up-refused`: demand 1). An accepted one
--- came to a sound world, no row refuses it, and what it leaves is its step (`accepted`; `rules-hold`, `path-taken`: demand 2), whose ledger
--- is the ledger's own step (`view-ledger`) at the event's time (`step-clock`). By the sender's laws.
+-- Events one by one. Past number 2 an event that no row refuses leaves its step, any other the world as it was (`past-cases`); with the
+-- test of number 2 it is the same in a sound world (`past-answer`), and refused in any other (`unsound-refused`). So demand 1
+-- (`refused-same`; of setting up `set-up-refused`) and demand 2 (`accepted`, `rules-hold`, `path-taken`). A step's ledger is the ledger's
+-- own step (`view-ledger`) at the event's time (`step-clock`). By the sender's laws.
 -- Assumes nothing.
-use mathlib.Core.Path.{_≡_, refl, sym, _∙_}
-use mathlib.Core.Bool.{not, true}
+use mathlib.Core.Path.{_≡_, refl, sym, ap, _∙_, subst}
+use mathlib.Core.Bool.{not, true, false, true≢false}
 use mathlib.Core.List.{List}
 use Prim.Native.Nat.{ℕ}
 use native.Mathlib.Omega.{arith}
 use borrow.Author.Tests.{not-false}
 use Rattle.rules.specs.Branch.{ifSo, ifEq, eq-both}
-use Rattle.rules.specs.Rows.{Row, firstOf, none-here}
+use Rattle.rules.specs.Rows.{firstOf, none-here}
 use Rattle.window.specs.declared.Settings.{Settings}
-use Rattle.ledger.specs.Ring.{Ledger, ledger}
+use Rattle.ledger.specs.Ring.{Ledger}
 use Rattle.ledger.specs.Memory.{Memory}
 use Rattle.ledger.specs.Steps.{supplyOf, pushOf, resendOf, markOf, acknowledgeOf}
-use Rattle.sender.specs.World.{World, world, View, ringOf, viewOf, Answered, Routing, ledgerIn}
+use Rattle.sender.specs.World.{World, world, View, viewOf, Answered, Routing, ledgerIn}
 use Rattle.sender.specs.Sound.{sound}
-use Rattle.sender.specs.Rows.{withSound, newDataRows, sendAllRows, ackAllRows, nackAllRows, lossAllRows, pathRows, setUpRows}
+use Rattle.sender.specs.Rows.{withSound, pathRows, setUpRows}
 use Rattle.sender.specs.Steps.{stateOf, settled, newDataState, newDataStep, sendStep, ackStep, nackStep, lossStep, pathState, pathStep}
 use Rattle.sender.specs.Steps.{routeOf}
 use Rattle.sender.specs.Start.{noSettings, freshState, onSetUp}
 use Rattle.sender.specs.Events.{decided, onNewData, onSend, onAck, onNack, onLoss, onPath}
-use Rattle.sender.proofs.Refusals.{new-data-same, send-same, ack-same, nack-same, loss-same, path-same}
+use Rattle.sender.specs.Events.{pastNewData, pastSend, pastAck, pastNack, pastLoss, pastPath}
+use Rattle.sender.proofs.Rowing.{past-sound, taken, untaken, decided-yes, decided-no}
 use Rattle.demands.specs.Events.{Event, newData, send, ack, nack, loss, path, answer, viewStep, stepOf}
 use Rattle.demands.specs.Demands.{RefusedSame, RulesHold, PathTaken}
+use Rattle.demands.specs.Past.{pastRows, pastAnswer}
+
+-- ---- an event's answer, by the number of its rows
+
+-- a path choice too, once its EV is left out
+route-decided : (n time : ℕ) (w : World)
+    → let x = ifEq n 0 (taken time w) (untaken n w) in
+    record { number = x .number; after = x .after } ≡ decided n w (stepOf (path time) w)
+route-decided n time w =
+    eq-both (λ (x : Routing). record { number = x .number; after = x .after } ≡ decided n w (stepOf (path time) w)) n 0 _ _
+    (decided-yes n w (stepOf (path time) w)) (decided-no n w (stepOf (path time) w))
+
+past-decided : (e : Event) (w : World) → pastAnswer e w ≡ decided (firstOf (pastRows e w)) w (stepOf e w)
+unfolding pastNewData pastSend pastAck pastNack pastLoss pastPath
+past-decided (newData time bytes) w = refl
+past-decided (send time a) w = refl
+past-decided (ack time a) w = refl
+past-decided (nack time a) w = refl
+past-decided (loss time a) w = refl
+past-decided (path time) w = route-decided (firstOf (pathRows time (w .state))) time w
+
+answer-decided : (e : Event) (w : World) → answer e w ≡ decided (firstOf (withSound w (pastRows e w))) w (stepOf e w)
+unfolding onNewData onSend onAck onNack onLoss onPath
+answer-decided (newData time bytes) w = refl
+answer-decided (send time a) w = refl
+answer-decided (ack time a) w = refl
+answer-decided (nack time a) w = refl
+answer-decided (loss time a) w = refl
+answer-decided (path time) w = route-decided (firstOf (withSound w (pathRows time (w .state)))) time w
+
+-- what holds of the step under the number 0, and of the world as it was under any other, holds of the answer
+decided-cases : (P : Answered → Type 0) (n : ℕ) (w after : World) → (n ≡ 0 → P (record { number = 0; after = after }))
+    → ((n ≡ 0 → ⊥) → P (record { number = n; after = w })) → P (decided n w after)
+unfolding decided
+decided-cases P n w after f g = eq-both P n 0 _ _ f g
+
+module _ (P : Answered → Type 0) (e : Event) (w : World) where
+  pub past-cases : (firstOf (pastRows e w) ≡ 0 → P (record { number = 0; after = stepOf e w }))
+      → ((n : ℕ) → (n ≡ 0 → ⊥) → P (record { number = n; after = w })) → P (pastAnswer e w)
+  past-cases f g = subst P (sym (past-decided e w)) (decided-cases P _ w _ f (g (firstOf (pastRows e w))))
+
+  -- with the test of number 2
+  answer-cases : (sound w ≡ true → firstOf (pastRows e w) ≡ 0 → P (record { number = 0; after = stepOf e w }))
+      → ((n : ℕ) → (n ≡ 0 → ⊥) → P (record { number = n; after = w })) → P (answer e w)
+  answer-cases f g =
+      let rows = pastRows e w in
+      subst P (sym (answer-decided e w)) (decided-cases P _ w _
+      (λ z. let p = none-here 2 (not (sound w)) rows (omega arith) z in f (not-false (sound w) (p .0)) (p .1))
+      (g (firstOf (withSound w rows))))
+
+-- ---- past number 2
+
+pub past-refused : (e : Event) (w : World) → (pastAnswer e w .number ≡ 0 → ⊥) → pastAnswer e w .after ≡ w
+past-refused e w = past-cases (λ x. (x .number ≡ 0 → ⊥) → x .after ≡ w) e w (λ rows h. absurd (h refl)) (λ n z h. refl)
+
+pub past-accepted : (e : Event) (w : World) → pastAnswer e w .number ≡ 0
+    → (firstOf (pastRows e w) ≡ 0) × (pastAnswer e w .after ≡ stepOf e w)
+past-accepted e w =
+    past-cases (λ x. x .number ≡ 0 → (firstOf (pastRows e w) ≡ 0) × (x .after ≡ stepOf e w)) e w (λ rows h. (rows, refl))
+    (λ n z h. absurd (z h))
+
+-- in a sound world an event past number 2 is the event
+pub past-answer : (e : Event) (w : World) → sound w ≡ true → pastAnswer e w ≡ answer e w
+past-answer e w h =
+    past-decided e w ∙ ap (λ (n : ℕ). decided n w (stepOf e w)) (past-sound w h (pastRows e w)) ∙ sym (answer-decided e w)
 
 -- ---- refused
 
 -- DEMAND 1: a refusal changes neither state nor buffer
 pub refused-same : RefusedSame
-refused-same (newData time bytes) w h = new-data-same time w bytes h
-refused-same (send time a) w h = send-same time w a h
-refused-same (ack time a) w h = ack-same time w a h
-refused-same (nack time a) w h = nack-same time w a h
-refused-same (loss time a) w h = loss-same time w a h
-refused-same (path time) w h = path-same time w h .0
+refused-same e w = answer-cases (λ x. (x .number ≡ 0 → ⊥) → x .after ≡ w) e w (λ h rows n. absurd (n refl)) (λ n z h. refl)
 
 -- the same of setting up: "a refused setting up: a state of zeros", and lent memory untouched
 pub set-up-refused : (s : Settings) (m : Memory) (times : List ℕ) → (onSetUp s m times .number ≡ 0 → ⊥)
@@ -46,48 +108,19 @@ set-up-refused s m times =
 
 -- ---- accepted
 
--- an event's time, and its rows behind number 2
-abbrev pub timeOf : Event → ℕ
-timeOf (newData time bytes) = time
-timeOf (send time a) = time
-timeOf (ack time a) = time
-timeOf (nack time a) = time
-timeOf (loss time a) = time
-timeOf (path time) = time
-
-abbrev pub rowsOf : Event → World → List Row
-rowsOf (newData time bytes) w = newDataRows time bytes (w .state)
-rowsOf (send time a) w = sendAllRows time a (w .state) (ringOf w)
-rowsOf (ack time a) w = ackAllRows time a (w .state)
-rowsOf (nack time a) w = nackAllRows time a (w .state) (ringOf w)
-rowsOf (loss time a) w = lossAllRows time a (w .state) (ringOf w)
-rowsOf (path time) w = pathRows time (w .state)
-
-pub record Accepted (w : World) (rows : List Row) (to after : World) : Type 0 where
+pub record Accepted (e : Event) (w after : World) : Type 0 where
   pub sound-so : sound w ≡ true
-  pub none-refuses : firstOf rows ≡ 0
-  pub leaves : after ≡ to
+  pub none-refuses : firstOf (pastRows e w) ≡ 0
+  pub leaves : after ≡ stepOf e w
 
--- of two answers by the rows' number, of which the second carries it
-accepted-by : {A : Type 0} (number : A → ℕ) (after : A → World) (w : World) (rows : List Row) (taken refused : A)
-    → number refused ≡ firstOf (withSound w rows)
-    → number (ifEq (firstOf (withSound w rows)) 0 taken refused) ≡ 0
-    → Accepted w rows (after taken) (after (ifEq (firstOf (withSound w rows)) 0 taken refused))
-accepted-by {A} number after w rows taken refused e =
-    eq-both (λ (a : A). number a ≡ 0 → Accepted w rows (after taken) (after a)) (firstOf (withSound w rows)) 0 taken refused
-    (λ z _.
-    let p = none-here 2 (not (sound w)) rows (omega arith) z in
-    record { sound-so = not-false (sound w) (p .0); none-refuses = p .1; leaves = refl })
-    (λ z h. absurd (z (sym e ∙ h)))
+pub accepted : (e : Event) (w : World) → answer e w .number ≡ 0 → Accepted e w (answer e w .after)
+accepted e w =
+    answer-cases (λ x. x .number ≡ 0 → Accepted e w (x .after)) e w
+    (λ h rows n. record { sound-so = h; none-refuses = rows; leaves = refl }) (λ n z h. absurd (z h))
 
-pub accepted : (e : Event) (w : World) → answer e w .number ≡ 0 → Accepted w (rowsOf e w) (stepOf e w) (answer e w .after)
-unfolding onNewData onSend onAck onNack onLoss onPath decided
-accepted (newData time bytes) w = accepted-by (λ (x : Answered). x .number) (λ x. x .after) w _ _ _ refl
-accepted (send time a) w = accepted-by (λ (x : Answered). x .number) (λ x. x .after) w _ _ _ refl
-accepted (ack time a) w = accepted-by (λ (x : Answered). x .number) (λ x. x .after) w _ _ _ refl
-accepted (nack time a) w = accepted-by (λ (x : Answered). x .number) (λ x. x .after) w _ _ _ refl
-accepted (loss time a) w = accepted-by (λ (x : Answered). x .number) (λ x. x .after) w _ _ _ refl
-accepted (path time) w = accepted-by (λ (x : Routing). x .number) (λ x. x .after) w _ _ _ refl
+-- a world that does not hold together refuses every event
+pub unsound-refused : (e : Event) (w : World) → sound w ≡ false → answer e w .number ≡ 0 → ⊥
+unsound-refused e w h n = true≢false (sym (accepted e w n .sound-so) ∙ h)
 
 -- DEMAND 2: after an accepted event the world is that of the rules ..
 pub rules-hold : RulesHold
@@ -101,6 +134,15 @@ path-taken time w =
     (λ e n. refl) (λ e n. absurd (e n))
 
 -- ---- what a step leaves
+
+-- an event's time
+abbrev pub timeOf : Event → ℕ
+timeOf (newData time bytes) = time
+timeOf (send time a) = time
+timeOf (ack time a) = time
+timeOf (nack time a) = time
+timeOf (loss time a) = time
+timeOf (path time) = time
 
 -- what an accepted event does to the ledger
 abbrev pub ledgerStep : Event → Ledger → Ledger

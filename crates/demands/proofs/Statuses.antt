@@ -19,7 +19,7 @@ use Rattle.window.specs.declared.Settings.{Settings}
 use Rattle.ledger.specs.Packets.{noPacket, flyingStatus, doneStatus}
 use Rattle.ledger.specs.Ring.{Ring, capOf, packetAt, queueOf, tabulate, laid}
 use Rattle.ledger.specs.Memory.{Memory, slotsOf, statusOf, statusAt}
-use Rattle.ledger.specs.Sound.{isCapacity, isRing, isEven, Even}
+use Rattle.ledger.specs.Sound.{isCapacity, isRing, isEven, alone, Even}
 use Rattle.ledger.proofs.Geometry.{cap-facts, laid-queue}
 use Rattle.ledger.proofs.Facts.{ring-even}
 use Rattle.sender.specs.World.{World, View, view, viewOf, worldOf, ledgerIn, Answered, Routing}
@@ -32,7 +32,7 @@ use Rattle.sender.proofs.Starts.{clear-laid, set-up-fresh}
 use Rattle.demands.specs.Events.{Event, newData, send, ack, nack, loss, path, answer, viewStep, run}
 use Rattle.demands.specs.Statuses.{OldAnswered, oldDecided, oldAnswer, oldClear, oldSetUpRows, oldSetUp, oldRun, oldNumbers, numbers}
 use Rattle.demands.specs.Statuses.{SameLedger, Refusal2Reads}
-use Rattle.demands.proofs.Runs.{rowsOf}
+use Rattle.demands.specs.Past.{pastRows}
 use Rattle.demands.proofs.Sounded.{step-view}
 
 -- ---- one event
@@ -60,11 +60,11 @@ same-decided {A} number after n taken refused w v e shows f g =
     (λ z. rw (← old-no n (viewOf w) v z) (f, ap viewOf g))
 
 -- where no row refuses, what the event leaves shows its step
-shows-step : (e : Event) (w : World) → firstOf (withSound w (rowsOf e w)) ≡ 0
+shows-step : (e : Event) (w : World) → firstOf (withSound w (pastRows e w)) ≡ 0
     → viewOf (worldOf (viewStep e (viewOf w))) ≡ viewStep e (viewOf w)
 shows-step e w z =
-    let p = none-here 2 (not (sound w)) (rowsOf e w) (omega arith) z in
-    step-view e w (not-false (sound w) (p .0)) (p .1)
+    let p = none-here 2 (not (sound w)) (pastRows e w) (omega arith) z in
+    step-view alone e w (not-false (sound w) (p .0)) (p .1)
 
 one-event : (e : Event) (w : World) → Same (answer e w .number) (answer e w .after) (oldAnswer e (viewOf w))
 unfolding onNewData onSend onAck onNack onLoss onPath decided

@@ -1,4 +1,4 @@
--- Every statement of specs/Demands with its proof, in the order of the statements.
+-- Every statement of specs/Demands with its proof, in the order of the statements; then those of specs/Past.
 -- Assumes nothing.
 use mathlib.Core.Logic.{⊎-elim}
 use Rattle.sender.specs.World.{viewOf}
@@ -9,6 +9,7 @@ use Rattle.sender.proofs.Sounds.{sound-facts}
 use Rattle.sender.proofs.Starts as starts
 use Rattle.demands.specs.Events.{newData, send, ack, nack, loss, path, run}
 use Rattle.demands.specs.Demands as demand
+use Rattle.demands.specs.Past as past
 use Rattle.demands.proofs.Runs as runs
 use Rattle.demands.proofs.Sounded as sounded
 use Rattle.demands.proofs.Histories as histories
@@ -80,3 +81,20 @@ burst = bursts.burst
 
 pub delivers : demand.Delivers
 delivers = delivered.delivers
+
+-- ---- one flow among others
+
+pub sound-among : past.SoundAmong
+sound-among = sounded.sound-among
+
+pub history-among : past.HistoryAmong
+history-among = histories.history-among
+
+pub sums-among : past.SumsAmong
+sums-among = histories.sums-among
+
+pub burst-among : past.BurstAmong
+burst-among = bursts.burst-among
+
+pub delivers-among : past.DeliversAmong
+delivers-among = delivered.delivers-among

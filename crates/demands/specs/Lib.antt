@@ -3,6 +3,7 @@ pub mod Events
 pub mod Sums
 pub mod Burst
 pub mod Samples
+pub mod Past
 pub mod Demands
 pub mod Cases
 pub mod Statuses
