@@ -1,13 +1,13 @@
 -- Instances, so that no theorem is empty, by computation. An accepted setting up with document 01's settings E, whatever the lent memory
 -- holds, and a history from it, the worked example and three events more, with its sums. A burst that satisfies every premise of `burst`,
--- and two that break one premise each and whose ledgers differ, so that these premises are needed: on document 01's P8 (low 4,294,967,294,
--- next 2, cum 0) and P4 (held 16,777,214, count 3), where PSNs and counts wrap.
+-- and beside another flow every one of `burst-among`; and two that break one premise each and whose ledgers differ, so that these premises
+-- are needed: on document 01's P8 (low 4,294,967,294, next 2, cum 0) and P4 (held 16,777,214, count 3), where PSNs and counts wrap.
 -- Assumes nothing.
 use mathlib.Core.Path.{_≡_, refl, sym, ap, _∙_, subst}
 use mathlib.Core.Logic.{_⊎_, inl, inr, ⊎-elim}
 use mathlib.Core.Bool.{Bool, true, false, false≢true}
 use mathlib.Core.List.{List, [], _∷_, List·Memᴰ, List·Memᴰ·head, List·Memᴰ·tail, List·Memᴰ·not-nil, List·Memᴰ·cases-cons}
-use Prim.Native.Nat.{ℕ, zero, suc, _*_, _<_}
+use Prim.Native.Nat.{ℕ, zero, suc, _+_, _*_, _<_}
 use native.Mathlib.Omega.{arith}
 use lib.Count.{leadingZeros}
 use lib.IntN.{pos}
@@ -38,26 +38,28 @@ use Rattle.ledger.specs.Ring.{Ledger, packetAt, tabulate, placeOf, ageOf, lay, 
 use Rattle.ledger.specs.Ring.{packetOf}
 use Rattle.ledger.specs.Memory.{Memory, memory, packed, sizeIn, resentIn, slotsOf, inWindow, statusOf, wordsAt, statusAt, shown}
 use Rattle.ledger.specs.Memory.{isOutStatus, isMarkStatus, stored}
-use Rattle.ledger.specs.Sound.{allTo, isCapacity, isRing, isEven, isLive, isZero, slotOk, headOk, stands, alone, tallies, soundLedger}
+use Rattle.ledger.specs.Sound.{allTo, isCapacity, isRing, isEven, isLive, isZero, slotOk, headOk, stands}
+use Rattle.ledger.specs.Sound.{Others, alone, tallies, soundLedger}
 use Rattle.ledger.specs.Steps.{changed, supplied, suppliedTotals, pushOf, resendOf, markOf, heldOf, newlyOf, acknowledgeOf}
 use Rattle.ledger.specs.declared.Packet.{Packet}
-use Rattle.sender.specs.World.{World, world, Answered, ledgerOf}
+use Rattle.sender.specs.World.{World, world, Answered, viewOf, ledgerOf}
 use Rattle.sender.specs.Named.{hasRoom, phaseOf}
 use Rattle.sender.specs.Sound.{timesOk, namedOk, soundAmong, sound}
 use Rattle.sender.specs.Rows.{setUpRows}
 use Rattle.sender.specs.Start.{freshState, onSetUp}
 use Rattle.sender.specs.Steps.{stateOf, settled, avoidedIn, newDataState, newDataStep, sendStep, ackSample, ackStep, lossStep}
-use Rattle.sender.specs.Events.{decided, onNewData, onSend, onAck, onLoss}
+use Rattle.sender.specs.Events.{decided, onNewData, onSend, onAck, onLoss, pastAck}
 use Rattle.sender.specs.declared.Send.{Send}
 use Rattle.sender.specs.declared.Ack.{Ack}
 use Rattle.demands.specs.Events.{Event, newData, send, ack, loss, stepOf, run, SetUp}
 use Rattle.demands.specs.Sums.{noPast, remember, sentBy, reportedBy, lostBy, sum}
 use Rattle.demands.specs.Burst.{Arrival, deliver, Timely, Outstanding, psnOf, coversPsn, Of, Arrives}
+use Rattle.demands.specs.Past.{pastDeliver}
 use Rattle.demands.specs.Cases.{settingsE}
 use Rattle.demands.proofs.Runs.{past-answer, step-clock, step-settings}
 use Rattle.demands.proofs.Sounded.{step-sound, step-ledger}
 use Rattle.demands.proofs.Ledgers.{Fine, fine-accepted, fine-rows}
-use Rattle.demands.proofs.Bursts.{burst}
+use Rattle.demands.proofs.Bursts.{burst-among, burst}
 
 -- ---- an accepted setting up: settings E, and 64 slots and 256 EV times of anything
 
@@ -132,24 +134,42 @@ worked-sums = (refl, refl, refl, refl)
 abbrev sentAt : ℕ → ℕ → Packet
 sentAt time status = record { status = status; size = 4096; sent = time; resent = 0 }
 
-unfoldable pub start : World
-start =
+-- among others, which add to the totals
+unfoldable pub startAmong : Others → World
+startAmong o =
     world
     (stateOf settingsE
     (record { low = 4294967294; next = 2; held = 16777214; backlog = 8192 })
-    (record { flying = 3; marked = 1; «marked_bytes» = 4096; backlog = 8192; «in_flight» = pos 12288 })
+    (record {
+      flying = o .flying + 3;
+      marked = o .marked + 1;
+      «marked_bytes» = o .bytes + 4096;
+      backlog = o .backlog + 8192;
+      «in_flight» = pos 12288;
+    })
     (freshOf settingsE) 100 0)
     (stored (laid 64 4294967294 (sentAt 10 1 ∷ sentAt 20 2 ∷ sentAt 30 1 ∷ sentAt 40 1 ∷ [])))
     (replicate 256 0)
 
-start-sound : sound start ≡ true
-unfolding start settingsE soundAmong isEvCount inRange inside soundWindow maxWndOf freshOf soundLedger stands isRing isCapacity longOf minus
+abbrev pub start : World
+start = startAmong alone
+
+-- another flow with packets and backlog of its own
+abbrev pub busy : Others
+busy = record { flying = 2; marked = 1; bytes = 4096; backlog = 4096 }
+
+starts-sound : (sound start ≡ true) × (soundAmong busy (viewOf (startAmong busy)) ≡ true)
+unfolding startAmong settingsE soundAmong isEvCount inRange inside soundWindow maxWndOf freshOf soundLedger stands isRing isCapacity
+    longOf minus
     allTo
     slotOk ifLt ifSo ifEq isLive isZero headOk tallies sumOf flyingOne markedOne markedSize inBounds packets queueOf tabulate packetAt
     placeOf plus ageOf lay laid isDone timesOk namedOk phaseOf isOn isMode hasRoom stateOf
     bit isWord bitAt one valueOf wordsOf packed sizeIn resentIn slotsOf inWindow statusOf wordsAt statusAt shown isOutStatus isMarkStatus
     stored
-start-sound = refl
+starts-sound = (refl, refl)
+
+start-sound : sound start ≡ true
+start-sound = starts-sound .0
 
 -- ---- ACKs
 
@@ -237,26 +257,26 @@ module _ {A : Type 0} (P : A → Type 0) where
 
 -- ---- the newest, at the start
 
-newest-fine : Fine 110 newest (start .state .settings .«ev_count») (start .state .clock) (ledgerOf start)
-unfolding start settingsE stateOf covered bitOf minus plus unsentOrOld backOf spanOf sinks newlyOf forwardOf aheadOf ifLt leadingZeros
-newest-fine = record { later = omega arith; early = omega arith; fields = refl; sent = refl; afloat = refl }
+newest-fine : (o : Others) → let w = startAmong o in Fine 110 newest (w .state .settings .«ev_count») (w .state .clock) (ledgerOf w)
+unfolding startAmong settingsE stateOf covered bitOf minus plus unsentOrOld backOf spanOf sinks newlyOf forwardOf aheadOf ifLt leadingZeros
+newest-fine o = record { later = omega arith; early = omega arith; fields = refl; sent = refl; afloat = refl }
 
 newest-accepted : onAck 110 newest start ≡ record { number = 0; after = stepOf (ack 110 newest) start }
-newest-accepted = sym (past-answer (ack 110 newest) start start-sound) ∙ fine-accepted 110 newest start newest-fine
+newest-accepted = sym (past-answer (ack 110 newest) start start-sound) ∙ fine-accepted 110 newest start (newest-fine alone)
 
-newest-near : minus counts (newest .count) (start .state .flow .held) < half
-unfolding start stateOf minus
-newest-near = omega arith
+newest-near : (o : Others) → minus counts (newest .count) (startAmong o .state .flow .held) < half
+unfolding startAmong stateOf minus
+newest-near o = omega arith
 
 -- what the three bursts below share
 module _ (OnCounts OnCovers : World → Ack → List Ack → Type 0) (others : List Ack) (ds : List Arrival) where
   premises : OnCounts start newest others → OnCovers start newest others → Of newest others ds → Arrives newest ds
       → Timely 100 ds → Premises OnCounts OnCovers start 110 newest others ds
-  unfolding start stateOf
+  unfolding startAmong stateOf
   premises counts-so covers-so o ar tm =
       record {
         accepted = ap (λ (x : Answered). x .number) newest-accepted;
-        not-behind = newest-near;
+        not-behind = newest-near alone;
         on-counts = counts-so;
         on-covers = covers-so;
         of = o;
@@ -264,19 +284,23 @@ module _ (OnCounts OnCovers : World → Ack → List Ack → Type 0) (others : L
         timely = tm;
       }
 
+abbrev Less : Others → Ack → Type 0
+Less o a =
+    let w = startAmong o in
+    (k : ℕ) → Outstanding w k → coversPsn a (psnOf w k) ≡ true → coversPsn newest (psnOf w k) ≡ true
+
 -- an ACK that does not cover the packet 3 covers nothing that the newest does not
-covers-less : (a : Ack) → coversPsn a (psnOf start 3) ≡ false → (k : ℕ) → Outstanding start k → coversPsn a (psnOf start k) ≡ true
-    → coversPsn newest (psnOf start k) ≡ true
-unfolding start stateOf covered minus plus bitOf longOf
-covers-less a h zero o e = refl
-covers-less a h (suc zero) o e = refl
-covers-less a h (suc (suc zero)) o e = refl
-covers-less a h (suc (suc (suc zero))) o e = absurd (false≢true (sym h ∙ e))
-covers-less a h (suc (suc (suc (suc k)))) o e = absurd (let z : ⊥ = omega (arith, o .within) in z)
+covers-less : (o : Others) (a : Ack) → coversPsn a (psnOf start 3) ≡ false → Less o a
+unfolding startAmong stateOf covered minus plus bitOf longOf
+covers-less o a h zero out e = refl
+covers-less o a h (suc zero) out e = refl
+covers-less o a h (suc (suc zero)) out e = refl
+covers-less o a h (suc (suc (suc zero))) out e = absurd (false≢true (sym h ∙ e))
+covers-less o a h (suc (suc (suc (suc k)))) out e = absurd (let z : ⊥ = omega (arith, out .within) in z)
 
 -- the two older ones and the one whose count is ahead do not cover it
 not-three : (coversPsn early (psnOf start 3) ≡ false) × ((count : ℕ) → coversPsn (ackOf 4294967295 0 count) (psnOf start 3) ≡ false)
-unfolding start stateOf covered minus plus bitOf
+unfolding startAmong stateOf covered minus plus bitOf
 not-three = (refl, λ count. refl)
 
 -- ---- a burst with every premise: in another order, the newest not last, one of the others doubled
@@ -294,25 +318,46 @@ Member xs d = (d .ack ≡ newest) ⊎ List·Memᴰ (d .ack) xs
 abbrev Near : Ack → Type 0
 Near a = minus counts (newest .count) (a .count) < half
 
-abbrev Less : Ack → Type 0
-Less a = (k : ℕ) → Outstanding start k → coversPsn a (psnOf start k) ≡ true → coversPsn newest (psnOf start k) ≡ true
-
-pub premises-hold : Premises Behind CoversToo start 110 newest others arrivals
+others-near : (a : Ack) → List·Memᴰ a others → Near a
 unfolding minus
-premises-hold =
-    premises Behind CoversToo others arrivals
-    (each Near _ _ (omega arith) (each Near _ _ (omega arith) (each-none Near)))
-    (each Less _ _ (covers-less early (not-three .0)) (each Less _ _ (covers-less late (not-three .1 1)) (each-none Less)))
-    (each (Member others) _ _ (inr (List·Memᴰ·tail (List·Memᴰ·head refl)))
+others-near = each Near _ _ (omega arith) (each Near _ _ (omega arith) (each-none Near))
+
+others-less : (o : Others) (a : Ack) → List·Memᴰ a others → Less o a
+others-less o =
+    each (Less o) _ _ (covers-less o early (not-three .0)) (each (Less o) _ _ (covers-less o late (not-three .1 1)) (each-none (Less o)))
+
+arrivals-of : Of newest others arrivals
+arrivals-of =
+    each (Member others) _ _ (inr (List·Memᴰ·tail (List·Memᴰ·head refl)))
     (each (Member others) _ _ (inl refl)
     (each (Member others) _ _ (inr (List·Memᴰ·head refl))
-    (each (Member others) _ _ (inr (List·Memᴰ·tail (List·Memᴰ·head refl))) (each-none (Member others))))))
-    (at 120 newest, List·Memᴰ·tail (List·Memᴰ·head refl), refl)
-    (omega arith, omega arith, (omega arith, omega arith, (omega arith, omega arith, (omega arith, omega arith, tt))))
+    (each (Member others) _ _ (inr (List·Memᴰ·tail (List·Memᴰ·head refl))) (each-none (Member others)))))
+
+newest-arrives : Arrives newest arrivals
+newest-arrives = (at 120 newest, List·Memᴰ·tail (List·Memᴰ·head refl), refl)
+
+arrivals-timely : Timely 100 arrivals
+arrivals-timely = (omega arith, omega arith, (omega arith, omega arith, (omega arith, omega arith, (omega arith, omega arith, tt))))
+
+pub premises-hold : Premises Behind CoversToo start 110 newest others arrivals
+premises-hold = premises Behind CoversToo others arrivals others-near (others-less alone) arrivals-of newest-arrives arrivals-timely
 
 -- its ledger is the one that the newest alone leaves
 pub same-here : Same start 110 newest arrivals
 same-here = premises-same start 110 newest others arrivals premises-hold
+
+-- and so of the flow among others
+pub same-among : ledgerOf (pastDeliver (startAmong busy) arrivals) ≡ ledgerOf (pastAck 110 newest (startAmong busy) .after)
+unfolding startAmong stateOf
+same-among =
+    burst-among busy (startAmong busy) 110 newest others arrivals (starts-sound .1)
+    (record {
+      accepted = ap (λ (x : Answered). x .number) (fine-accepted 110 newest (startAmong busy) (newest-fine busy));
+      not-behind = newest-near busy;
+      others-behind = others-near;
+      covers-too = others-less busy;
+    })
+    arrivals-of newest-arrives arrivals-timely
 
 -- ---- the newest, and after it one other, a
 
@@ -335,7 +380,7 @@ left = acknowledgeOf 0 0 3 (ledgerOf start)
 
 left-is : ledgerOf (stepOf (ack 110 newest) start) ≡ left
 unfolding left
-left-is = step-ledger alone (ack 110 newest) start start-sound (fine-rows 110 newest start newest-fine)
+left-is = step-ledger alone (ack 110 newest) start start-sound (fine-rows 110 newest start (newest-fine alone))
 
 abbrev evs : ℕ
 evs = start .state .settings .«ev_count»
@@ -345,7 +390,7 @@ module _ (a : Ack) (f : Fine 120 a evs 110 left) where
   w = stepOf (ack 110 newest) start
 
   w-sound : sound w ≡ true
-  w-sound = step-sound alone (ack 110 newest) start start-sound (fine-rows 110 newest start newest-fine)
+  w-sound = step-sound alone (ack 110 newest) start start-sound (fine-rows 110 newest start (newest-fine alone))
 
   fine-here : Fine 120 a (w .state .settings .«ev_count») (w .state .clock) (ledgerOf w)
   fine-here =
@@ -369,7 +414,7 @@ module _ (a : Ack) (f : Fine 120 a evs 110 left) where
 
 -- both of the others below are accepted there
 then-fine : Fine 120 ahead evs 110 left × Fine 120 farther evs 110 left
-unfolding left acknowledgeOf start settingsE stateOf covered bitOf minus plus unsentOrOld backOf spanOf sinks newlyOf forwardOf aheadOf
+unfolding left acknowledgeOf startAmong settingsE stateOf covered bitOf minus plus unsentOrOld backOf spanOf sinks newlyOf forwardOf aheadOf
     isOld heldOf ifLt ifSo leadingZeros
 then-fine = (
   record { later = omega arith; early = omega arith; fields = refl; sent = refl; afloat = refl },
@@ -380,7 +425,8 @@ then-fine = (
 then-numbers :
     (acknowledgeOf 4294967295 0 4 left .flow .held ≡ 4) × (left .flow .held ≡ 3) × (acknowledgeOf 1 0 2 left .flow .low ≡ 2)
     × (left .flow .low ≡ 1)
-unfolding left acknowledgeOf start stateOf covered bitOf minus plus aheadOf isOld heldOf longOf packets queueOf tabulate packetAt placeOf
+unfolding left acknowledgeOf startAmong stateOf covered bitOf minus plus aheadOf isOld heldOf longOf packets queueOf tabulate packetAt
+    placeOf
     ageOf lay laid coverAll coverOne isOut isFlying isMarked doneRun ifSo ifEq bit
     isWord bitAt one valueOf wordsOf packed sizeIn resentIn slotsOf inWindow statusOf wordsAt statusAt shown isOutStatus isMarkStatus stored
 then-numbers = (refl, refl, refl, refl)
@@ -392,7 +438,7 @@ pub counts-needed : Premises Nothing CoversToo start 110 newest (ahead ∷ []) (
     × (Same start 110 newest (newestThen ahead) → ⊥)
 counts-needed = (
   then-premises ahead Nothing CoversToo tt
-      (each Less _ _ (covers-less ahead (not-three .1 4)) (each-none Less)),
+      (each (Less alone) _ _ (covers-less alone ahead (not-three .1 4)) (each-none (Less alone))),
   differ ahead (then-fine .0) (λ l. l .flow .held) 4 3 (then-numbers .0) (then-numbers .1) (λ e. omega arith),
 )
 
