@@ -93,6 +93,7 @@ module _ (x : Context) {k n : ℕ} (pre : soundContext x ≡ true) (count : n �
       record { sound = S; inside = l; lies = lies x S k l _ _ _ _ (rw count at p) }
 
 module _ {x : Context} {k from end at to : ℕ} (H : Here x k from end at to) where
+  -- its low and next are PSNs
   pub here-fits : Fits (x .flows) k
   here-fits = flow-fits x (H .sound) k (H .inside)
 
