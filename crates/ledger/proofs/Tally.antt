@@ -297,7 +297,7 @@ table-sum adds f (suc n) =
       sum-same (λ k. adds (f (1 + k))) (λ k. adds (f (suc k))) n (λ k h. ap (λ (j : ℕ). adds (f j)) (omega arith)),
     )
 
-sum-plus : (f g h : ℕ → ℕ) (n : ℕ) → ((k : ℕ) → k < n → f k + g k ≡ h k) → sumTo f n + sumTo g n ≡ sumTo h n
+pub sum-plus : (f g h : ℕ → ℕ) (n : ℕ) → ((k : ℕ) → k < n → f k + g k ≡ h k) → sumTo f n + sumTo g n ≡ sumTo h n
 unfolding sumTo
 sum-plus f g h zero e = refl
 sum-plus f g h (suc n) e = omega (arith, sum-plus f g h n (λ k l. e k (omega arith)), e n (omega arith))
@@ -452,7 +452,7 @@ module _ (f : Flow) (m : Memory) (L : Lengths m) (W : Words m) where
 -- ---- the test of the ledger, as it is made
 
 -- what is outstanding flies or is marked
-outstanding-test : (x y a b o : ℕ) → a + b ≡ o → (eqb (x + y) o && eqb y b) ≡ (eqb x a && eqb y b)
+pub outstanding-test : (x y a b o : ℕ) → a + b ≡ o → (eqb (x + y) o && eqb y b) ≡ (eqb x a && eqb y b)
 outstanding-test x y a b o e =
     same-truth (eqb (x + y) o && eqb y b) (eqb x a && eqb y b)
     (λ t.
@@ -526,7 +526,7 @@ module _ (mtu clock : ℕ) (f : Flow) (m : Memory) where
         let p = both _ _ (both _ _ (first .0) .0) in
         totals-are f m L W fit mtu clock (p .0) (p .1)
 
-tally-backlog : (f : Flow) (m : Memory) → f .backlog ≡ tallyOf f m .backlog
+pub tally-backlog : (f : Flow) (m : Memory) → f .backlog ≡ tallyOf f m .backlog
 unfolding tallyOf
 tally-backlog f m = refl
 

@@ -19,8 +19,8 @@ pub(crate) fn has_room(mtu: u64, cwnd: u64, in_flight: i64) -> bool
     in_flight + mtu as i64 <= cwnd as i64
 }
 
-// The name that the rule gives.
-pub(crate) fn phase_of(mtu: u64, cwnd: u64, totals: Totals) -> u32
+// The name that the rule gives, over the totals of all flows. An inner step: the caller proves the bounds.
+pub fn phase_of(mtu: u64, cwnd: u64, totals: Totals) -> u32
     requires { ⌜ Flown (2 ^ 26) (totals .«in_flight») ⌝ }
     requires { ⌜ (mtu ≤ 2 ^ 14) × (cwnd ≤ 2 ^ 26) ⌝ }
     ensures { λ r. ⌜ r ≡ phaseOf mtu cwnd totals ⌝ }

@@ -8,7 +8,7 @@ ghost use Rattle.sender.specs.Sound.{timesOk, sound};
 
 // Whether no EV time is 2^49 or more: all of them together have a bit from there on exactly if one has. Every time is looked at: without a
 // way out of the loop the compiler takes several at once.
-fn times_ok(evs: &[u64]) -> bool
+pub fn times_ok(evs: &[u64]) -> bool
     ensures { λ r. ⌜ r ≡ timesOk (now (evs .entry)) ⌝ }
 {
     let mut all: u64 = 0;
