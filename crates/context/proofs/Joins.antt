@@ -4,21 +4,21 @@ use mathlib.Core.Path.{_≡_, sym, ap, ap₂, _∙_, subst}
 use mathlib.Core.Bool.{true}
 use mathlib.Core.List.{List, _++_}
 use Prim.Native.Nat.{ℕ, _+_, _-_, _*_, _/_, _≤_, _<_}
-use native.Mathlib.Nat.{mul-le-mul}
 use native.Mathlib.Omega.{arith}
 use lib.ListN.{length, take, drop, take-append-drop}
 use Rattle.ledger.specs.Memory.{Memory, memory}
 use Rattle.ledger.specs.declared.Flow.{Flow}
-use Rattle.ledger.proofs.Geometry.{cap-facts}
 use Rattle.flow_table.specs.Words.{flowsMost, Fits}
 use Rattle.flow_table.specs.Parts.{wordsIn, putPart}
 use Rattle.flow_table.proofs.Places.{with-same}
-use Rattle.flow_table.proofs.Cuts.{part-in, put-part, lent-ring, lent-put}
+use Rattle.flow_table.proofs.Cuts.{put-part, lent-ring, lent-put}
 use Rattle.sender.specs.World.{World, world}
 use Rattle.sender.specs.Sound.{Holds}
 use Rattle.sender.specs.declared.Controller.{Controller as Sender}
 use Rattle.context.specs.Context.{Context, context, flowCount, capIn, flowIn, joinedOf, sharedOf, worldAt, putWorld}
 use Rattle.context.specs.Sound.{soundContext}
+use Rattle.context.specs.Walk.{Parted}
+use Rattle.context.proofs.Walks.{all-few, laid}
 use Rattle.context.proofs.Sounds.{SoundContext, context-facts, flow-facts, one-holds}
 
 -- the bits of flow k's part are the words from..end-1, its slots at..to-1
@@ -35,11 +35,11 @@ pub record Lies (x : Context) (k from end at to : ℕ) : Type 0 where
   pub few-slots : to ≤ 32768
 
 module _ (x : Context) (S : SoundContext x) where
-  -- eight rings of 4,096 slots
+  pub sound-parted : Parted (capIn x) (x .flows) (x .slots)
+  sound-parted = record { few = S .table .few; cap-ok = S .cap; cut = S .cut }
+
   pub few-slots : length (x .slots .sizes) ≤ 32768
-  few-slots =
-      let m : flowCount x * capIn x ≤ 8 * 4096 = mul-le-mul {m₂ = 4096} (S .table .few) (cap-facts (capIn x) (S .cap) .most) in
-      omega (arith, S .cut .sizes)
+  few-slots = all-few (capIn x) (x .flows) (x .slots) sound-parted
 
   module _ (k : ℕ) (h : k < flowCount x) where
     pub flow-fits : Fits (x .flows) k
@@ -48,21 +48,18 @@ module _ (x : Context) (S : SoundContext x) where
     pub lies : (from end at to : ℕ) → (from ≡ k * wordsIn (capIn x)) × (end ≡ k * wordsIn (capIn x) + wordsIn (capIn x))
         × (at ≡ k * capIn x) × (to ≡ k * capIn x + capIn x) → Lies x k from end at to
     lies from end at to p =
-        let w = part-in k (flowCount x) (wordsIn (capIn x)) h in
-        let c = part-in k (flowCount x) (capIn x) h in
-        let words : flowCount x * wordsIn (capIn x) ≤ 8 * 64 =
-        mul-le-mul {m₂ = 64} (S .table .few) (omega (arith, cap-facts (capIn x) (S .cap) .most)) in
+        let L = laid (capIn x) (x .flows) (x .slots) sound-parted k h from end at to p in
         record {
-          from-is = p .0;
-          end-is = omega (arith, p .0, p .1);
-          at-is = p .2;
-          to-is = omega (arith, p .2, p .3);
-          outstanding = omega (arith, p .1, w, S .cut .outstanding);
-          marked = omega (arith, p .1, w, S .cut .marked);
-          sizes = omega (arith, p .3, c, S .cut .sizes);
-          sent = omega (arith, p .3, c, S .cut .sent);
-          few-words = omega (arith, p .1, w, words);
-          few-slots = omega (arith, p .3, c, few-slots, S .cut .sizes);
+          from-is = L .from-is;
+          end-is = L .end-is;
+          at-is = L .at-is;
+          to-is = L .to-is;
+          outstanding = L .outstanding;
+          marked = L .marked;
+          sizes = L .sizes;
+          sent = L .sent;
+          few-words = L .few-words;
+          few-slots = L .few-slots;
         }
 
     -- a flow put back as it was

@@ -1,9 +1,12 @@
 -- The laws that the proofs of `context` share.
 pub mod Sums
+pub mod Walks
 pub mod Sounds
+pub mod Numbering
 pub mod Joins
 pub mod Lifts
 pub mod Puts
 pub mod Kept
 pub mod Apart
 pub mod Starts
+pub mod Entries

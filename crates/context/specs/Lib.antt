@@ -1,6 +1,7 @@
 -- What the contracts of `context` cite.
 pub mod Context
 pub mod Sound
+pub mod Walk
 pub mod Rows
 pub mod Events
 pub mod Lent

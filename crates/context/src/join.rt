@@ -70,13 +70,12 @@ pub(crate) struct Cut {
     pub to: usize,
 }
 
-// The cut of flow k, of n flows that share so many slots.
-pub(crate) fn cut_of(slots: usize, n: usize, k: usize) -> Cut
-    requires { ⌜ (k < n) × (n ≤ flowsMost) × (slots ≤ 32768) ⌝ }
-    ensures { λ r. ⌜ (r .from ≡ k * wordsIn (slots / n)) × (r .end ≡ k * wordsIn (slots / n) + wordsIn (slots / n))
-        × (r .at ≡ k * (slots / n)) × (r .to ≡ k * (slots / n) + slots / n) ⌝ }
+// The cut of flow k, where the ring of each flow has `cap` slots.
+pub(crate) fn cut_at(cap: usize, k: usize) -> Cut
+    requires { ⌜ (k < flowsMost) × (cap ≤ 32768) ⌝ }
+    ensures { λ r. ⌜ (r .from ≡ k * wordsIn cap) × (r .end ≡ k * wordsIn cap + wordsIn cap)
+        × (r .at ≡ k * cap) × (r .to ≡ k * cap + cap) ⌝ }
 {
-    let cap = share(slots, n);
     let words = cap / bits::WORD_BITS;
     let from = k * words;
     let at = k * cap;
@@ -86,6 +85,15 @@ pub(crate) fn cut_of(slots: usize, n: usize, k: usize) -> Cut
         at,
         to: at + cap,
     }
+}
+
+// The cut of flow k, of n flows that share so many slots.
+pub(crate) fn cut_of(slots: usize, n: usize, k: usize) -> Cut
+    requires { ⌜ (k < n) × (n ≤ flowsMost) × (slots ≤ 32768) ⌝ }
+    ensures { λ r. ⌜ (r .from ≡ k * wordsIn (slots / n)) × (r .end ≡ k * wordsIn (slots / n) + wordsIn (slots / n))
+        × (r .at ≡ k * (slots / n)) × (r .to ≡ k * (slots / n) + slots / n) ⌝ }
+{
+    cut_at(share(slots, n), k)
 }
 
 // A flow out of range: 3, then 25.

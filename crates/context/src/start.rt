@@ -2,42 +2,18 @@
 use crate::Answer;
 use crate::join::share;
 use crate::join::shared;
+use crate::sound::is_cut;
 use ledger::Flow;
 use rules::verdict::Verdict;
 use window::Settings;
 ghost use mathlib.Core.Path.{_≡_};
 ghost use mathlib.Core.Bool.{true};
-ghost use Prim.Native.Nat.{_≤_};
 ghost use Rattle.rules.specs.Verdict.{numberOf};
 ghost use Rattle.ledger.specs.Lent.{memoryBefore};
-ghost use Rattle.flow_table.specs.Words.{flowsMost, isTable};
+ghost use Rattle.flow_table.specs.Words.{isTable};
 ghost use Rattle.sender.specs.Start.{noSettings};
 ghost use Rattle.context.specs.Lent.{answeredAfter};
-ghost use Rattle.context.specs.Sound.{isCut};
 ghost use Rattle.context.specs.Start.{lengthsOk, freshState, freshTable, onSetUp};
-
-// Whether the ring buffer is n rings of `cap` slots, end to end.
-fn is_cut<'a>(
-    n: usize,
-    cap: usize,
-    outstanding: &'a [u64],
-    marked: &'a [u64],
-    sizes: &'a [u32],
-    sent: &'a [u64],
-) -> bool
-    requires { ⌜ n ≤ flowsMost ⌝ }
-    ensures { λ r. ⌜ r ≡ isCut n cap (memoryBefore outstanding marked sizes sent) ⌝ }
-{
-    if !ledger::sound::is_capacity(cap) {
-        return false;
-    }
-    let words = n * (cap / bits::WORD_BITS);
-    let slots = n * cap;
-    (outstanding.len() == words)
-        & (marked.len() == words)
-        & (sizes.len() == slots)
-        & (sent.len() == slots)
-}
 
 // Whether the lengths are those of a context: one to eight whole flows, and as many equal rings.
 fn lengths_ok<'a>(
