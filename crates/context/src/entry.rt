@@ -1,5 +1,5 @@
-// Each event of a flow with its test of number 2, over the table's words: what C lends. No function has a `requires`: whatever is handed in,
-// it ends, and answers by document 01's table.
+// Each event of a flow with its test of number 2, over the table's words: what C lends. No function has a `requires`: whatever is handed
+// in, it ends, and answers by document 01's table.
 use crate::Answer;
 use crate::Controller;
 use crate::Heard;
@@ -90,8 +90,8 @@ pub fn send<'a, 'b, 'c, 'd, 'e, 'f>(
     )
 }
 
-// An ACK of a flow came. 2, 3, 25, 21, 23, 24, 9, 11; else what it covers is delivered and its count taken in, then come the window's rules,
-// and the EV's time where it is marked.
+// An ACK of a flow came. 2, 3, 25, 21, 23, 24, 9, 11; else what it covers is delivered and its count taken in, then come the window's
+// rules, and the EV's time where it is marked.
 pub fn ack<'a, 'b, 'c, 'd, 'e, 'f>(
     c: Controller,
     flows: &'a mut [u64],
@@ -168,7 +168,8 @@ pub fn nack<'a, 'b, 'c, 'd>(
     )
 }
 
-// A packet of a flow is taken for lost. 2, 3, 25, 23, 10, 11; else it waits to be sent again, then come the window's rules, and the EV's time.
+// A packet of a flow is taken for lost. 2, 3, 25, 23, 10, 11; else it waits to be sent again, then come the window's rules, and the EV's
+// time.
 pub fn loss<'a, 'b, 'c, 'd>(
     c: Controller,
     flows: &'a mut [u64],
@@ -204,8 +205,8 @@ pub fn loss<'a, 'b, 'c, 'd>(
     )
 }
 
-// Which EV the next packet takes. 2, 3, 25; else the first from the cursor on that is not avoided, or the cursor itself where more than half
-// are. All that is lent is only read.
+// Which EV the next packet takes. 2, 3, 25; else the first from the cursor on that is not avoided, or the cursor itself where more than
+// half are. All that is lent is only read.
 pub fn path<'a>(
     c: Controller,
     flows: &'a [u64],

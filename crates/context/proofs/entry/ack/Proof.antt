@@ -55,7 +55,8 @@ unfolding numberOf onAck saysOf
 returns c =
     let s = start c in
     let answer =
-    unsound-answer (handed s) (sym (c .before .is-sound .ensures) ∙ not-true _ (c .if1 .taken)) (ackOf (s .args .time) (s .args .flow) (s .args .a) (handed s))
+    unsound-answer (handed s) (sym (c .before .is-sound .ensures) ∙ not-true _ (c .if1 .taken))
+    (ackOf (s .args .time) (s .args .flow) (s .args .a) (handed s))
     (ackLeft (s .args .time) (s .args .flow) (s .args .a) (handed s)) in (
       answer,
       no-flow-says (ackSampling (s .args .time) (s .args .a) (viewOf (worldAt (s .args .flow) (handed s)))) answer
@@ -88,10 +89,13 @@ same-length-12 c = search needs
 returns-2 : tie.Need-returns-2
 returns-2 c =
     let k = c .before .before .before .before .before .before .before .before .before .before .before .before in
-    let e = c .before .before .before .before .before .before .before .before .before .before .before .before .before .before .before .before .before .before .before in
+    let e = c .before .before .before .before .before .before .before .before .before .before .before .before .before .before .before
+    .before .before .before .before in
     let s = startOf e in
-    let so = sym (e .before .is-sound .ensures) ∙ not-false _ (e .if1 .left) in
-    (k .ack .ensures .0 ∙ past-ack (handed s) so (s .args .time) (s .args .flow) (s .args .a), k .ack .ensures .1 ∙ past-ack-says (handed s) so (s .args .time) (s .args .flow) (s .args .a))
+    let so = sym (e .before .is-sound .ensures) ∙ not-false _ (e .if1 .left) in (
+      k .ack .ensures .0 ∙ past-ack (handed s) so (s .args .time) (s .args .flow) (s .args .a),
+      k .ack .ensures .1 ∙ past-ack-says (handed s) so (s .args .time) (s .args .flow) (s .args .a),
+    )
 
 pub ack-spec : {M : Type 1} → statement M
 ack-spec =

@@ -40,7 +40,8 @@ returns : tie.Need-returns
 unfolding numberOf onLoss
 returns c =
     let s = start c in
-    unsound-answer (handed s) (sym (c .before .is-sound .ensures) ∙ not-true _ (c .if1 .taken)) (lossOf (s .args .time) (s .args .flow) (s .args .a) (handed s))
+    unsound-answer (handed s) (sym (c .before .is-sound .ensures) ∙ not-true _ (c .if1 .taken))
+    (lossOf (s .args .time) (s .args .flow) (s .args .a) (handed s))
     (lossLeft (s .args .time) (s .args .flow) (s .args .a) (handed s))
 
 loss-requires : tie.Need-loss-requires

@@ -46,7 +46,8 @@ unfolding numberOf onNack saysOf
 returns c =
     let s = start c in
     let answer =
-    unsound-answer (handed s) (sym (c .before .is-sound .ensures) ∙ not-true _ (c .if1 .taken)) (nackOf (s .args .time) (s .args .flow) (s .args .a) (handed s))
+    unsound-answer (handed s) (sym (c .before .is-sound .ensures) ∙ not-true _ (c .if1 .taken))
+    (nackOf (s .args .time) (s .args .flow) (s .args .a) (handed s))
     (nackLeft (s .args .time) (s .args .flow) (s .args .a) (handed s)) in (
       answer,
       no-flow-says (nackSampling (s .args .time) (s .args .a) (viewOf (worldAt (s .args .flow) (handed s)))) answer
@@ -72,8 +73,10 @@ returns-2 c =
     let k = c .before .before .before .before .before .before in
     let e = c .before .before .before .before .before .before .before .before .before .before in
     let s = startOf e in
-    let so = sym (e .before .is-sound .ensures) ∙ not-false _ (e .if1 .left) in
-    (k .nack .ensures .0 ∙ past-nack (handed s) so (s .args .time) (s .args .flow) (s .args .a), k .nack .ensures .1 ∙ past-nack-says (handed s) so (s .args .time) (s .args .flow) (s .args .a))
+    let so = sym (e .before .is-sound .ensures) ∙ not-false _ (e .if1 .left) in (
+      k .nack .ensures .0 ∙ past-nack (handed s) so (s .args .time) (s .args .flow) (s .args .a),
+      k .nack .ensures .1 ∙ past-nack-says (handed s) so (s .args .time) (s .args .flow) (s .args .a),
+    )
 
 pub nack-spec : {M : Type 1} → statement M
 nack-spec =

@@ -34,7 +34,8 @@ returns : tie.Need-returns
 unfolding numberOf onNewData
 returns c =
     let s = start c in
-    unsound-answer (handed s) (sym (c .before .is-sound .ensures) ∙ not-true _ (c .if1 .taken)) (newDataOf (s .args .time) (s .args .flow) (s .args .bytes) (handed s))
+    unsound-answer (handed s) (sym (c .before .is-sound .ensures) ∙ not-true _ (c .if1 .taken))
+    (newDataOf (s .args .time) (s .args .flow) (s .args .bytes) (handed s))
     (newDataLeft (s .args .time) (s .args .flow) (s .args .bytes) (handed s))
 
 new-data-requires : tie.Need-new-data-requires

@@ -31,7 +31,8 @@ returns : tie.Need-returns
 unfolding numberOf onPath
 returns c =
     let s = start c in
-    unsound-route (handed s) (sym (c .before .is-sound .ensures) ∙ not-true _ (c .if1 .taken)) (pathOf (s .args .time) (s .args .flow) (handed s)) _ _
+    unsound-route (handed s) (sym (c .before .is-sound .ensures) ∙ not-true _ (c .if1 .taken))
+    (pathOf (s .args .time) (s .args .flow) (handed s)) _ _
 
 path-requires : tie.Need-path-requires
 path-requires c κs =

@@ -46,7 +46,8 @@ returns : tie.Need-returns
 unfolding numberOf onSend
 returns c =
     let s = start c in
-    unsound-answer (handed s) (sym (c .before .is-sound .ensures) ∙ not-true _ (c .if1 .taken)) (sendOf (s .args .time) (s .args .flow) (s .args .a) (handed s))
+    unsound-answer (handed s) (sym (c .before .is-sound .ensures) ∙ not-true _ (c .if1 .taken))
+    (sendOf (s .args .time) (s .args .flow) (s .args .a) (handed s))
     (sendLeft (s .args .time) (s .args .flow) (s .args .a) (handed s))
 
 send-requires : tie.Need-send-requires
@@ -72,7 +73,8 @@ same-length-10 c = search needs
 returns-2 : tie.Need-returns-2
 returns-2 c =
     let k = c .before .before .before .before .before .before .before .before .before .before in
-    let e = c .before .before .before .before .before .before .before .before .before .before .before .before .before .before .before .before in
+    let e = c .before .before .before .before .before .before .before .before .before .before .before .before .before .before .before
+    .before in
     let s = startOf e in
     let so = sym (e .before .is-sound .ensures) ∙ not-false _ (e .if1 .left) in
     k .send .ensures ∙ past-send (handed s) so (s .args .time) (s .args .flow) (s .args .a)
