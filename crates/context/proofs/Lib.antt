@@ -10,3 +10,4 @@ pub mod Kept
 pub mod Apart
 pub mod Starts
 pub mod Entries
+pub mod Looks

@@ -4,6 +4,7 @@ pub mod Sound
 pub mod Walk
 pub mod Rows
 pub mod Events
+pub mod Look
 pub mod Lent
 pub mod Start
 pub mod Statements

@@ -3,6 +3,7 @@
 // as it was.
 pub mod entry;
 mod join;
+pub mod look;
 pub mod rely;
 pub mod sound;
 pub mod start;

@@ -1,0 +1,21 @@
+-- What firmware asks of flow k's ring, which it need not read itself (request M-109): 2 where state and buffers do not hold together, 25
+-- where the flow is out of range, and else the answer.
+-- Assumes nothing.
+use Prim.Native.Nat.{ℕ}
+use Rattle.rules.specs.Branch.{ifSo, ifLt}
+use Rattle.ledger.specs.Ring.{packetOf}
+use Rattle.ledger.specs.Seek.{nextMarkedOf}
+use Rattle.sender.specs.Look.{Looked, looked}
+use Rattle.context.specs.Context.{Context, flowCount, flowIn, ringIn}
+use Rattle.context.specs.Sound.{soundContext}
+
+unfoldable pub lookFor : ℕ → ℕ → Context → Looked
+lookFor k found x = ifSo (soundContext x) (ifLt k (flowCount x) (looked 0 found) (looked 25 0)) (looked 2 0)
+
+-- the status of a PSN
+unfoldable pub onStatus : ℕ → ℕ → Context → Looked
+onStatus k psn x = lookFor k (packetOf (flowIn x k) (ringIn x k) psn .status) x
+
+-- the first marked PSN from psn on
+unfoldable pub onNextMarked : ℕ → ℕ → Context → Looked
+onNextMarked k psn x = lookFor k (nextMarkedOf (flowIn x k) (ringIn x k) psn) x
