@@ -1,0 +1,8 @@
+-- The theorems, and the laws under them.
+pub mod Exactly
+pub mod Runs
+pub mod Ones
+pub mod Bursts
+pub mod Histories
+pub mod Sends
+pub mod Theorems
