@@ -5,4 +5,5 @@ pub mod Ones
 pub mod Bursts
 pub mod Histories
 pub mod Sends
+pub mod Instance
 pub mod Theorems
