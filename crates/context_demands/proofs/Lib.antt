@@ -7,3 +7,5 @@ pub mod Histories
 pub mod Sends
 pub mod Instance
 pub mod Theorems
+pub mod Unique
+pub mod Edges

@@ -1,5 +1,6 @@
 -- "Prove that no two outcomes satisfy one promise": `calls-unique`, `ack-unique`, `nack-unique`, `path-unique` and `look-unique`, for the
--- sender's entry points. Every promise is one equation, "what is made from the outcome ≡ what 01 says", and what is made tells the outcome.
+-- sender's entry points, and for the same events past number 2 (`rely`). Every promise is one equation, "what is made from the outcome ≡
+-- what 01 says", and what is made tells the outcome.
 -- Assumes nothing.
 use mathlib.Core.Path.{_≡_, refl, sym, ap, ap₂}
 use mathlib.Core.List.{List}
@@ -14,6 +15,7 @@ use Rattle.ledger.specs.Memory.{Memory}
 use Rattle.sender.specs.World.{World, Answered, answered, Routing, routed}
 use Rattle.sender.specs.Start.{onSetUp}
 use Rattle.sender.specs.Events.{saysOf, onNewData, onSend, onAck, ackSays, onNack, nackSays, onLoss, onPath}
+use Rattle.sender.specs.Events.{pastNewData, pastSend, pastAck, pastAckSays, pastNack, pastNackSays, pastLoss, pastPath}
 use Rattle.sender.specs.Look.{Looked, looked, onStatus, onNextMarked}
 use Rattle.sender.specs.declared.Feedback.{Feedback}
 use Rattle.sender.specs.declared.Feedback.the-variants as feedback
@@ -61,7 +63,7 @@ abbrev pub madeHeard : Outcomes Heard → Answered × Option Sampling
 madeHeard x = (answered (numberOf (x .answer .verdict)) (x .answer .state) (x .slots) (x .times), saysOf (x .answer .feedback))
 
 -- what is said tells the feedback
-feedback-one : (f g : Feedback) → saysOf f ≡ saysOf g → f ≡ g
+pub feedback-one : (f g : Feedback) → saysOf f ≡ saysOf g → f ≡ g
 unfolding saysOf
 feedback-one (feedback.Sampled s) (feedback.Sampled t) q = ap feedback.Sampled (Option·some-injective s t q)
 feedback-one (feedback.Sampled s) feedback.Nothing q = absurd (Option·none-ne-some s (sym q))
@@ -81,7 +83,7 @@ heard-tells x y e =
 abbrev pub madeLook : Look → Looked
 madeLook x = looked (numberOf (x .verdict)) (x .found)
 
-look-tells : Tells madeLook
+pub look-tells : Tells madeLook
 look-tells x y e =
     ap₂ (λ (v : Verdict) (n : ℕ). record { verdict = v; found = n })
     (number-tells (x .verdict) (y .verdict) (ap (λ (z : Looked). z .number) e)) (ap (λ (z : Looked). z .found) e)
@@ -92,6 +94,9 @@ pub data Call : Type 0 where
   newData : World → ℕ → ℕ → Call
   send : World → ℕ → Send → Call
   loss : World → ℕ → Loss → Call
+  newDataPast : World → ℕ → ℕ → Call
+  sendPast : World → ℕ → Send → Call
+  lossPast : World → ℕ → Loss → Call
 
 -- what its contract wants
 abbrev pub wanted : Call → Answered
@@ -99,21 +104,30 @@ wanted (setUp s m times) = onSetUp s m times
 wanted (newData w time bytes) = onNewData time bytes w
 wanted (send w time a) = onSend time a w
 wanted (loss w time a) = onLoss time a w
+wanted (newDataPast w time bytes) = pastNewData time bytes w
+wanted (sendPast w time a) = pastSend time a w
+wanted (lossPast w time a) = pastLoss time a w
 
 -- no two outcomes of `set_up`, `new_data`, `send` or `loss` satisfy its contract ..
 pub calls-unique : (c : Call) → OneOutcome made (wanted c)
 calls-unique c = unique made made-tells (wanted c)
 
 -- .. no two of `ack` or of `nack` ..
-pub ack-unique : (w : World) (time : ℕ) (a : Ack) → OneOutcome madeHeard (onAck time a w, ackSays time a w)
-ack-unique w time a = unique madeHeard heard-tells (onAck time a w, ackSays time a w)
+pub ack-unique : (w : World) (time : ℕ) (a : Ack)
+    → OneOutcome madeHeard (onAck time a w, ackSays time a w) × OneOutcome madeHeard (pastAck time a w, pastAckSays time a w)
+ack-unique w time a =
+    (unique madeHeard heard-tells (onAck time a w, ackSays time a w), unique madeHeard heard-tells (pastAck time a w, pastAckSays time a w))
 
-pub nack-unique : (w : World) (time : ℕ) (a : Nack) → OneOutcome madeHeard (onNack time a w, nackSays time a w)
-nack-unique w time a = unique madeHeard heard-tells (onNack time a w, nackSays time a w)
+pub nack-unique : (w : World) (time : ℕ) (a : Nack)
+    → OneOutcome madeHeard (onNack time a w, nackSays time a w) × OneOutcome madeHeard (pastNack time a w, pastNackSays time a w)
+nack-unique w time a = (
+  unique madeHeard heard-tells (onNack time a w, nackSays time a w),
+  unique madeHeard heard-tells (pastNack time a w, pastNackSays time a w),
+)
 
 -- .. no two of `path` ..
-pub path-unique : (w : World) (time : ℕ) → OneOutcome madeRoute (onPath time w)
-path-unique w time = unique madeRoute route-tells (onPath time w)
+pub path-unique : (w : World) (time : ℕ) → OneOutcome madeRoute (onPath time w) × OneOutcome madeRoute (pastPath time w)
+path-unique w time = (unique madeRoute route-tells (onPath time w), unique madeRoute route-tells (pastPath time w))
 
 -- .. and no two of `status` or of `next_marked`
 pub look-unique : (w : World) (psn : ℕ) → OneOutcome madeLook (onStatus psn w) × OneOutcome madeLook (onNextMarked psn w)
