@@ -1,5 +1,4 @@
 // Whether the ledger holds together: its part of refusal 2.
-use crate::Books;
 use crate::Flow;
 use crate::Totals;
 use crate::slots::long;
@@ -20,8 +19,8 @@ ghost use lib.ListN.{length};
 ghost use Rattle.bits.specs.Bits.{wordBits, bitAt};
 ghost use Rattle.ledger.specs.Lent.{memoryGiven, memoryBefore};
 ghost use Rattle.ledger.specs.Bounds.{inBounds};
-ghost use Rattle.ledger.specs.Memory.{shown, ledgerShown};
-ghost use Rattle.ledger.specs.Sound.{allTo, isCapacity, isEven, Lengths, alone, soundLedger};
+ghost use Rattle.ledger.specs.Memory.{shown};
+ghost use Rattle.ledger.specs.Sound.{allTo, isCapacity, isEven, Lengths};
 ghost use Rattle.ledger.specs.Sound.{stands as Sound·stands};
 ghost use Rattle.ledger.specs.Stretch.{allIn, liveAt, zeroAt, slotAt, tallyOf, totalsOk};
 
@@ -33,12 +32,7 @@ pub fn is_capacity(n: usize) -> bool
 }
 
 // Whether the four slices go together: a number and a time for each bit, and as many as a capacity.
-pub fn is_ring<'a>(
-    outstanding: &'a [u64],
-    marked: &'a [u64],
-    sizes: &'a [u32],
-    sent: &'a [u64],
-) -> bool
+fn is_ring<'a>(outstanding: &'a [u64], marked: &'a [u64], sizes: &'a [u32], sent: &'a [u64]) -> bool
     ensures { λ r. ⌜ r ≡ isEven (memoryBefore outstanding marked sizes sent) ⌝ }
 {
     let cap = sizes.len();
@@ -188,27 +182,4 @@ pub fn stands<'a>(
         & head_ok(outstanding, marked, cap, flow.low, n)
         & (flow.held < serial::COUNTS)
         & (flow.backlog <= crate::BACKLOG_MOST)
-}
-
-// Whether the ledger of a flow by itself holds together.
-pub fn is_sound<'a>(
-    books: Books,
-    outstanding: &'a [u64],
-    marked: &'a [u64],
-    sizes: &'a [u32],
-    sent: &'a [u64],
-    mtu: u64,
-    maxwnd: u64,
-    clock: u64,
-) -> bool
-    ensures { λ r. ⌜ r ≡ soundLedger mtu maxwnd clock alone
-        (ledgerShown (books .flow) (books .totals) (memoryBefore outstanding marked sizes sent)) ⌝ }
-{
-    let flow = books.flow;
-    let totals = books.totals;
-    if !stands(flow, outstanding, marked, sizes, sent, mtu, clock) {
-        return false;
-    }
-    totals_ok(totals, tally_of(flow, outstanding, marked, sizes, sent))
-        & in_bounds(maxwnd, totals.in_flight)
 }

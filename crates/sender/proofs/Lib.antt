@@ -6,4 +6,3 @@ pub mod Rowing
 pub mod Refusals
 pub mod Stepping
 pub mod Kept
-pub mod Looks

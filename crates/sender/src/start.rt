@@ -1,15 +1,11 @@
-// Setting up.
-use crate::Answer;
+// What setting up gives a flow and what all flows share: the fresh state, and an empty ring's memory.
 use crate::Controller;
 use ledger::Flow;
 use ledger::Totals;
-use rules::verdict::Verdict;
 use window::Settings;
 ghost use mathlib.Core.Path.{_≡_};
-ghost use Rattle.rules.specs.Verdict.{numberOf};
 ghost use Rattle.ledger.specs.Lent.{memoryBefore, memoryAfter};
-ghost use Rattle.sender.specs.Lent.{answeredAfter};
-ghost use Rattle.sender.specs.Start.{noSettings, freshState, zeros, clearMemory, onSetUp};
+ghost use Rattle.sender.specs.Start.{noSettings, freshState, zeros, clearMemory};
 
 // Zeros over a lent slice, at each width.
 fn clear_32(xs: &mut [u32])
@@ -100,40 +96,4 @@ pub fn clear<'a, 'b, 'c, 'd, 'e>(
     clear_32(sizes);
     clear_64(sent);
     clear_64(evs);
-}
-
-// A refused setting up: the state of zeros.
-fn not_set_up(verdict: Verdict) -> Answer
-    ensures { λ r. ⌜ (r .state ≡ freshState noSettings) × (r .verdict ≡ verdict) ⌝ }
-{
-    Answer {
-        state: fresh(no_settings()),
-        verdict,
-    }
-}
-
-// Setting up: 1, then 2 on lengths only; else the fresh state, with the ring and the EV times cleared.
-pub fn set_up<'a, 'b, 'c, 'd, 'e>(
-    settings: Settings,
-    outstanding: &'a mut [u64],
-    marked: &'b mut [u64],
-    sizes: &'c mut [u32],
-    sent: &'d mut [u64],
-    evs: &'e mut [u64],
-) -> Answer
-    ensures { λ r. ⌜ answeredAfter (numberOf (r .verdict)) (r .state) outstanding marked sizes sent evs
-        ≡ onSetUp settings (memoryBefore outstanding marked sizes sent) (now (evs .entry)) ⌝ }
-{
-    if !window::bounds::in_range(settings) {
-        return not_set_up(Verdict::Setting);
-    }
-    if !(ledger::sound::is_ring(outstanding, marked, sizes, sent)
-        & (evs.len() as u64 == settings.ev_count)) {
-        return not_set_up(Verdict::Unsound);
-    }
-    clear(outstanding, marked, sizes, sent, evs);
-    Answer {
-        state: fresh(settings),
-        verdict: Verdict::Accepted,
-    }
 }
