@@ -11,3 +11,6 @@ pub mod Apart
 pub mod Starts
 pub mod Entries
 pub mod Looks
+pub mod Events
+pub mod Tables
+pub mod Lending

@@ -97,6 +97,15 @@ module _ (k : ℕ) (x : Context) (same : putWorld k x (worldAt k x) ≡ x) where
       (λ z. eq-yes n 0 _ _ _ z refl)
       (λ z. eq-no n 0 _ _ _ z (ap (λ (y : Context). record { number = n; ev = 0; after = y }) same))
 
+-- a refused event leaves the flow's record as it was
+pub refused-flow : {m : ℕ} {s : Sender} {p : Memory} {times : List ℕ} (n : ℕ) (u w : World)
+    → oneAnswered m s p times ≡ oneDecided n u w → (m ≡ 0 → ⊥) → s .flow ≡ u .state .flow
+unfolding oneDecided
+refused-flow {m} {s} {p} {times} n u w e h =
+    eq-both (λ (a : OneAnswered). oneAnswered m s p times ≡ a → s .flow ≡ u .state .flow) n 0 _ _
+    (λ _ q. absurd (h (ap (λ (a : OneAnswered). a .number) q)))
+    (λ _ q. ap (λ (a : OneAnswered). a .after .state .flow) q) e
+
 -- AN EVENT OF FLOW k, as the code leaves the context: the step's answer on what flow k sees, put back
 module _ {x : Context} {k from end at to : ℕ} (H : Here x k from end at to) (late : Bool) (rows : List Row) (w : World)
     {m : ℕ} {s : Sender} {p slots : Memory} {times flows : List ℕ} {c : Controller} (ec : c ≡ sharedOf s)

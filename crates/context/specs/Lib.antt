@@ -6,5 +6,6 @@ pub mod Rows
 pub mod Events
 pub mod Look
 pub mod Lent
+pub mod Table
 pub mod Start
 pub mod Statements

@@ -2,6 +2,7 @@
 use crate::Controller;
 use ledger::Flow;
 use rules::verdict::Verdict;
+use rules::verdict::is_accepted;
 ghost use mathlib.Core.Path.{_≡_};
 ghost use Prim.Native.Nat.{_+_, _*_, _/_, _<_, _≤_};
 ghost use Rattle.rules.specs.Branch.{ifSo};
@@ -10,7 +11,7 @@ ghost use mathlib.Core.Bool.{_||_};
 ghost use lib.Dec.{ltb, leb};
 ghost use Rattle.window.specs.Limits.{timeEnd};
 ghost use Rattle.flow_table.specs.Parts.{wordsIn};
-ghost use Rattle.flow_table.specs.Words.{flowsMost};
+ghost use Rattle.flow_table.specs.Words.{flowsMost, countOf, flowAt, withFlow};
 ghost use Rattle.context.specs.Context.{joinedOf, sharedOf};
 
 // What is shared, with a flow's record: what the step of one flow works on.
@@ -104,4 +105,16 @@ pub(crate) fn no_flow(time: u64, clock: u64) -> Verdict
         return Verdict::Time;
     }
     Verdict::Flow
+}
+
+// The record of flow k becomes f where its event was accepted; a refused one leaves it as it was. Behind a store that both make, the
+// compiler would no longer know of any answer whether it is 0.
+pub(crate) fn keep(flows: &mut [u64], k: usize, f: Flow, verdict: Verdict)
+    requires { ⌜ k < countOf (now flows) ⌝ }
+    requires { ⌜ ((numberOf verdict ≡ 0 → ⊥) → f ≡ flowAt (now flows) k) ⌝ }
+    ensures { λ _. ⌜ now (flows .exit) ≡ withFlow (now (flows .entry)) k f ⌝ }
+{
+    if is_accepted(verdict) {
+        flow_table::put(flows, k, f);
+    }
 }

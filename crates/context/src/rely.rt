@@ -6,6 +6,7 @@ use crate::Heard;
 use crate::Routed;
 use crate::join::cut_of;
 use crate::join::joined;
+use crate::join::keep;
 use crate::join::no_flow;
 use crate::join::shared;
 use sender::Ack;
@@ -63,7 +64,7 @@ pub fn new_data<'a, 'b>(
     );
     let after = told.state;
     let verdict = told.verdict;
-    flow_table::put(flows, flow, after.flow);
+    keep(flows, flow, after.flow, verdict);
     Answer {
         state: shared(after),
         verdict,
@@ -112,7 +113,7 @@ pub fn send<'a, 'b, 'c, 'd, 'e, 'f>(
     );
     let after = told.state;
     let verdict = told.verdict;
-    flow_table::put(flows, flow, after.flow);
+    keep(flows, flow, after.flow, verdict);
     Answer {
         state: shared(after),
         verdict,
@@ -164,7 +165,7 @@ pub fn ack<'a, 'b, 'c, 'd, 'e, 'f>(
     let after = heard.state;
     let verdict = heard.verdict;
     let feedback = heard.feedback;
-    flow_table::put(flows, flow, after.flow);
+    keep(flows, flow, after.flow, verdict);
     Heard {
         state: shared(after),
         verdict,
@@ -217,7 +218,7 @@ pub fn nack<'a, 'b, 'c, 'd>(
     let after = heard.state;
     let verdict = heard.verdict;
     let feedback = heard.feedback;
-    flow_table::put(flows, flow, after.flow);
+    keep(flows, flow, after.flow, verdict);
     Heard {
         state: shared(after),
         verdict,
@@ -267,7 +268,7 @@ pub fn loss<'a, 'b, 'c, 'd>(
     );
     let after = told.state;
     let verdict = told.verdict;
-    flow_table::put(flows, flow, after.flow);
+    keep(flows, flow, after.flow, verdict);
     Answer {
         state: shared(after),
         verdict,

@@ -53,7 +53,7 @@ fn fresh_flows(flows: &mut [u64], psn: u32)
 }
 
 // What is shared of the fresh state.
-fn fresh(settings: Settings) -> crate::Controller
+pub fn fresh(settings: Settings) -> crate::Controller
     ensures { λ r. ⌜ r ≡ freshState settings ⌝ }
 {
     shared(sender::start::fresh(settings))

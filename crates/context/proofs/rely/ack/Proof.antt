@@ -12,7 +12,7 @@ use Rattle.context.specs.Context.{Context, joinedOf, worldAt, flowCount}
 use Rattle.context.specs.Events.{pastAck}
 use Rattle.context.specs.Lent.{contextGiven}
 use Rattle.context.proofs.Joins.{Here, cut-asks, cut-here, here-fits, here-holds, lent-world, put-slots}
-use Rattle.context.proofs.Lifts.{no-flow-decided, not-zero, lift-answer, lift-says, no-flow-says}
+use Rattle.context.proofs.Lifts.{no-flow-decided, not-zero, refused-flow, lift-answer, lift-says, no-flow-says}
 use Rattle.context.proofs.rely.ack.Statement.{statement}
 use Rattle.context.proofs.rely.ack.Tie as tie
 
@@ -46,7 +46,7 @@ here p =
     cut-here (handed s) (s .pre) (p .before .before .count .ensures) (p .before .if1 .left) (p .cut-of .ensures)
 
 -- from the flow's record that is put back to the step
-abbrev called : tie.After-put-arg → tie.After-ack
+abbrev called : tie.After-keep-arg → tie.After-ack
 called c = c .before .before .before .before .before .before .before .before .before .before .before .before
 
 count-requires : tie.Need-count-requires
@@ -131,8 +131,17 @@ ack-requires c κs =
     let H = here (j .before .before .before) in
     here-holds H (lent-world (H .lies) (j .before .flow-at .ensures) (j .joined .ensures))
 
-put-requires : tie.Need-put-requires
-put-requires c κs = here (called c .before .before .before .before .before .before .before .before .before) .inside
+keep-requires : tie.Need-keep-requires
+unfolding oneAck worldAt joinedOf
+keep-requires c κs =
+    let k = called c in
+    let j = k .before .before .before .before .before .before in
+    let p = j .before .before .before in
+    let s = entry p in
+    let H = here p in
+    let seen = lent-world (H .lies) (j .before .flow-at .ensures) (j .joined .ensures) in
+    let e = k .ack .ensures .0 ∙ ap (oneAck (s .args .time) (s .args .a)) seen in
+    (H .inside, refused-flow _ _ _ e)
 
 shared-requires : tie.Need-shared-requires
 shared-requires c κs = search needs
@@ -146,7 +155,9 @@ same-length-3 c =
     search (needs, p .before .before .before .before .before .before .before .before .before .before .before .outstanding .given)
 
 same-length-4 : tie.Need-same-length-4
-same-length-4 c = search needs
+same-length-4 c =
+    let p = c .before .before .before .before in
+    search (needs, p .before .before .before .before .before .before .before .before .before .marked .given)
 
 same-length-5 : tie.Need-same-length-5
 same-length-5 c = search needs
@@ -168,7 +179,7 @@ returns-2 c =
     let l = k .ack .last in
     let seen = lent-world (H .lies) (j .before .flow-at .ensures) (j .joined .ensures) in
     let e = k .ack .ensures .0 ∙ ap (oneAck (s .args .time) (s .args .a)) seen in
-    let answer = lift-answer H _ _ (stepped s) (c .shared .ensures) (c .before .before .before .put .ensures)
+    let answer = lift-answer H _ _ (stepped s) (c .shared .ensures) (c .before .before .before .keep .ensures)
     (put-slots (H .lies) (l .1 .0) (l .1 .1 .0) (l .1 .1 .1 .0) (l .1 .1 .1 .1 .0)) e in
     (answer, lift-says (sampled s) e answer (k .ack .ensures .1 ∙ ap (oneSays (s .args .time) (s .args .a)) seen))
 
@@ -200,7 +211,7 @@ ack-spec =
     part-ack-start-4
     part-ack-end-4
     ack-requires
-    put-requires
+    keep-requires
     shared-requires
     same-length-2
     same-length-3

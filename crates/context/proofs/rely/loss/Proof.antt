@@ -11,7 +11,7 @@ use Rattle.context.specs.Context.{Context, joinedOf, worldAt, flowCount}
 use Rattle.context.specs.Events.{pastLoss}
 use Rattle.context.specs.Lent.{contextGiven}
 use Rattle.context.proofs.Joins.{Here, cut-asks, cut-here, here-fits, here-holds, lent-world, put-marked}
-use Rattle.context.proofs.Lifts.{no-flow-decided, lift-answer}
+use Rattle.context.proofs.Lifts.{no-flow-decided, refused-flow, lift-answer}
 use Rattle.context.proofs.rely.loss.Statement.{statement}
 use Rattle.context.proofs.rely.loss.Tie as tie
 
@@ -42,7 +42,7 @@ here p =
     cut-here (handed s) (s .pre) (p .before .before .count .ensures) (p .before .if1 .left) (p .cut-of .ensures)
 
 -- from the flow's record that is put back to the step
-abbrev called : tie.After-put-arg → tie.After-loss
+abbrev called : tie.After-keep-arg → tie.After-loss
 called c = c .before .before .before .before .before .before
 
 count-requires : tie.Need-count-requires
@@ -125,8 +125,17 @@ loss-requires c κs =
     let H = here (j .before .before .before) in
     here-holds H (lent-world (H .lies) (j .before .flow-at .ensures) (j .joined .ensures))
 
-put-requires : tie.Need-put-requires
-put-requires c κs = here (called c .before .before .before .before .before .before .before .before .before) .inside
+keep-requires : tie.Need-keep-requires
+unfolding oneLoss worldAt joinedOf
+keep-requires c κs =
+    let k = called c in
+    let j = k .before .before .before .before .before .before in
+    let p = j .before .before .before in
+    let s = entry p in
+    let H = here p in
+    let seen = lent-world (H .lies) (j .before .flow-at .ensures) (j .joined .ensures) in
+    let e = k .loss .ensures ∙ ap (oneLoss (s .args .time) (s .args .a)) seen in
+    (H .inside, refused-flow _ _ _ e)
 
 shared-requires : tie.Need-shared-requires
 shared-requires c κs = search needs
@@ -151,7 +160,7 @@ returns-2 c =
     let l = k .loss .last in
     let seen = lent-world (H .lies) (j .before .flow-at .ensures) (j .joined .ensures) in
     let e = k .loss .ensures ∙ ap (oneLoss (s .args .time) (s .args .a)) seen in
-    lift-answer H _ _ (stepped s) (c .shared .ensures) (c .before .before .before .put .ensures)
+    lift-answer H _ _ (stepped s) (c .shared .ensures) (c .before .before .before .keep .ensures)
     (put-marked (H .lies) (l .1 .1 .0)) e
 
 pub loss-spec : {M : Type 1} → statement M
@@ -182,7 +191,7 @@ loss-spec =
     part-loss-start-4
     part-loss-end-4
     loss-requires
-    put-requires
+    keep-requires
     shared-requires
     same-length-2
     same-length-3

@@ -13,7 +13,7 @@ use Rattle.context.specs.Context.{Context, joinedOf, worldAt, flowCount}
 use Rattle.context.specs.Events.{pastNack}
 use Rattle.context.specs.Lent.{contextGiven}
 use Rattle.context.proofs.Joins.{Here, cut-asks, cut-here, here-fits, here-holds, lent-world, put-marked}
-use Rattle.context.proofs.Lifts.{no-flow-decided, not-zero, lift-answer, lift-says, no-flow-says}
+use Rattle.context.proofs.Lifts.{no-flow-decided, not-zero, refused-flow, lift-answer, lift-says, no-flow-says}
 use Rattle.context.proofs.rely.nack.Statement.{statement}
 use Rattle.context.proofs.rely.nack.Tie as tie
 
@@ -47,7 +47,7 @@ here p =
     cut-here (handed s) (s .pre) (p .before .before .count .ensures) (p .before .if1 .left) (p .cut-of .ensures)
 
 -- from the flow's record that is put back to the step
-abbrev called : tie.After-put-arg → tie.After-nack
+abbrev called : tie.After-keep-arg → tie.After-nack
 called c = c .before .before .before .before .before .before
 
 count-requires : tie.Need-count-requires
@@ -132,8 +132,17 @@ nack-requires c κs =
     let H = here (j .before .before .before) in
     here-holds H (lent-world (H .lies) (j .before .flow-at .ensures) (j .joined .ensures))
 
-put-requires : tie.Need-put-requires
-put-requires c κs = here (called c .before .before .before .before .before .before .before .before .before) .inside
+keep-requires : tie.Need-keep-requires
+unfolding oneNack worldAt joinedOf
+keep-requires c κs =
+    let k = called c in
+    let j = k .before .before .before .before .before .before in
+    let p = j .before .before .before in
+    let s = entry p in
+    let H = here p in
+    let seen = lent-world (H .lies) (j .before .flow-at .ensures) (j .joined .ensures) in
+    let e = k .nack .ensures .0 ∙ ap (oneNack (s .args .time) (s .args .a)) seen in
+    (H .inside, refused-flow _ _ _ e)
 
 shared-requires : tie.Need-shared-requires
 shared-requires c κs = search needs
@@ -158,7 +167,7 @@ returns-2 c =
     let l = k .nack .last in
     let seen = lent-world (H .lies) (j .before .flow-at .ensures) (j .joined .ensures) in
     let e = k .nack .ensures .0 ∙ ap (oneNack (s .args .time) (s .args .a)) seen in
-    let answer = lift-answer H _ _ (stepped s) (c .shared .ensures) (c .before .before .before .put .ensures)
+    let answer = lift-answer H _ _ (stepped s) (c .shared .ensures) (c .before .before .before .keep .ensures)
     (put-marked (H .lies) (l .1 .1 .0)) e in
     (answer, lift-says (sampled s) e answer (k .nack .ensures .1 ∙ ap (oneSays (s .args .time) (s .args .a)) seen))
 
@@ -190,7 +199,7 @@ nack-spec =
     part-nack-start-4
     part-nack-end-4
     nack-requires
-    put-requires
+    keep-requires
     shared-requires
     same-length-2
     same-length-3

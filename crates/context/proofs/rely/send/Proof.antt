@@ -10,7 +10,7 @@ use Rattle.context.specs.Context.{Context, joinedOf, worldAt, flowCount}
 use Rattle.context.specs.Events.{pastSend}
 use Rattle.context.specs.Lent.{contextGiven}
 use Rattle.context.proofs.Joins.{Here, cut-asks, cut-here, here-fits, here-holds, lent-world, put-slots}
-use Rattle.context.proofs.Lifts.{no-flow-decided, lift-answer}
+use Rattle.context.proofs.Lifts.{no-flow-decided, refused-flow, lift-answer}
 use Rattle.context.proofs.rely.send.Statement.{statement}
 use Rattle.context.proofs.rely.send.Tie as tie
 
@@ -41,7 +41,7 @@ here p =
     cut-here (handed s) (s .pre) (p .before .before .count .ensures) (p .before .if1 .left) (p .cut-of .ensures)
 
 -- from the flow's record that is put back to the step
-abbrev called : tie.After-put-arg → tie.After-send
+abbrev called : tie.After-keep-arg → tie.After-send
 called c = c .before .before .before .before .before .before .before .before .before .before
 
 count-requires : tie.Need-count-requires
@@ -124,8 +124,17 @@ send-requires c κs =
     let H = here (j .before .before .before) in
     here-holds H (lent-world (H .lies) (j .before .flow-at .ensures) (j .joined .ensures))
 
-put-requires : tie.Need-put-requires
-put-requires c κs = here (called c .before .before .before .before .before .before .before .before) .inside
+keep-requires : tie.Need-keep-requires
+unfolding oneSend worldAt joinedOf
+keep-requires c κs =
+    let k = called c in
+    let j = k .before .before .before .before .before in
+    let p = j .before .before .before in
+    let s = entry p in
+    let H = here p in
+    let seen = lent-world (H .lies) (j .before .flow-at .ensures) (j .joined .ensures) in
+    let e = k .send .ensures ∙ ap (oneSend (s .args .time) (s .args .a)) seen in
+    (H .inside, refused-flow _ _ _ e)
 
 shared-requires : tie.Need-shared-requires
 shared-requires c κs = search needs
@@ -134,7 +143,9 @@ same-length-2 : tie.Need-same-length-2
 same-length-2 c = search needs
 
 same-length-3 : tie.Need-same-length-3
-same-length-3 c = search needs
+same-length-3 c =
+    let p = c .before .before .before .before in
+    search (needs, p .before .before .before .before .before .before .before .before .before .outstanding .given)
 
 same-length-4 : tie.Need-same-length-4
 same-length-4 c = search needs
@@ -156,7 +167,7 @@ returns-2 c =
     let l = k .send .last in
     let seen = lent-world (H .lies) (j .before .flow-at .ensures) (j .joined .ensures) in
     let e = k .send .ensures ∙ ap (oneSend (s .args .time) (s .args .a)) seen in
-    lift-answer H _ _ (stepped s) (c .shared .ensures) (c .before .before .before .put .ensures)
+    lift-answer H _ _ (stepped s) (c .shared .ensures) (c .before .before .before .keep .ensures)
     (put-slots (H .lies) (l .1 .0) (l .1 .1 .0) (l .1 .1 .1 .0) (l .1 .1 .1 .1 .0)) e
 
 pub send-spec : {M : Type 1} → statement M
@@ -187,7 +198,7 @@ send-spec =
     part-send-start-4
     part-send-end-4
     send-requires
-    put-requires
+    keep-requires
     shared-requires
     same-length-2
     same-length-3
