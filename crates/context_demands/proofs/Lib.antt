@@ -3,9 +3,11 @@ pub mod Exactly
 pub mod Runs
 pub mod Ones
 pub mod Bursts
+pub mod Sampled
 pub mod Histories
 pub mod Sends
 pub mod Instance
 pub mod Theorems
 pub mod Unique
 pub mod Edges
+pub mod Cases

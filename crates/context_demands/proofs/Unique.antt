@@ -1,7 +1,8 @@
--- "Prove that no two outcomes satisfy one promise": for the entry points of a context, and for the same events past number 2 (`rely`). What
--- the contracts make of an outcome has the table of flows, the ring buffer and the EV times in it, and tells the outcome.
+-- "Prove that no two outcomes satisfy one promise": for the entry points of a context, for the same events past number 2 (`rely`), and for
+-- the methods over a lent table of records. What the contracts make of an outcome has the table of flows, the ring buffer and the EV times
+-- in it, and tells the outcome.
 -- Assumes nothing.
-use mathlib.Core.Path.{_≡_, ap, ap₂}
+use mathlib.Core.Path.{_≡_, refl, sym, ap, ap₂, _∙_}
 use mathlib.Core.List.{List}
 use mathlib.Core.Option.{Option}
 use Prim.Native.Nat.{ℕ}
@@ -11,6 +12,7 @@ use Rattle.rules.specs.declared.verdict.Verdict.{Verdict}
 use Rattle.window.specs.declared.Settings.{Settings}
 use Rattle.window.specs.declared.Sampling.{Sampling}
 use Rattle.ledger.specs.Memory.{Memory}
+use Rattle.ledger.specs.declared.Flow.{Flow}
 use Rattle.sender.specs.Events.{saysOf}
 use Rattle.sender.specs.declared.Feedback.{Feedback}
 use Rattle.sender.specs.declared.Send.{Send}
@@ -22,6 +24,7 @@ use Rattle.context.specs.Start.{onSetUp}
 use Rattle.context.specs.Events.{onNewData, onSend, onAck, ackSays, onNack, nackSays, onLoss, onPath}
 use Rattle.context.specs.Events.{pastNewData, pastSend, pastAck, pastAckSays, pastNack, pastNackSays, pastLoss, pastPath}
 use Rattle.context.specs.Look.{onStatus, onNextMarked}
+use Rattle.context.specs.Table.{Tabled, tabled, inRecords, routeAnswer}
 use Rattle.context.specs.declared.Answer.{Answer}
 use Rattle.context.specs.declared.Heard.{Heard}
 use Rattle.context.specs.declared.Routed.{Routed}
@@ -110,3 +113,68 @@ module _ (x : Context) (time k : ℕ) where
 -- .. and no two of `status` or of `next_marked`, which are lent nothing to change
 pub look-unique : (x : Context) (k psn : ℕ) → OneOutcome madeLook (onStatus k psn x) × OneOutcome madeLook (onNextMarked k psn x)
 look-unique x k psn = (unique madeLook look-tells _, unique madeLook look-tells _)
+
+-- ---- the methods over a lent table of records
+
+-- the whole outcome: the answer, and the final contents of the records, the ring buffer and the EV times
+pub record Outtabled (A : Type 0) : Type 0 where
+  pub answer : A
+  pub table : List Flow
+  pub slots : Memory
+  pub times : List ℕ
+
+-- what the contracts make of it; an ACK and a NACK with what is said of the sample, a path choice with the EV
+abbrev pub madeTabled : Outtabled Answer → Tabled
+madeTabled x = tabled (numberOf (x .answer .verdict)) (x .answer .state) (x .table) (x .slots) (x .times)
+
+abbrev pub madeTabledHeard : Outtabled Heard → Tabled × Option Sampling
+madeTabledHeard x =
+    (tabled (numberOf (x .answer .verdict)) (x .answer .state) (x .table) (x .slots) (x .times), saysOf (x .answer .feedback))
+
+abbrev pub madeTabledRoute : Outtabled Routed → Tabled × ℕ
+madeTabledRoute x = (tabled (numberOf (x .answer .verdict)) (x .answer .state) (x .table) (x .slots) (x .times), x .answer .ev)
+
+-- a number is one verdict's
+tabled-verdict : {v w : Verdict} {a b : Tabled} → a .number ≡ numberOf v → b .number ≡ numberOf w → a ≡ b → v ≡ w
+tabled-verdict {v} {w} p q e = number-tells v w (sym p ∙ ap (λ (z : Tabled). z .number) e ∙ q)
+
+tabled-tells : Tells madeTabled
+tabled-tells x y e =
+    ap₂ (λ (v : Verdict) (z : Tabled).
+    record { answer = record { state = z .state; verdict = v }; table = z .table; slots = z .slots; times = z .times })
+    (tabled-verdict refl refl e) e
+
+tabled-heard-tells : Tells madeTabledHeard
+tabled-heard-tells x y e =
+    let a = ap (λ (z : Tabled × Option Sampling). z .0) e in
+    let f = feedback-one (x .answer .feedback) (y .answer .feedback) (ap (λ (z : Tabled × Option Sampling). z .1) e) in
+    ap₂ (λ (h : Verdict × Feedback) (z : Tabled).
+    record { answer = record { state = z .state; verdict = h .0; feedback = h .1 }; table = z .table; slots = z .slots; times = z .times })
+    (ap₂ (λ (v : Verdict) (f : Feedback). (v, f)) (tabled-verdict refl refl a) f) a
+
+tabled-route-tells : Tells madeTabledRoute
+tabled-route-tells x y e =
+    let a = ap (λ (z : Tabled × ℕ). z .0) e in
+    ap₂ (λ (r : Verdict × ℕ) (z : Tabled).
+    record { answer = record { state = z .state; verdict = r .0; ev = r .1 }; table = z .table; slots = z .slots; times = z .times })
+    (ap₂ (λ (v : Verdict) (n : ℕ). (v, n)) (tabled-verdict refl refl a) (ap (λ (z : Tabled × ℕ). z .1) e)) a
+
+-- no two outcomes of a method satisfy its contract, whatever the context x of the records' words
+module _ (x : Context) (time k : ℕ) where
+  pub method-new-data-unique : (bytes : ℕ) → OneOutcome madeTabled (inRecords (onNewData time k bytes x))
+  method-new-data-unique bytes = unique madeTabled tabled-tells _
+
+  pub method-send-unique : (a : Send) → OneOutcome madeTabled (inRecords (onSend time k a x))
+  method-send-unique a = unique madeTabled tabled-tells _
+
+  pub method-ack-unique : (a : Ack) → OneOutcome madeTabledHeard (inRecords (onAck time k a x), ackSays time k a x)
+  method-ack-unique a = unique madeTabledHeard tabled-heard-tells _
+
+  pub method-nack-unique : (a : Nack) → OneOutcome madeTabledHeard (inRecords (onNack time k a x), nackSays time k a x)
+  method-nack-unique a = unique madeTabledHeard tabled-heard-tells _
+
+  pub method-loss-unique : (a : Loss) → OneOutcome madeTabled (inRecords (onLoss time k a x))
+  method-loss-unique a = unique madeTabled tabled-tells _
+
+  pub method-path-unique : OneOutcome madeTabledRoute (inRecords (routeAnswer (onPath time k x)), onPath time k x .ev)
+  method-path-unique = unique madeTabledRoute tabled-route-tells _

@@ -3,25 +3,28 @@
 -- of one flow changes nothing of another's is in `context` (`flow-apart` and its like).
 -- Assumes nothing.
 use mathlib.Core.Path.{_≡_}
-use mathlib.Core.Logic.{_⊎_}
+use mathlib.Core.Logic.{_↔_, _⊎_}
 use mathlib.Core.Bool.{true}
 use mathlib.Core.List.{List}
-use Prim.Native.Nat.{ℕ, _≤_}
+use Prim.Native.Nat.{ℕ, _≤_, min}
 use lib.IntN.{pos, _-ℤ_}
 use Rattle.window.specs.Limits.{maxWndOf}
 use Rattle.window.specs.declared.Settings.{Settings}
+use Rattle.window.specs.declared.Sample.the-variants.{Ticks}
 use Rattle.ledger.specs.Memory.{Memory}
 use Rattle.sender.specs.World.{viewOf, worldOf, ledgerOf}
 use Rattle.sender.specs.Statements.{Exact}
 use Rattle.sender.specs.Start.{noSettings, zeros, clearMemory}
-use Rattle.sender.specs.Steps.{sendStep, routeOf}
+use Rattle.sender.specs.Steps.{ackSample, nackSample, sendStep, routeOf}
 use Rattle.sender.specs.declared.Send.{Send}
 use Rattle.sender.specs.declared.Ack.{Ack}
+use Rattle.sender.specs.declared.Nack.{Nack}
 use Rattle.context.specs.Context.{Context, context, worldAt, putWorld}
 use Rattle.context.specs.Sound.{soundContext}
 use Rattle.context.specs.Start.{setUpRows, freshState, freshTable, onSetUp}
-use Rattle.context.specs.Events.{onSend, onAck, onPath}
+use Rattle.context.specs.Events.{onSend, onAck, onNack, onPath}
 use Rattle.demands.specs.Sums.{sentBy, reportedBy, lostBy}
+use Rattle.demands.specs.Samples.{SampleIs, NoSample, AverageIs}
 use Rattle.demands.specs.Burst.{Arrival, Timely, Outstanding, psnOf, Of, Arrives, isDelivered}
 use Rattle.context_demands.specs.Events.{Flowed, rowsOf, answer, stepOf, run, SetUp}
 use Rattle.context_demands.specs.Sums.{noPasts, sum}
@@ -84,6 +87,38 @@ abbrev pub History : Type 0
 History = (s : Settings) (flows : List ℕ) (m : Memory) (times : List ℕ) (x : Context) (es : List Flowed) → SetUp s flows m times x
     → run x es .state .totals .«in_flight» ≡ pos (sum sentBy x noPasts es) -ℤ pos (sum reportedBy x noPasts es)
     -ℤ pos (sum lostBy x noPasts es)
+
+-- DEMAND 2. "A round-trip sample is taken exactly when 01 says one exists", over the ring of the event's flow: on an ACK, of its trigger
+-- packet ..
+abbrev pub AckSampled : Type 0
+AckSampled = (time k ticks : ℕ) (a : Ack) (x : Context) → (ackSample time a (viewOf (worldAt k x)) ≡ Ticks ticks)
+    ↔ SampleIs (worldAt k x) (a .trigger) (a .retx) time (a .service) ticks
+
+-- .. on a NACK, of its own packet, with service 0 ..
+abbrev pub NackSampled : Type 0
+NackSampled = (time k ticks : ℕ) (a : Nack) (x : Context) → (nackSample time a (viewOf (worldAt k x)) ≡ Ticks ticks)
+    ↔ SampleIs (worldAt k x) (a .psn) (a .retx) time 0 ticks
+
+-- .. an accepted ACK with a sample takes it: "base = min(base, sample)" ..
+abbrev pub AckTakes : Type 0
+AckTakes = (time k ticks : ℕ) (a : Ack) (x : Context) → SampleIs (worldAt k x) (a .trigger) (a .retx) time (a .service) ticks
+    → onAck time k a x .number ≡ 0 → onAck time k a x .after .state .window .base ≡ min (x .state .window .base) ticks
+
+-- .. an accepted NACK of any reason too ..
+abbrev pub NackTakes : Type 0
+NackTakes = (time k ticks : ℕ) (a : Nack) (x : Context) → SampleIs (worldAt k x) (a .psn) (a .retx) time 0 ticks
+    → onNack time k a x .number ≡ 0 → onNack time k a x .after .state .window .base ≡ min (x .state .window .base) ticks
+
+-- .. and no event changes the base round trip without one
+abbrev pub BaseStays : Type 0
+BaseStays = (e : Flowed) (x : Context) → NoSample (e .event) (worldAt (e .flow) x)
+    → answer e x .after .state .window .base ≡ x .state .window .base
+
+-- DEMAND 2. ".. delay average .. are those of the NSCC rules as 01 fixes them": after an accepted event the average is the one held before,
+-- fed exactly by what 01 says, or not at all
+abbrev pub AverageFed : Type 0
+AverageFed = (e : Flowed) (x : Context) → answer e x .number ≡ 0
+    → AverageIs (e .event) (worldAt (e .flow) x) (answer e x .after .state .window .avg)
 
 -- DEMAND 3. "Take a burst of acknowledgements with no other event between .. The ledger then equals the one that the newest alone leaves."
 -- Request M-107: "Demand 3 holds for a burst of one flow with no event of another between, with the whole table as the ledger".

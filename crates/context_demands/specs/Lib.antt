@@ -4,3 +4,4 @@ pub mod Sums
 pub mod Burst
 pub mod Permitted
 pub mod Demands
+pub mod Cases

@@ -25,7 +25,7 @@ use Rattle.demands.specs.Samples.{SampleIs, fed, ackFeed, fedSample, Ave
 use Rattle.demands.specs.Demands.{AverageFed}
 use Rattle.demands.proofs.Runs.{rules-hold}
 use Rattle.demands.proofs.Steady.{Delays, ack-delays, loss-delays, nack-delays}
-use Rattle.demands.proofs.Sampled.{ack-sampled}
+use Rattle.demands.proofs.Sampled.{ack-sampled, ack-absent}
 
 -- the window's feed is 01's
 feeds-same : (target base : ℕ) (marked : Bool) (delay : ℕ) → feedOf target base marked delay ≡ ackFeed target base marked delay
@@ -53,14 +53,6 @@ module _ (time : ℕ) (a : Ack) (w : World) where
   ack-average =
       ap (λ (d : Delays). d .avg)
       (ack-delays (w .state .settings) time _ (a .marked) (ackSample time a (viewOf w)) _ (w .state .window))
-
-  -- where 01 has no sample there is none
-  absent : ((ticks : ℕ) → SampleIs w (a .trigger) (a .retx) time (a .service) ticks → ⊥) → ackSample time a (viewOf w) ≡ Absent
-  absent none = go (ackSample time a (viewOf w)) refl
-    where
-      go : (p : Sample) → ackSample time a (viewOf w) ≡ p → ackSample time a (viewOf w) ≡ Absent
-      go (Ticks t) e = absurd (none t (ack-sampled time t a w .0 e))
-      go Absent e = e
 
 -- ---- a NACK
 
@@ -101,14 +93,15 @@ module _ (time : ℕ) (a : Nack) (w : World) where
 
 -- ---- every event
 
-step-average : (e : Event) (w : World) → AverageIs e w (stepOf e w .state .window .avg)
+-- the average after the step is as 01 says, whatever tested the event
+pub step-average : (e : Event) (w : World) → AverageIs e w (stepOf e w .state .window .avg)
 unfolding newDataStep newDataState sendStep lossStep pathStep pathState settled stateOf
 step-average (newData time bytes) w = refl
 step-average (send time a) w = refl
 step-average (ack time a) w = (
   λ ticks s.
       ack-average time a w ∙ ap (measure-average w (a .marked)) (ack-sampled time ticks a w .1 s) ∙ measure-ticks w (a .marked) ticks,
-  λ none. ack-average time a w ∙ ap (measure-average w (a .marked)) (absent time a w none) ∙ measure-none w (a .marked),
+  λ none. ack-average time a w ∙ ap (measure-average w (a .marked)) (ack-absent time a w none) ∙ measure-none w (a .marked),
 )
 step-average (nack time a) w = (
   ⊎-elim (λ zero. trimmed time a w (omega arith)) (λ one. trimmed time a w (omega arith)),

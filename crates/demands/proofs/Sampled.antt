@@ -25,8 +25,8 @@ use Rattle.sender.specs.Steps.{pathState, pathStep}
 use Rattle.sender.specs.Events.{decided, onNewData, onSend, onAck, onNack, onLoss, onPath}
 use Rattle.sender.specs.declared.Ack.{Ack}
 use Rattle.sender.specs.declared.Nack.{Nack}
-use Rattle.demands.specs.Events.{newData, send, ack, nack, loss, path}
-use Rattle.demands.specs.Samples.{SampleIs}
+use Rattle.demands.specs.Events.{Event, newData, send, ack, nack, loss, path, stepOf}
+use Rattle.demands.specs.Samples.{SampleIs, NoSample}
 use Rattle.demands.specs.Demands.{AckSampled, NackSampled, BaseStays}
 use Rattle.demands.proofs.Steady.{Delays, ack-delays, loss-delays, nack-delays}
 
@@ -76,10 +76,21 @@ pub nack-sampled : NackSampled
 unfolding nackSample
 nack-sampled time ticks a w = sampled w (a .psn) (a .retx) time 0 ticks
 
+-- where 01 has no sample there is none
+absent : (sample : Sample) → ((ticks : ℕ) → sample ≡ Ticks ticks → ⊥) → sample ≡ Absent
+absent (Ticks t) none = absurd (none t refl)
+absent Absent none = refl
+
+pub ack-absent : (time : ℕ) (a : Ack) (w : World) → NoSample (ack time a) w → ackSample time a (viewOf w) ≡ Absent
+ack-absent time a w none = absent (ackSample time a (viewOf w)) (λ t e. none t (ack-sampled time t a w .0 e))
+
+pub nack-absent : (time : ℕ) (a : Nack) (w : World) → NoSample (nack time a) w → nackSample time a (viewOf w) ≡ Absent
+nack-absent time a w none = absent (nackSample time a (viewOf w)) (λ t e. none t (nack-sampled time t a w .0 e))
+
 -- ---- the base round trip: a sample lowers it
 
 -- a step leaves the base that a sample gives
-abbrev Lowers : Sample → World → World → Type 0
+abbrev pub Lowers : Sample → World → World → Type 0
 Lowers sample w v = v .state .window .base ≡ updateBaseRttOf (w .state .settings) sample (w .state .window) .base
 
 measure-base :
@@ -90,13 +101,13 @@ measure-base s marked (Ticks t) w = refl
 measure-base s marked Absent w = refl
 
 module _ (w : World) (time : ℕ) where
-  ack-lowers : (a : Ack) → Lowers (ackSample time a (viewOf w)) w (worldOf (ackStep time a (viewOf w)))
+  pub ack-lowers : (a : Ack) → Lowers (ackSample time a (viewOf w)) w (worldOf (ackStep time a (viewOf w)))
   unfolding ackStep settled stateOf
   ack-lowers a =
       ap (λ (d : Delays). d .base) (ack-delays (w .state .settings) time _ (a .marked) (ackSample time a (viewOf w)) _ (w .state .window))
       ∙ measure-base (w .state .settings) (a .marked) (ackSample time a (viewOf w)) (w .state .window)
 
-  nack-lowers : (a : Nack) → Lowers (nackSample time a (viewOf w)) w (worldOf (nackStep time a (viewOf w)))
+  pub nack-lowers : (a : Nack) → Lowers (nackSample time a (viewOf w)) w (worldOf (nackStep time a (viewOf w)))
   unfolding nackStep settled stateOf feedTrimmedOf
   nack-lowers a =
       let v = updateBaseRttOf (w .state .settings) (nackSample time a (viewOf w)) (w .state .window) in
@@ -104,6 +115,16 @@ module _ (w : World) (time : ℕ) where
       ∙ so-both (λ (x : Window). x .base ≡ v .base) (isTrimmed (a .reason)) _ _ (λ e. refl) (λ e. refl)
 
 -- ---- .. without a sample
+
+-- the step of an event for which 01 has no sample
+pub step-stays : (e : Event) (w : World) → NoSample e w → Lowers Absent w (stepOf e w)
+unfolding newDataStep newDataState sendStep lossStep pathStep pathState settled stateOf updateBaseRttOf
+step-stays (newData time bytes) w none = refl
+step-stays (send time a) w none = refl
+step-stays (ack time a) w none = rw (ack-absent time a w none) at (ack-lowers w time a)
+step-stays (nack time a) w none = rw (nack-absent time a w none) at (nack-lowers w time a)
+step-stays (loss time a) w none = ap (λ (d : Delays). d .base) (loss-delays (w .state .settings) time _ _ (w .state .window))
+step-stays (path time) w none = refl
 
 -- an answer's world is the given one or the one after the step
 decided-base : (n : ℕ) (w after : World) → Lowers Absent w after → Lowers Absent w (decided n w after .after)

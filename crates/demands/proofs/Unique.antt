@@ -1,6 +1,6 @@
--- "Prove that no two outcomes satisfy one promise": `calls-unique`, `ack-unique`, `nack-unique`, `path-unique` and `look-unique`, for the
--- sender's entry points, and for the same events past number 2 (`rely`). Every promise is one equation, "what is made from the outcome ≡
--- what 01 says", and what is made tells the outcome.
+-- "Prove that no two outcomes satisfy one promise": `calls-unique`, `ack-unique`, `nack-unique` and `path-unique`, for the sender's events
+-- past number 2 (`rely`). Every promise is one equation, "what is made from the outcome ≡ what 01 says", and what is made tells the
+-- outcome.
 -- Assumes nothing.
 use mathlib.Core.Path.{_≡_, refl, sym, ap, ap₂}
 use mathlib.Core.List.{List}
@@ -9,14 +9,12 @@ use Prim.Native.Nat.{ℕ}
 use Rattle.rules.specs.Unique.{OneOutcome, Tells, unique}
 use Rattle.rules.specs.Verdict.{numberOf, number-tells}
 use Rattle.rules.specs.declared.verdict.Verdict.{Verdict}
-use Rattle.window.specs.declared.Settings.{Settings}
 use Rattle.window.specs.declared.Sampling.{Sampling}
 use Rattle.ledger.specs.Memory.{Memory}
 use Rattle.sender.specs.World.{World, Answered, answered, Routing, routed}
-use Rattle.sender.specs.Start.{onSetUp}
-use Rattle.sender.specs.Events.{saysOf, onNewData, onSend, onAck, ackSays, onNack, nackSays, onLoss, onPath}
+use Rattle.sender.specs.Events.{saysOf}
 use Rattle.sender.specs.Events.{pastNewData, pastSend, pastAck, pastAckSays, pastNack, pastNackSays, pastLoss, pastPath}
-use Rattle.sender.specs.Look.{Looked, looked, onStatus, onNextMarked}
+use Rattle.sender.specs.Look.{Looked, looked}
 use Rattle.sender.specs.declared.Feedback.{Feedback}
 use Rattle.sender.specs.declared.Feedback.the-variants as feedback
 use Rattle.sender.specs.declared.Heard.{Heard}
@@ -88,47 +86,29 @@ look-tells x y e =
     ap₂ (λ (v : Verdict) (n : ℕ). record { verdict = v; found = n })
     (number-tells (x .verdict) (y .verdict) (ap (λ (z : Looked). z .number) e)) (ap (λ (z : Looked). z .found) e)
 
--- a call of an entry point that answers state and outcome: what it was handed
+-- a call that answers state and outcome: what it was handed
 pub data Call : Type 0 where
-  setUp : Settings → Memory → List ℕ → Call
   newData : World → ℕ → ℕ → Call
   send : World → ℕ → Send → Call
   loss : World → ℕ → Loss → Call
-  newDataPast : World → ℕ → ℕ → Call
-  sendPast : World → ℕ → Send → Call
-  lossPast : World → ℕ → Loss → Call
 
 -- what its contract wants
 abbrev pub wanted : Call → Answered
-wanted (setUp s m times) = onSetUp s m times
-wanted (newData w time bytes) = onNewData time bytes w
-wanted (send w time a) = onSend time a w
-wanted (loss w time a) = onLoss time a w
-wanted (newDataPast w time bytes) = pastNewData time bytes w
-wanted (sendPast w time a) = pastSend time a w
-wanted (lossPast w time a) = pastLoss time a w
+wanted (newData w time bytes) = pastNewData time bytes w
+wanted (send w time a) = pastSend time a w
+wanted (loss w time a) = pastLoss time a w
 
--- no two outcomes of `set_up`, `new_data`, `send` or `loss` satisfy its contract ..
+-- no two outcomes of `new_data`, `send` or `loss` satisfy its contract ..
 pub calls-unique : (c : Call) → OneOutcome made (wanted c)
 calls-unique c = unique made made-tells (wanted c)
 
 -- .. no two of `ack` or of `nack` ..
-pub ack-unique : (w : World) (time : ℕ) (a : Ack)
-    → OneOutcome madeHeard (onAck time a w, ackSays time a w) × OneOutcome madeHeard (pastAck time a w, pastAckSays time a w)
-ack-unique w time a =
-    (unique madeHeard heard-tells (onAck time a w, ackSays time a w), unique madeHeard heard-tells (pastAck time a w, pastAckSays time a w))
+pub ack-unique : (w : World) (time : ℕ) (a : Ack) → OneOutcome madeHeard (pastAck time a w, pastAckSays time a w)
+ack-unique w time a = unique madeHeard heard-tells (pastAck time a w, pastAckSays time a w)
 
-pub nack-unique : (w : World) (time : ℕ) (a : Nack)
-    → OneOutcome madeHeard (onNack time a w, nackSays time a w) × OneOutcome madeHeard (pastNack time a w, pastNackSays time a w)
-nack-unique w time a = (
-  unique madeHeard heard-tells (onNack time a w, nackSays time a w),
-  unique madeHeard heard-tells (pastNack time a w, pastNackSays time a w),
-)
+pub nack-unique : (w : World) (time : ℕ) (a : Nack) → OneOutcome madeHeard (pastNack time a w, pastNackSays time a w)
+nack-unique w time a = unique madeHeard heard-tells (pastNack time a w, pastNackSays time a w)
 
--- .. no two of `path` ..
-pub path-unique : (w : World) (time : ℕ) → OneOutcome madeRoute (onPath time w) × OneOutcome madeRoute (pastPath time w)
-path-unique w time = (unique madeRoute route-tells (onPath time w), unique madeRoute route-tells (pastPath time w))
-
--- .. and no two of `status` or of `next_marked`
-pub look-unique : (w : World) (psn : ℕ) → OneOutcome madeLook (onStatus psn w) × OneOutcome madeLook (onNextMarked psn w)
-look-unique w psn = (unique madeLook look-tells (onStatus psn w), unique madeLook look-tells (onNextMarked psn w))
+-- .. and no two of `path`
+pub path-unique : (w : World) (time : ℕ) → OneOutcome madeRoute (pastPath time w)
+path-unique w time = unique madeRoute route-tells (pastPath time w)

@@ -26,6 +26,15 @@ pub record SampleIs (w : World) (psn : ℕ) (retx : Bool) (time service ticks : 
   pub positive : packetOf (w .state .flow) (ringOf w) psn .sent + service + 1 ≤ time
   pub ticks-is : ticks ≡ min (time - packetOf (w .state .flow) (ringOf w) psn .sent - service) sampleMost
 
+-- 01 has no sample: an ACK's is of its trigger packet, a NACK's of its own packet, with service 0
+abbrev pub NoSample : Event → World → Type 0
+NoSample (newData time bytes) w = Unit {0}
+NoSample (send time a) w = Unit {0}
+NoSample (ack time a) w = (ticks : ℕ) → SampleIs w (a .trigger) (a .retx) time (a .service) ticks → ⊥
+NoSample (nack time a) w = (ticks : ℕ) → SampleIs w (a .psn) (a .retx) time 0 ticks → ⊥
+NoSample (loss time a) w = Unit {0}
+NoSample (path time) w = Unit {0}
+
 -- ---- the delay average
 
 -- "Average (H): held in 1/1,024 tick .. Fed x: avg = (79·avg + 1,024·x) / 80."
