@@ -9,7 +9,7 @@ use lib.ListN.{take, getElem?}
 use native.Mathlib.Omega.{arith}
 use Rattle.rules.specs.Branch.{eq-both}
 use Rattle.window.specs.declared.Settings.{Settings}
-use Rattle.sender.specs.World.{World, Answered}
+use Rattle.context.specs.Context.{Context, Answered}
 use Rattle.log_records.specs.Logs.{stopOf}
 use Rattle.log_records.specs.Parse.{parseAt, parsedNumber}
 use Rattle.log_records.specs.declared.parse.Parsed.{Parsed}
@@ -22,10 +22,10 @@ use Rattle.replay.specs.declared.records.Event.{Event as Logged}
 use Rattle.replay.specs.declared.records.Event.the-variants as event
 use Rattle.replay.specs.declared.Shown.{Shown}
 use Rattle.replay.proofs.Progress.{turn-cases, turns-none, turns-more}
-use Rattle.demands.specs.Events.{Event, answer, run}
+use Rattle.context_demands.specs.Events.{Flowed, answer, run}
 use Rattle.replay_demands.specs.Histories.{start, turns, eventsOf, withStop, stopsWith, Opened, opened, lastOf, answerOf, told}
 use Rattle.replay_demands.specs.Histories.{answers, stop}
-use Rattle.replay_demands.specs.Recorded.{RecordCounted, WorldAfter, NumberOf, NoEvent}
+use Rattle.replay_demands.specs.Recorded.{RecordCounted, ContextAfter, NumberOf, NoEvent}
 use Rattle.replay_demands.proofs.Replays.{stopped-turns, replayed}
 
 -- ---- lists
@@ -54,13 +54,13 @@ unfolding placeAfter
 place-counts p next number shown =
     eq-both (λ (q : Place). (q .done ≡ p .done + 1) ⊎ (q .stopped ≡ true)) number 12 _ _ (λ _. inr refl) (λ _. inl refl)
 
-turn-counts : (f : Feed) (p : Place) (w : World) → Counts p (turnOf f p w)
+turn-counts : (f : Feed) (p : Place) (w : Context) → Counts p (turnOf f p w)
 turn-counts f p w =
     turn-cases f p w (Counts p) (λ go. absurd (false≢true (sym go)))
     (λ e next s q _. (refl, place-counts p next _ _))
     (λ s i _. (refl, place-counts p (p .at) _ _))
 
-module _ (log : List ℕ) (p : Place) (w : World) (t : Turning) where
+module _ (log : List ℕ) (p : Place) (w : Context) (t : Turning) where
   -- no turn, or one and those behind it
   by-turn : (k : ℕ) (P : Type 0) → (turnOf (logged log) p w .ended ≡ false
       → getElem? (turnOf (logged log) p w ∷ turnsOf (logged log) (turnOf (logged log) p w .place) (turnOf (logged log) p w .after)) k
@@ -77,7 +77,7 @@ module _ (log : List ℕ) (p : Place) (w : World) (t : Turning) where
       by-turn 0 (t .rec ≡ p .done + 1)
       (λ go is. ap (λ (x : Turning). x .rec) (same-element _ t is) ∙ turn-counts (logged log) p w go .0)
 
-  later-counted : (k : ℕ) → ((q : Place) (v : World) → getElem? (turnsOf (logged log) q v) k ≡ some t → t .rec ≡ q .done + 1 + k)
+  later-counted : (k : ℕ) → ((q : Place) (v : Context) → getElem? (turnsOf (logged log) q v) k ≡ some t → t .rec ≡ q .done + 1 + k)
       → getElem? (turnsOf (logged log) p w) (suc k) ≡ some t → t .rec ≡ p .done + 1 + suc k
   later-counted k more =
       let u = turnOf (logged log) p w in
@@ -87,7 +87,7 @@ module _ (log : List ℕ) (p : Place) (w : World) (t : Turning) where
       (λ halted. absurd (no-element k t (rw (stopped-turns log (u .place) (u .after) halted) at is)))
       (turn-counts (logged log) p w go .1))
 
-counted : (log : List ℕ) (k : ℕ) (p : Place) (w : World) (t : Turning) → getElem? (turnsOf (logged log) p w) k ≡ some t
+counted : (log : List ℕ) (k : ℕ) (p : Place) (w : Context) (t : Turning) → getElem? (turnsOf (logged log) p w) k ≡ some t
     → t .rec ≡ p .done + 1 + k
 counted log zero p w t there = omega (arith, first-counted log p w t there)
 counted log (suc k) p w t there = later-counted log p w t k (λ q v. counted log k q v t) there
@@ -97,7 +97,7 @@ record-counted log lent k t there = omega (arith, counted log k start lent t the
 
 -- ---- the world and the number
 
-at-answer : (es : List Event) (w : World) (n k : ℕ) (a : Answered) → getElem? (answers w es ++ stop n (run w es)) k ≡ some a
+at-answer : (es : List Flowed) (w : Context) (n k : ℕ) (a : Answered) → getElem? (answers w es ++ stop n (run w es)) k ≡ some a
     → a .after ≡ run w (take (suc k) es)
 unfolding answers
 at-answer [] w n k a is =
@@ -110,7 +110,7 @@ at-answer [] w n k a is =
 at-answer (e ∷ es) w n zero a is = ap (λ (x : Answered). x .after) (same-element (answer e w) a is)
 at-answer (e ∷ es) w n (suc k) a is = at-answer es (answer e w .after) n k a is
 
-number-at : (es : List Event) (w : World) (rest : List Answered) (k : ℕ) (e : Event) (a : Answered) → getElem? es k ≡ some e
+number-at : (es : List Flowed) (w : Context) (rest : List Answered) (k : ℕ) (e : Flowed) (a : Answered) → getElem? es k ≡ some e
     → getElem? (answers w es ++ rest) k ≡ some a → a .number ≡ answer e (run w (take k es)) .number
 unfolding answers
 number-at [] w rest k e a there is = absurd (no-element k e there)
@@ -126,12 +126,12 @@ stops-so (r ∷ rs) n so = by (eventOf r) (stops-so rs n so)
   where
     by : (e : Logged) → (stopsWith rs n ≡ 0) ⊎ (stopsWith rs n ≡ 12)
         → (withStop e (stopsWith rs n) ≡ 0) ⊎ (withStop e (stopsWith rs n) ≡ 12)
-    by (event.NewData time bytes) more = more
-    by (event.Send time a) more = more
-    by (event.Ack time a) more = more
-    by (event.Nack time a) more = more
-    by (event.Loss time a) more = more
-    by (event.Path time) more = more
+    by (event.NewData time k bytes) more = more
+    by (event.Send time k a) more = more
+    by (event.Ack time k a) more = more
+    by (event.Nack time k a) more = more
+    by (event.Loss time k a) more = more
+    by (event.Path time k) more = more
     by (event.SetUp s) more = inr refl
 
 read-so : (x : Parsed) → (parsedNumber x ≡ 0) ⊎ (parsedNumber x ≡ 12)
@@ -141,7 +141,7 @@ read-so Cut = inr refl
 read-so Malformed = inr refl
 
 -- behind the events there is a refusal or nothing
-no-event-at : (es : List Event) (w : World) (n k : ℕ) (a : Answered) → (n ≡ 0) ⊎ (n ≡ 12) → getElem? es k ≡ none
+no-event-at : (es : List Flowed) (w : Context) (n k : ℕ) (a : Answered) → (n ≡ 0) ⊎ (n ≡ 12) → getElem? es k ≡ none
     → getElem? (answers w es ++ stop n (run w es)) k ≡ some a → a .number ≡ 12
 unfolding answers
 no-event-at [] w n k a so past is =
@@ -155,20 +155,20 @@ no-event-at (e ∷ es) w n zero a so past is = absurd (no-element zero e (sym pa
 no-event-at (e ∷ es) w n (suc k) a so past is = no-event-at es (answer e w .after) n k a so past is
 
 -- a turn's answer stands at its place among the answers
-answer-at : (log : List ℕ) (lent : World) (s : Settings) (behind : List Record) → Opened log lent s behind
+answer-at : (log : List ℕ) (lent : Context) (s : Settings) (behind : List Record) → Opened log lent s behind
     → (k : ℕ) (t : Turning) → getElem? (turns log lent) k ≡ some t
     → let w = opened s lent in let es = eventsOf behind in
     getElem? (told 0 w ∷ (answers w es ++ stop (stopsWith behind (lastOf log)) (run w es))) k ≡ some (answerOf t)
 answer-at log lent s behind O k t there =
     ap (λ (l : List Answered). getElem? l k) (sym (replayed log lent s behind O)) ∙ map-element answerOf (turns log lent) k t there
 
-pub world-after : WorldAfter
-world-after log lent s behind O k t there = by k (answer-at log lent s behind O k t there)
+pub context-after : ContextAfter
+context-after log lent s behind O k t there = by k (answer-at log lent s behind O k t there)
   where
-    w : World
+    w : Context
     w = opened s lent
 
-    es : List Event
+    es : List Flowed
     es = eventsOf behind
 
     by : (k : ℕ) → getElem? (told 0 w ∷ (answers w es ++ stop (stopsWith behind (lastOf log)) (run w es))) k ≡ some (answerOf t)

@@ -1,4 +1,4 @@
--- A log's replay is a history: each turn behind record 1 answers what the sender answers to its record's event, and leaves the world that
+-- A log's replay is a history: each turn behind record 1 answers what the context answers to its record's event, and leaves what
 -- the event leaves. By induction over the records that the log is read as.
 -- Assumes nothing.
 use mathlib.Core.Path.{_≡_, refl, sym, ap, _∙_}
@@ -13,9 +13,8 @@ use Rattle.rules.specs.Test.{both}
 use Rattle.rules.specs.Rows.{Row}
 use Rattle.window.specs.declared.Sampling.{Sampling}
 use Rattle.window.specs.declared.Settings.{Settings}
-use Rattle.sender.specs.World.{World, ringOf, Answered}
-use Rattle.sender.specs.Rows.{withSound, sendAllRows}
-use Rattle.sender.specs.Start.{onSetUp}
+use Rattle.context.specs.Context.{Context, Answered, worldAt}
+use Rattle.context.specs.Start.{onSetUp}
 use Rattle.sender.specs.Statements.{First}
 use Rattle.log_records.specs.Parse.{parseAt, parsedNumber}
 use Rattle.log_records.specs.Logs.{Reading, readFrom, recordsOf, stopOf}
@@ -35,9 +34,10 @@ use Rattle.replay.specs.declared.records.Event.{Event as Logged}
 use Rattle.replay.specs.declared.records.Event.the-variants as event
 use Rattle.replay.specs.declared.turns.Found.the-variants as found
 use Rattle.replay.proofs.Progress.{turns-none, turns-more}
-use Rattle.demands.specs.Events.{Event, newData, send, ack, nack, loss, path, rowsOf, answer, run}
-use Rattle.demands.proofs.Theorems.{number-exact}
-use Rattle.replay_demands.specs.Histories.{start, withEvent, withStop, eventsOf, stopsWith, answerOf, answers, stop}
+use Rattle.demands.specs.Events.{Event, newData, send, ack, nack, loss, path}
+use Rattle.context_demands.specs.Events.{Flowed, rowsAt, rowsOf, answer, run}
+use Rattle.context_demands.proofs.Theorems.{number-exact}
+use Rattle.replay_demands.specs.Histories.{start, of, withEvent, withStop, eventsOf, stopsWith, answerOf, answers, stop}
 use Rattle.replay_demands.specs.Recorded.{Replayed}
 
 -- ---- no event is answered 12, at which a replay stops
@@ -52,29 +52,28 @@ not-here [] here after is e = let z : false ≡ true = rw is at e in false≢tru
 not-here (x ∷ before) here after is e = not-here before here after is
     (both (not (eqb (x .number) 12)) (other (before ++ (here ∷ after))) e .1)
 
-rows-other : (e : Event) (w : World) → other (rowsOf e w) ≡ true
+rows-other : (k : ℕ) (e : Event) (w : Context) → other (rowsAt k e w) ≡ true
 unfolding other
-rows-other (newData time bytes) w = refl
-rows-other (send time a) w = by (a .resend)
+rows-other k (newData time bytes) w = refl
+rows-other k (send time a) w = by (a .resend) refl
   where
-    by : (again : Bool) → other (withSound w (sendAllRows time (record { psn = a .psn; size = a .size; resend = again }) (w .state)
-        (ringOf w))) ≡ true
-    by true = refl
-    by false = refl
-rows-other (ack time a) w = refl
-rows-other (nack time a) w = refl
-rows-other (loss time a) w = refl
-rows-other (path time) w = refl
+    by : (again : Bool) → a .resend ≡ again → other (rowsAt k (send time a) w) ≡ true
+    by true q = rw q
+    by false q = rw q
+rows-other k (ack time a) w = refl
+rows-other k (nack time a) w = refl
+rows-other k (loss time a) w = refl
+rows-other k (path time) w = refl
 
-never-twelve : (e : Event) (w : World) → answer e w .number ≡ 12 → ⊥
+never-twelve : (e : Flowed) (w : Context) → answer e w .number ≡ 12 → ⊥
 never-twelve e w is =
     let F : First 12 (rowsOf e w) = number-exact e w .refused 12 (λ z. omega arith) is in
-    not-here (F .before) (F .here) (F .after) (F .number-is) (rw (F .order) at (rows-other e w))
+    not-here (F .before) (F .here) (F .after) (F .number-is) (rw (F .order) at (rows-other (e .flow) (e .event) w))
 
 -- ---- one turn
 
 -- a record behind record 1 as an event: its answer is the event's, and replay goes on
-record Goes (e : Logged) (d : Event) (w : World) : Type 0 where
+record Goes (e : Logged) (d : Flowed) (w : Context) : Type 0 where
   number : onLater e w .number ≡ answer d w .number
   after : onLater e w .after ≡ answer d w .after
   on : stops (onLater e w .shown) ≡ false
@@ -92,7 +91,7 @@ path-on number ev = eq-both (λ (x : Shown). stops x ≡ false) number 0 (Path e
 abbrev pub place : ℕ → ℕ → Place
 place at done = record { at = at; done = done; stopped = false }
 
-module _ (log : List ℕ) (at done : ℕ) (w : World) where
+module _ (log : List ℕ) (at done : ℕ) (w : Context) where
   turn-at : (x : Parsed) → parseAt log at ≡ x → turnOf (logged log) (place at done) w ≡ onFound (place at done) w (foundIn x)
   unfolding turnOf foundFrom ifSo
   turn-at x e = ap (λ (y : Parsed). onFound (place at done) w (foundIn y)) e
@@ -107,7 +106,7 @@ module _ (log : List ℕ) (at done : ℕ) (w : World) where
       → turnsOf (logged log) (place at done) w ≡ t ∷ turnsOf (logged log) (t .place) (t .after)
   one-turn t e go = rw e at (turns-more (logged log) (place at done) w (ap (λ (x : Turning). x .ended) e ∙ go))
 
-pub stopped-turns : (log : List ℕ) (p : Place) (w : World) → p .stopped ≡ true → turnsOf (logged log) p w ≡ []
+pub stopped-turns : (log : List ℕ) (p : Place) (w : Context) → p .stopped ≡ true → turnsOf (logged log) p w ≡ []
 unfolding turnOf
 stopped-turns log p w s = turns-none (logged log) p w (ap (λ (t : Turning). t .ended) (sym (so-yes (p .stopped) (over p w) _ _ s refl)))
 
@@ -119,13 +118,13 @@ found-twelve End n = absurd (let no-record : ⊥ = omega (arith, n) in no-record
 found-twelve Cut n = refl
 found-twelve Malformed n = refl
 
-pub refused-turn : (log : List ℕ) (at done : ℕ) (w : World) → parsedNumber (parseAt log at) ≡ 12
+pub refused-turn : (log : List ℕ) (at done : ℕ) (w : Context) → parsedNumber (parseAt log at) ≡ 12
     → turnOf (logged log) (place at done) w ≡ turned (place at done) at (malformed w)
 unfolding onFound
 refused-turn log at done w n = turn-at log at done w (parseAt log at) refl
     ∙ ap (onFound (place at done) w) (found-twelve (parseAt log at) n)
 
-pub twelve-turns : (log : List ℕ) (p : Place) (next : ℕ) (w : World) → turnOf (logged log) p w ≡ turned p next (malformed w)
+pub twelve-turns : (log : List ℕ) (p : Place) (next : ℕ) (w : Context) → turnOf (logged log) p w ≡ turned p next (malformed w)
     → turnsOf (logged log) p w ≡ turned p next (malformed w) ∷ []
 unfolding placeAfter ifEq
 twelve-turns log p next w e =
@@ -134,7 +133,7 @@ twelve-turns log p next w e =
     ∙ ap (λ (ts : List Turning). t ∷ ts) (stopped-turns log (t .place) w refl)
 
 -- a record behind record 1
-module _ (log : List ℕ) (at next done : ℕ) (w : World) (r : Record) (past : done ≡ 0 → ⊥) (reads : parseAt log at ≡ Whole r next) where
+module _ (log : List ℕ) (at next done : ℕ) (w : Context) (r : Record) (past : done ≡ 0 → ⊥) (reads : parseAt log at ≡ Whole r next) where
   later-turn : (e : Logged) → eventOf r ≡ e → turnOf (logged log) (place at done) w ≡ turned (place at done) next (onLater e w)
   unfolding onFound foundIn onEvent
   later-turn e is =
@@ -142,7 +141,7 @@ module _ (log : List ℕ) (at next done : ℕ) (w : World) (r : Record) (past : 
       ∙ ap (turned (place at done) next) (sym (eq-no done 0 _ _ _ past refl) ∙ ap (λ (x : Logged). onLater x w) is)
 
   -- one that is an event
-  event-turns : (e : Logged) (d : Event) → eventOf r ≡ e → Goes e d w
+  event-turns : (e : Logged) (d : Flowed) → eventOf r ≡ e → Goes e d w
       → map answerOf (turnsOf (logged log) (place at done) w) ≡ answer d w
       ∷ map answerOf (turnsOf (logged log) (place next (done + 1)) (answer d w .after))
   unfolding placeAfter
@@ -160,33 +159,33 @@ module _ (log : List ℕ) (at next done : ℕ) (w : World) (r : Record) (past : 
   settings-turns s is = twelve-turns log (place at done) next w (later-turn (event.SetUp s) is)
 
   -- either, and what comes behind it
-  by-event : (es : List Event) (n : ℕ)
-      → ((v : World) → map answerOf (turnsOf (logged log) (place next (done + 1)) v) ≡ answers v es ++ stop n (run v es))
+  by-event : (es : List Flowed) (n : ℕ)
+      → ((v : Context) → map answerOf (turnsOf (logged log) (place next (done + 1)) v) ≡ answers v es ++ stop n (run v es))
       → (e : Logged) → eventOf r ≡ e
       → map answerOf (turnsOf (logged log) (place at done) w) ≡ answers w (withEvent e es) ++ stop (withStop e n) (run w (withEvent e es))
   unfolding answers onLater ifEq
-  by-event es n more (event.NewData time bytes) is =
-      event-turns _ (newData time bytes) is (record { number = refl; after = refl; on = refl })
-      ∙ rw (more (answer (newData time bytes) w .after))
-  by-event es n more (event.Send time a) is =
-      event-turns _ (send time a) is (record { number = refl; after = refl; on = refl }) ∙ rw (more (answer (send time a) w .after))
-  by-event es n more (event.Ack time a) is =
-      event-turns _ (ack time a) is (record { number = refl; after = refl; on = says-on _ }) ∙ rw (more (answer (ack time a) w .after))
-  by-event es n more (event.Nack time a) is =
-      event-turns _ (nack time a) is (record { number = refl; after = refl; on = says-on _ }) ∙ rw (more (answer (nack time a) w .after))
-  by-event es n more (event.Loss time a) is =
-      event-turns _ (loss time a) is (record { number = refl; after = refl; on = refl }) ∙ rw (more (answer (loss time a) w .after))
-  by-event es n more (event.Path time) is =
-      event-turns _ (path time) is (record { number = refl; after = refl; on = path-on _ _ }) ∙ rw (more (answer (path time) w .after))
+  by-event es n more (event.NewData time k bytes) is =
+      event-turns _ (of k (newData time bytes)) is (record { number = refl; after = refl; on = refl })
+      ∙ rw (more (answer (of k (newData time bytes)) w .after))
+  by-event es n more (event.Send time k a) is =
+      event-turns _ (of k (send time a)) is (record { number = refl; after = refl; on = refl }) ∙ rw (more (answer (of k (send time a)) w .after))
+  by-event es n more (event.Ack time k a) is =
+      event-turns _ (of k (ack time a)) is (record { number = refl; after = refl; on = says-on _ }) ∙ rw (more (answer (of k (ack time a)) w .after))
+  by-event es n more (event.Nack time k a) is =
+      event-turns _ (of k (nack time a)) is (record { number = refl; after = refl; on = says-on _ }) ∙ rw (more (answer (of k (nack time a)) w .after))
+  by-event es n more (event.Loss time k a) is =
+      event-turns _ (of k (loss time a)) is (record { number = refl; after = refl; on = refl }) ∙ rw (more (answer (of k (loss time a)) w .after))
+  by-event es n more (event.Path time k) is =
+      event-turns _ (of k (path time)) is (record { number = refl; after = refl; on = path-on _ _ }) ∙ rw (more (answer (of k (path time)) w .after))
   by-event es n more (event.SetUp s) is = ap (map answerOf) (settings-turns s is)
 
 -- ---- the turns behind record 1
 
 -- what they answer from a position on, of which the records rs are read, and n is the refusal at which reading stops
-abbrev behindOf : World → List Record → ℕ → List Answered
+abbrev behindOf : Context → List Record → ℕ → List Answered
 behindOf w rs n = answers w (eventsOf rs) ++ stop (stopsWith rs n) (run w (eventsOf rs))
 
-later : {log : List ℕ} {at : ℕ} → Run log at → (done : ℕ) → (done ≡ 0 → ⊥) → (w : World)
+later : {log : List ℕ} {at : ℕ} → Run log at → (done : ℕ) → (done ≡ 0 → ⊥) → (w : Context)
     → let R = readFrom log at in map answerOf (turnsOf (logged log) (place at done) w)
     ≡ behindOf w (R .records) (parsedNumber (parseAt log (R .stop)))
 unfolding answers eventsOf stopsWith ifEq
@@ -231,7 +230,7 @@ front-of log at z (onward {next = next} {r = r} e a b on) first behind is =
     }
 
 -- what it is answered
-pub first-turn : (log : List ℕ) (next : ℕ) (lent : World) (r : Record) (e : Logged) → parseAt log 0 ≡ Whole r next → eventOf r ≡ e
+pub first-turn : (log : List ℕ) (next : ℕ) (lent : Context) (r : Record) (e : Logged) → parseAt log 0 ≡ Whole r next → eventOf r ≡ e
     → turnOf (logged log) start lent ≡ turned start next (onFirst e lent)
 unfolding onFound foundIn onEvent ifEq
 first-turn log next lent r e reads is =
@@ -246,7 +245,7 @@ pub replayed : Replayed
 unfolding onFirst
 replayed log lent s behind O =
     let F = front-of log 0 refl (every-log log 0) (O .first) behind (O .reads) in
-    let set = onSetUp s (lent .slots) (lent .times) in
+    let set = onSetUp s (lent .flows) (lent .slots) (lent .times) in
     let t : Turning = turned start (F .next) (onFirst (event.SetUp s) lent) in
     ap (map answerOf) (one-turn log 0 0 lent t (first-turn log (F .next) lent (O .first) (event.SetUp s) (F .reads) (O .settings)) refl)
     ∙ rw (

@@ -9,8 +9,8 @@ use native.Mathlib.Decide.{ℕ-discrete}
 use native.Mathlib.Omega.{arith}
 use Rattle.rules.specs.Branch.{ifEq, eq-no, eq-both}
 use Rattle.window.specs.declared.Settings.{Settings}
-use Rattle.sender.specs.World.{World}
-use Rattle.sender.specs.Start.{onSetUp}
+use Rattle.context.specs.Context.{Context}
+use Rattle.context.specs.Start.{onSetUp}
 use Rattle.log_records.specs.Parse.{parseAt}
 use Rattle.log_records.specs.Logs.{Reading, readFrom}
 use Rattle.log_records.specs.Statements.{Run, ended, refused, onward}
@@ -30,14 +30,14 @@ use Rattle.replay_demands.specs.Recorded.{Unopened}
 use Rattle.replay_demands.proofs.Replays.{end-turns, one-turn, stopped-turns, refused-turn, twelve-turns, first-turn}
 
 -- one turn, which is refused and at which replay stops
-abbrev Refused : List ℕ → World → Type 0
+abbrev Refused : List ℕ → Context → Type 0
 Refused log lent = (t : Turning) × (turns log lent ≡ t ∷ []) × (t .number ≡ 0 → ⊥) × (t .place .stopped ≡ true)
 
 no-bytes : (log : List ℕ) → length log ≤ 0 → log ≡ []
 no-bytes [] h = refl
 no-bytes (b ∷ log) h = absurd (let wrong : ⊥ = omega arith in wrong)
 
-twelve-refused : (log : List ℕ) (lent : World) (next : ℕ) → turnOf (logged log) start lent ≡ turned start next (malformed lent)
+twelve-refused : (log : List ℕ) (lent : Context) (next : ℕ) → turnOf (logged log) start lent ≡ turned start next (malformed lent)
     → Refused log lent
 unfolding placeAfter ifEq
 twelve-refused log lent next e = (turned start next (malformed lent), twelve-turns log start next lent e, (λ z. omega arith), refl)
@@ -48,18 +48,18 @@ unfolding placeAfter shownFirst
 stopped-first next number n =
     eq-both (λ (p : Place). p .stopped ≡ true) number 12 _ _ (λ _. refl) (λ _. ap stops (sym (eq-no number 0 Nothing _ _ n refl)))
 
-module _ (log : List ℕ) (lent : World) (next : ℕ) (r : Record) (reads : parseAt log 0 ≡ Whole r next)
+module _ (log : List ℕ) (lent : Context) (next : ℕ) (r : Record) (reads : parseAt log 0 ≡ Whole r next)
     (none : (s : Settings) (behind : List Record) → Opened log lent s behind → ⊥) where
   by-first : (e : Logged) → eventOf r ≡ e → Refused log lent
   unfolding onFirst
-  by-first (event.NewData time bytes) is = twelve-refused log lent next (first-turn log next lent r _ reads is)
-  by-first (event.Send time a) is = twelve-refused log lent next (first-turn log next lent r _ reads is)
-  by-first (event.Ack time a) is = twelve-refused log lent next (first-turn log next lent r _ reads is)
-  by-first (event.Nack time a) is = twelve-refused log lent next (first-turn log next lent r _ reads is)
-  by-first (event.Loss time a) is = twelve-refused log lent next (first-turn log next lent r _ reads is)
-  by-first (event.Path time) is = twelve-refused log lent next (first-turn log next lent r _ reads is)
+  by-first (event.NewData time k bytes) is = twelve-refused log lent next (first-turn log next lent r _ reads is)
+  by-first (event.Send time k a) is = twelve-refused log lent next (first-turn log next lent r _ reads is)
+  by-first (event.Ack time k a) is = twelve-refused log lent next (first-turn log next lent r _ reads is)
+  by-first (event.Nack time k a) is = twelve-refused log lent next (first-turn log next lent r _ reads is)
+  by-first (event.Loss time k a) is = twelve-refused log lent next (first-turn log next lent r _ reads is)
+  by-first (event.Path time k) is = twelve-refused log lent next (first-turn log next lent r _ reads is)
   by-first (event.SetUp s) is =
-      let set = onSetUp s (lent .slots) (lent .times) in
+      let set = onSetUp s (lent .flows) (lent .slots) (lent .times) in
       let t : Turning = turned start next (onFirst (event.SetUp s) lent) in
       by-cases (ℕ-discrete (set .number) 0)
       (λ z.
