@@ -68,17 +68,17 @@ pub sent-inside : (b : Bool) {at : ℕ} → at ≡ sentAt b → at < figureCount
 sent-inside b e = rw e (so-both (λ (at : ℕ). at < figureCount) b _ _ (λ _. omega arith) (λ _. omega arith))
 
 module _ (number : ℕ) (figures : List ℕ) where
-  pub send-none : (e : Event) → ((time : ℕ) (a : Send) → e ≡ event.Send time a → ⊥) → figures ≡ eventCounted number e figures
+  pub send-none : (e : Event) → ((time k : ℕ) (a : Send) → e ≡ event.Send time k a → ⊥) → figures ≡ eventCounted number e figures
   unfolding eventCounted
-  send-none (event.NewData time bytes) n = refl
-  send-none (event.Send time a) n = absurd (n time a refl)
-  send-none (event.Ack time a) n = refl
-  send-none (event.Nack time a) n = refl
-  send-none (event.Loss time a) n = refl
-  send-none (event.Path time) n = refl
+  send-none (event.NewData time k bytes) n = refl
+  send-none (event.Send time k a) n = absurd (n time k a refl)
+  send-none (event.Ack time k a) n = refl
+  send-none (event.Nack time k a) n = refl
+  send-none (event.Loss time k a) n = refl
+  send-none (event.Path time k) n = refl
   send-none (event.SetUp s) n = refl
 
-  module _ (e : Event) (time : ℕ) (a : Send) (is : e ≡ event.Send time a) where
+  module _ (e : Event) (time k : ℕ) (a : Send) (is : e ≡ event.Send time k a) where
     pub send-refused : (number ≡ 0 → ⊥) → figures ≡ eventCounted number e figures
     unfolding eventCounted sendCounted
     send-refused n = rw is (eq-no number 0 figures _ figures n refl)

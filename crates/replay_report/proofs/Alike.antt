@@ -10,8 +10,11 @@ use native.Mathlib.Omega.{arith}
 use Rattle.rules.specs.Branch.{ifLt, ifEq, so-yes, so-both, lt-yes, lt-no, lt-both}
 use Rattle.log_bytes.specs.Little.{littleEndian, numberAt}
 use Rattle.log_records.specs.Layout.{Row, Maker, newData, send, ack, nack, loss, path, settings, settingsEvs, table, key, keyOf, lookUp}
-use Rattle.log_records.specs.Layout.{readFields, read}
+use Rattle.log_records.specs.Layout.{newDataOf, sendOf, ackOf, nackOf, lossOf, pathOf, readFields, read}
 use Rattle.log_records.specs.Parse.{lenAt, kindAt, properOf, checkOf, wholeOf, frontOf, parseAt}
+use Rattle.log_records.specs.Write.{rowBy}
+use Rattle.log_records.specs.declared.record.Whose.{Whose}
+use Rattle.log_records.specs.declared.record.Whose.the-variants.{First, Flow}
 use Rattle.log_records.specs.declared.record.Record.{Record}
 use Rattle.log_records.specs.declared.record.Record.the-variants.{Ack}
 use Rattle.log_records.specs.declared.parse.Parsed.{Parsed}
@@ -24,12 +27,9 @@ use Rattle.replay_report.specs.Ambiguous.{serviceFirst, serviceLast}
 abbrev pub Alike : List ℕ → List ℕ → ℕ → ℕ → Type 0
 Alike bs cs from past = (i : ℕ) → from ≤ i → i < past → getD bs i 0 ≡ getD cs i 0
 
--- a record's length and kind, and an ACK record
+-- a record's length and kind
 abbrev headSize : ℕ
 headSize = 4
-
-abbrev pub ackSize : ℕ
-ackSize = ack .len + 2
 
 -- ---- numbers and fields
 
@@ -94,9 +94,29 @@ module _ (at : ℕ) (bs : List ℕ) (x : Row) (r : Record) (next : ℕ) where
       (so-yes (properOf (read x bs)) _ _ Malformed (ap properOf (t .is) ∙ t .proper)
       (sym (ap (Whole (read x bs)) (sym (t .past)) ∙ ap (λ (y : Record). Whole y next) (t .is)))))
 
+-- of a row and of each behind it
+infixr 20 _&_
+_&_ : {A B : Type 0} → A → B → A × B
+a & b = (a, b)
+
 -- the fields of each row end where its length says
 ends : Each (λ x. headSize + total (x .fields) ≤ x .len + 2) table
-ends = (omega arith, (omega arith, (omega arith, (omega arith, (omega arith, (omega arith, (omega arith, (omega arith, tt))))))))
+ends =
+    omega arith
+    & omega arith
+    & omega arith
+    & omega arith
+    & omega arith
+    & omega arith
+    & omega arith
+    & omega arith
+    & omega arith
+    & omega arith
+    & omega arith
+    & omega arith
+    & omega arith
+    & omega arith
+    & tt
 
 module _ (at : ℕ) (bs cs : List ℕ) (long : length bs ≡ length cs) (r : Record) (next : ℕ) (same : Alike bs cs headSize (next - at)) where
   row-alike : (x : Row) → headSize + total (x .fields) ≤ x .len + 2 → wholeOf at bs x ≡ Whole r next → wholeOf at cs x ≡ Whole r next
@@ -126,81 +146,144 @@ module _ (at : ℕ) (bs cs : List ℕ) (long : length bs ≡ length cs) (r : Rec
 
 -- ---- an ACK
 
+-- the row of an ACK's record: of the old kind, or with a flow number
+abbrev ackRow : Whose → Row
+ackRow whose = rowBy whose ack ackOf
+
 module _ (at : ℕ) (bs : List ℕ) (time cum map trigger count service ev flags next : ℕ) where
-  abbrev heard : Record
-  heard = Ack time cum map trigger count service ev flags
+  abbrev heard : Whose → Record
+  heard whose = Ack time whose cum map trigger count service ev flags
 
   -- the ACK's key stands there, and its row is whole
-  abbrev Acked : Type 0
-  Acked = (key (kindAt bs) (lenAt bs) ≡ keyOf ack) × Told at bs ack heard next
+  abbrev Acked : Whose → Type 0
+  Acked whose = (key (kindAt bs) (lenAt bs) ≡ keyOf (ackRow whose)) × Told at bs (ackRow whose) (heard whose) next
 
-  not-acked : (x : Row) → (read x bs ≡ heard → _≡_ {A = ℕ} 0 1) → wholeOf at bs x ≡ Whole heard next → Acked
-  not-acked x other e = absurd (let wrong : ⊥ = omega (arith, other (told at bs x heard next e .is)) in wrong)
+  not-acked : (whose : Whose) (x : Row) → (read x bs ≡ heard whose → _≡_ {A = ℕ} 0 1) → wholeOf at bs x ≡ Whole (heard whose) next
+      → Acked whose
+  not-acked whose x other e = absurd (let wrong : ⊥ = omega (arith, other (told at bs x (heard whose) next e .is)) in wrong)
 
-  ack-told : frontOf at bs ≡ Whole heard next → Acked
+  -- each row of the table but its own makes another record
+  rows-told : (whose : Whose)
+      → Each (λ x. key (kindAt bs) (lenAt bs) ≡ keyOf x → wholeOf at bs x ≡ Whole (heard whose) next → Acked whose) table
+  rows-told First =
+      (λ _. not-acked First newData (λ e. cc))
+      & (λ _. not-acked First send (λ e. cc))
+      & (λ is e. (is, told at bs ack (heard First) next e))
+      & (λ _. not-acked First nack (λ e. cc))
+      & (λ _. not-acked First loss (λ e. cc))
+      & (λ _. not-acked First path (λ e. cc))
+      & (λ _. not-acked First newDataOf (λ e. cc))
+      & (λ _. not-acked First sendOf (λ e. cc))
+      & (λ _. not-acked First ackOf (λ e. cc))
+      & (λ _. not-acked First nackOf (λ e. cc))
+      & (λ _. not-acked First lossOf (λ e. cc))
+      & (λ _. not-acked First pathOf (λ e. cc))
+      & (λ _. not-acked First settings (λ e. cc))
+      & (λ _. not-acked First settingsEvs (λ e. cc))
+      & tt
+  rows-told (Flow flow) =
+      (λ _. not-acked (Flow flow) newData (λ e. cc))
+      & (λ _. not-acked (Flow flow) send (λ e. cc))
+      & (λ _. not-acked (Flow flow) ack (λ e. cc))
+      & (λ _. not-acked (Flow flow) nack (λ e. cc))
+      & (λ _. not-acked (Flow flow) loss (λ e. cc))
+      & (λ _. not-acked (Flow flow) path (λ e. cc))
+      & (λ _. not-acked (Flow flow) newDataOf (λ e. cc))
+      & (λ _. not-acked (Flow flow) sendOf (λ e. cc))
+      & (λ is e. (is, told at bs ackOf (heard (Flow flow)) next e))
+      & (λ _. not-acked (Flow flow) nackOf (λ e. cc))
+      & (λ _. not-acked (Flow flow) lossOf (λ e. cc))
+      & (λ _. not-acked (Flow flow) pathOf (λ e. cc))
+      & (λ _. not-acked (Flow flow) settings (λ e. cc))
+      & (λ _. not-acked (Flow flow) settingsEvs (λ e. cc))
+      & tt
+
+  ack-told : (whose : Whose) → frontOf at bs ≡ Whole (heard whose) next → Acked whose
   unfolding frontOf
-  ack-told =
-      let P : Parsed → Type 0 = λ p. p ≡ Whole heard next → Acked in
-      let k : ℕ = key (kindAt bs) (lenAt bs) in
+  ack-told whose =
+      let P : Parsed → Type 0 = λ p. p ≡ Whole (heard whose) next → Acked whose in
       lt-both P (length bs) 4 Cut _ (λ _ e. no-cut e)
-      (λ four.
-      look-each P k (wholeOf at bs) Malformed table (
-        (λ _. not-acked newData (λ e. cc)),
-        (
-          (λ _. not-acked send (λ e. cc)),
-          (
-            (λ is e. (is, told at bs ack heard next e)),
-            (
-              (λ _. not-acked nack (λ e. cc)),
-              (
-                (λ _. not-acked loss (λ e. cc)),
-                ((λ _. not-acked path (λ e. cc)), ((λ _. not-acked settings (λ e. cc)), ((λ _. not-acked settingsEvs (λ e. cc)), tt))),
-              ),
-            ),
-          ),
-        ),
-      )
-      (λ e. no-record e))
+      (λ four. look-each P (key (kindAt bs) (lenAt bs)) (wholeOf at bs) Malformed table (rows-told whose) (λ e. no-record e))
 
-  module _ (cs : List ℕ) (long : length bs ≡ length cs) (before : Alike bs cs 0 serviceFirst)
-      (behind : Alike bs cs (serviceLast + 1) (next - at)) where
-    abbrev other : Record
-    other = Ack time cum map trigger count (numberAt cs serviceFirst 4) ev flags
+  -- its service time lies in it
+  ack-long : (whose : Whose) → Acked whose → at + serviceLast whose < next
+  ack-long First a = omega (arith, a .1 .past)
+  ack-long (Flow flow) a = omega (arith, a .1 .past)
 
-    told-other : Told at bs ack heard next → Told at cs ack other next
+  module _ (cs : List ℕ) (long : length bs ≡ length cs) where
+    -- alike but for the service time
+    abbrev Unserved : Whose → Type 0
+    Unserved whose = Alike bs cs 0 (serviceFirst whose) × Alike bs cs (serviceLast whose + 1) (next - at)
+
+    abbrev other : Whose → Record
+    other whose = Ack time whose cum map trigger count (numberAt cs (serviceFirst whose) 4) ev flags
+
+    -- a field before the service time, and one behind it
+    field-before : (whose : Whose) → Unserved whose → (from width : ℕ) → from + width ≤ serviceFirst whose
+        → numberAt bs from width ≡ numberAt cs from width
+    field-before whose u from width h = number-alike bs cs long from width (λ i a b. u .0 i (omega arith) (omega arith))
+
+    field-behind : (whose : Whose) → Unserved whose → (from width : ℕ) → serviceLast whose < from → at + (from + width) ≤ next
+        → numberAt bs from width ≡ numberAt cs from width
+    field-behind whose u from width h l = number-alike bs cs long from width (λ i a b. u .1 i (omega arith) (omega arith))
+
+    -- its fields in the table's order
+    told-other : (whose : Whose) → Unserved whose → Told at bs (ackRow whose) (heard whose) next
+        → Told at cs (ackRow whose) (other whose) next
     unfolding properOf
-    told-other t =
-        let is : read ack bs ≡ heard = t .is in
-        let same : (from width : ℕ) → from + width ≤ serviceFirst → numberAt bs from width ≡ numberAt cs from width
-        = λ from width h. number-alike bs cs long from width (λ i a b. before i (omega arith) (omega arith)) in
-        let later : (from width : ℕ) → serviceLast < from → from + width ≤ ackSize → numberAt bs from width ≡ numberAt cs from width
-        = λ from width h l. number-alike bs cs long from width (λ i a b. behind i (omega arith) (omega (arith, t .past))) in
+    told-other First u t =
+        let is : read ack bs ≡ heard First = t .is in
+        let same = field-before First u in
+        let later = field-behind First u in
         record {
-          -- its fields in the table's order
           is = cc (
             same 4 8 (omega arith),
             same 12 4 (omega arith),
             same 16 8 (omega arith),
             same 24 4 (omega arith),
-            same 28 4
-                (omega arith),
-            later 36 2 (omega arith) (omega arith),
-            later 38 1 (omega arith) (omega arith),
+            same 28 4 (omega arith),
+            later 36 2 (omega arith) (omega (arith, t .past)),
+            later 38 1 (omega arith) (omega (arith, t .past)),
+          );
+          proper = t .proper;
+          past = t .past;
+          there = omega (arith, t .there);
+        }
+    told-other (Flow flow) u t =
+        let is : read ackOf bs ≡ heard (Flow flow) = t .is in
+        let same = field-before (Flow flow) u in
+        let later = field-behind (Flow flow) u in
+        record {
+          is = cc (
+            same 4 8 (omega arith),
+            same 12 1 (omega arith),
+            same 13 4 (omega arith),
+            same 17 8 (omega arith),
+            same 25 4 (omega arith),
+            same 29 4 (omega arith),
+            later 37 2 (omega arith) (omega (arith, t .past)),
+            later 39 1 (omega arith) (omega (arith, t .past)),
           );
           proper = t .proper;
           past = t .past;
           there = omega (arith, t .there);
         }
 
-    front-other : frontOf at bs ≡ Whole heard next → frontOf at cs ≡ Whole other next
-    unfolding frontOf lookUp ifEq
-    front-other e =
-        let a = ack-told e in
-        let t = told-other (a .1) in
-        sym (lt-no (length cs) 4 (Whole other next) Cut _ (omega (arith, t .there))
+    -- its row is found by its key
+    ack-row : (whose : Whose) → lookUp table (keyOf (ackRow whose)) (wholeOf at cs) Malformed ≡ wholeOf at cs (ackRow whose)
+    unfolding lookUp ifEq
+    ack-row First = refl
+    ack-row (Flow flow) = refl
+
+    front-other : (whose : Whose) → Unserved whose → frontOf at bs ≡ Whole (heard whose) next → frontOf at cs ≡ Whole (other whose) next
+    unfolding frontOf
+    front-other whose u e =
+        let a = ack-told whose e in
+        let t = told-other whose u (a .1) in
+        sym (lt-no (length cs) 4 (Whole (other whose) next) Cut _ (omega (arith, t .there, t .past, ack-long whose a))
         (sym (ap (λ (n : ℕ). lookUp table n (wholeOf at cs) Malformed)
-        (sym (key-alike bs cs long (λ i from past. before i from (omega arith))) ∙ a .0)
-        ∙ whole-of at cs ack other next t)))
+        (sym (key-alike bs cs long (λ i from past. u .0 i from (omega arith))) ∙ a .0)
+        ∙ (ack-row whose ∙ whole-of at cs (ackRow whose) (other whose) next t))))
 
 -- ---- in a log
 
@@ -241,16 +324,19 @@ module _ (log other : List ℕ) (at : ℕ) (long : length log ≡ length other) 
       (λ i _ h. drop-alike i (head (at + i) (omega arith) (omega arith))) (f .1))
 
   -- an ACK whose bytes are alike but for its service time is the same but for that
-  module _ (time cum map trigger count service ev flags next : ℕ)
-      (e : parseAt log at ≡ Whole (Ack time cum map trigger count service ev flags) next) where
-    pub ack-past : next ≡ at + ackSize
-    ack-past = ack-told at (drop at log) time cum map trigger count service ev flags next (parse-front log at _ next e .1) .1 .past
+  module _ (time : ℕ) (whose : Whose) (cum map trigger count service ev flags next : ℕ)
+      (e : parseAt log at ≡ Whole (Ack time whose cum map trigger count service ev flags) next) where
+    pub ack-past : at + serviceLast whose < next
+    ack-past =
+        ack-long at (drop at log) time cum map trigger count service ev flags next whose
+        (ack-told at (drop at log) time cum map trigger count service ev flags next whose (parse-front log at _ next e .1))
 
-    pub ack-alike : Alike log other at (at + serviceFirst) → Alike log other (at + serviceLast + 1) next
-        → parseAt other at ≡ Whole (Ack time cum map trigger count (numberAt (drop at other) serviceFirst 4) ev flags) next
+    pub ack-alike : Alike log other at (at + serviceFirst whose) → Alike log other (at + serviceLast whose + 1) next
+        → parseAt other at ≡ Whole (Ack time whose cum map trigger count (numberAt (drop at other) (serviceFirst whose) 4) ev flags) next
     ack-alike before behind =
-        let f = parse-front log at (Ack time cum map trigger count service ev flags) next e in
+        let f = parse-front log at (Ack time whose cum map trigger count service ev flags) next e in
         front-parse other at _ next (omega (arith, f .0))
-        (front-other at (drop at log) time cum map trigger count service ev flags next (drop at other) drop-long
-        (λ i _ h. drop-alike i (before (at + i) (omega arith) (omega arith)))
-        (λ i h l. drop-alike i (behind (at + i) (omega arith) (omega arith))) (f .1))
+        (front-other at (drop at log) time cum map trigger count service ev flags next (drop at other) drop-long whose (
+          λ i _ h. drop-alike i (before (at + i) (omega arith) (omega arith)),
+          λ i h l. drop-alike i (behind (at + i) (omega arith) (omega arith)),
+        ) (f .1))

@@ -17,6 +17,7 @@ use Rattle.sender.specs.Steps.{ackSampling, nackSampling}
 use Rattle.sender.specs.Events.{says}
 use Rattle.sender.specs.declared.Ack.{Ack}
 use Rattle.sender.specs.declared.Nack.{Nack}
+use Rattle.context.specs.Context.{Context, worldAt}
 use Rattle.replay.specs.Answers.{Telling, shownSays, shownPath, shownFirst, onFirst, onLater, onEvent}
 use Rattle.replay.specs.Places.{Feed, endOf, Turning, turnOf, turnsIn, turnsOf}
 use Rattle.replay.specs.declared.Place.{Place}
@@ -95,31 +96,31 @@ held-nack : (time : ℕ) (a : Nack) (w : World) → Sampled (sampleIn (nackSampl
 unfolding nackSampling
 held-nack time a w = held-sampling _ _ _ _ _ _
 
-on-first : (e : Event) (w : World) → Held (onFirst e w .shown)
+on-first : (e : Event) (w : Context) → Held (onFirst e w .shown)
 unfolding onFirst
-on-first (event.NewData time bytes) w = not-shown refl
-on-first (event.Send time a) w = not-shown refl
-on-first (event.Ack time a) w = not-shown refl
-on-first (event.Nack time a) w = not-shown refl
-on-first (event.Loss time a) w = not-shown refl
-on-first (event.Path time) w = not-shown refl
+on-first (event.NewData time k bytes) w = not-shown refl
+on-first (event.Send time k a) w = not-shown refl
+on-first (event.Ack time k a) w = not-shown refl
+on-first (event.Nack time k a) w = not-shown refl
+on-first (event.Loss time k a) w = not-shown refl
+on-first (event.Path time k) w = not-shown refl
 on-first (event.SetUp s) w = held-first _
 
-on-later : (e : Event) (w : World) → Held (onLater e w .shown)
+on-later : (e : Event) (w : Context) → Held (onLater e w .shown)
 unfolding onLater
-on-later (event.NewData time bytes) w = not-shown refl
-on-later (event.Send time a) w = not-shown refl
-on-later (event.Ack time a) w = held-says _ (ackSampling time a (viewOf w)) (held-ack time a w)
-on-later (event.Nack time a) w = held-says _ (nackSampling time a (viewOf w)) (held-nack time a w)
-on-later (event.Loss time a) w = not-shown refl
-on-later (event.Path time) w = held-path _ _
+on-later (event.NewData time k bytes) w = not-shown refl
+on-later (event.Send time k a) w = not-shown refl
+on-later (event.Ack time k a) w = held-says _ (ackSampling time a (viewOf (worldAt k w))) (held-ack time a (worldAt k w))
+on-later (event.Nack time k a) w = held-says _ (nackSampling time a (viewOf (worldAt k w))) (held-nack time a (worldAt k w))
+on-later (event.Loss time k a) w = not-shown refl
+on-later (event.Path time k) w = held-path _ _
 on-later (event.SetUp s) w = not-shown refl
 
-on-event : (done : ℕ) (e : Event) (w : World) → Held (onEvent done e w .shown)
+on-event : (done : ℕ) (e : Event) (w : Context) → Held (onEvent done e w .shown)
 unfolding onEvent
 on-event done e w = eq-both (λ (t : Telling). Held (t .shown)) done 0 _ _ (λ _. on-first e w) (λ _. on-later e w)
 
-turn-held : (f : Feed) (p : Place) (w : World) → Held (turnOf f p w .shown)
+turn-held : (f : Feed) (p : Place) (w : Context) → Held (turnOf f p w .shown)
 turn-held f p w =
     turn-cases f p w (λ (t : Turning). Held (t .shown)) (not-shown refl) (λ e next _ _. on-event (p .done) e w) (λ _ _. not-shown refl)
 
@@ -130,20 +131,20 @@ positive State h ticks e = absurd (not-absent e)
 positive (Path ev) h ticks e = absurd (not-absent e)
 positive (Showing q) h ticks e = h q refl .low ticks e
 
-turns-held : (k : ℕ) (f : Feed) (p : Place) (w : World) → Positive (turnsIn k f p w)
+turns-held : (k : ℕ) (f : Feed) (p : Place) (w : Context) → Positive (turnsIn k f p w)
 unfolding turnsIn
 turns-held zero f p w = tt
 turns-held (suc k) f p w =
     let t = turnOf f p w in
     so-both Positive (t .ended) [] _ (λ _. tt) (λ _. (positive (t .shown) (turn-held f p w), turns-held k f (t .place) (t .after)))
 
-pub turns-positive : (f : Feed) (p : Place) (w : World) → Positive (turnsOf f p w)
+pub turns-positive : (f : Feed) (p : Place) (w : Context) → Positive (turnsOf f p w)
 unfolding turnsOf
 turns-positive f p w = turns-held (endOf f - p .at) f p w
 
 -- A SAMPLE'S BUCKET IS ITS HIGHEST SET BIT, whatever is replayed
-pub highest-bit : (f : Feed) (p : Place) (w : World) (q : Sampling) (ticks : ℕ) → turnOf f p w .shown ≡ Showing q → sampleIn q ≡ Ticks ticks
-    → (2 ^ bucketOf ticks ≤ ticks) × (ticks < 2 ^ suc (bucketOf ticks))
+pub highest-bit : (f : Feed) (p : Place) (w : Context) (q : Sampling) (ticks : ℕ) → turnOf f p w .shown ≡ Showing q
+    → sampleIn q ≡ Ticks ticks → (2 ^ bucketOf ticks ≤ ticks) × (ticks < 2 ^ suc (bucketOf ticks))
 highest-bit f p w q ticks shows is =
     let held = turn-held f p w q shows in
     bucket-bit ticks (held .low ticks is) (omega (arith, held .high ticks is))

@@ -274,12 +274,12 @@ send-late number a i fs =
 
 event-late : (number : ℕ) (e : Event) (i : ℕ) (fs : List ℕ) → Late i fs (eventCounted number e fs)
 unfolding eventCounted
-event-late number (event.NewData time bytes) i fs = late-none i fs
-event-late number (event.Send time a) i fs = send-late number a i fs
-event-late number (event.Ack time a) i fs = late-none i fs
-event-late number (event.Nack time a) i fs = late-none i fs
-event-late number (event.Loss time a) i fs = late-none i fs
-event-late number (event.Path time) i fs = late-none i fs
+event-late number (event.NewData time k bytes) i fs = late-none i fs
+event-late number (event.Send time k a) i fs = send-late number a i fs
+event-late number (event.Ack time k a) i fs = late-none i fs
+event-late number (event.Nack time k a) i fs = late-none i fs
+event-late number (event.Loss time k a) i fs = late-none i fs
+event-late number (event.Path time k) i fs = late-none i fs
 event-late number (event.SetUp s) i fs = late-none i fs
 
 pub bytes-late : (number : ℕ) (x : Found) (i : ℕ) (fs : List ℕ) → Late i fs (bytesCounted number x fs)
@@ -317,12 +317,12 @@ module _ (again : Bool) (number : ℕ) (fs : List ℕ) (l : length fs ≡ figure
 
   event-sent : (e : Event) → Sent (eventCounted number e fs) (ifEq number 0 (eventBytes again e) 0)
   unfolding eventCounted eventBytes
-  event-sent (event.NewData time bytes) = none-sent
-  event-sent (event.Send time a) = send-sent a
-  event-sent (event.Ack time a) = none-sent
-  event-sent (event.Nack time a) = none-sent
-  event-sent (event.Loss time a) = none-sent
-  event-sent (event.Path time) = none-sent
+  event-sent (event.NewData time k bytes) = none-sent
+  event-sent (event.Send time k a) = send-sent a
+  event-sent (event.Ack time k a) = none-sent
+  event-sent (event.Nack time k a) = none-sent
+  event-sent (event.Loss time k a) = none-sent
+  event-sent (event.Path time k) = none-sent
   event-sent (event.SetUp s) = none-sent
 
   pub bytes-sent : (x : Found) → Sent (bytesCounted number x fs) (recordBytes again number x)

@@ -2,23 +2,21 @@
 -- send is at most as large as the greatest MTU, and a turn takes a byte of the log at least, so that no log of fewer than 2^50 bytes comes
 -- to the greatest word. Assumes nothing.
 use mathlib.Core.Path.{_≡_, refl}
-use mathlib.Core.Bool.{Bool, true, false, not}
-use mathlib.Core.List.{List, [], _∷_}
+use mathlib.Core.Bool.{Bool, false}
+use mathlib.Core.List.{List, []}
 use Prim.Native.Nat.{ℕ, zero, suc, _-_, _*_, _≤_, _<_}
 use lib.ListN.{length, getD, getD-replicate}
-use borrow.Author.Tests.{not-true, not-false}
+use borrow.Author.Tests.{not-false}
 use native.Mathlib.Omega.{arith}
 use Rattle.rules.specs.Branch.{ifEq, so-both, eq-both}
-use Rattle.rules.specs.Test.{both, inside-tells}
-use Rattle.rules.specs.Rows.{Row}
+use Rattle.rules.specs.Test.{inside-tells}
+use Rattle.rules.specs.Rows.{none-here}
 use Rattle.window.specs.Limits.{mtuMost}
 use Rattle.ledger.specs.Bounds.{sizeLeast}
-use Rattle.sender.specs.World.{World, viewOf}
-use Rattle.sender.specs.Statements.{silent}
-use Rattle.sender.specs.Events.{onSend}
 use Rattle.sender.specs.declared.Send.{Send}
-use Rattle.sender.proofs.Refusals.{send-exact}
-use Rattle.sender.proofs.Sounds.{sound-facts}
+use Rattle.context.specs.Context.{Context, Answered, joinedOf, worldAt}
+use Rattle.context.specs.Events.{decided, onSend}
+use Rattle.context.proofs.Sounds.{context-facts}
 use Rattle.replay.specs.Answers.{Telling, onFirst, onLater, onEvent}
 use Rattle.replay.specs.Places.{Feed, logged, foundAt, endFrom, endOf, Turning, turnOf, turnsIn, turnsOf}
 use Rattle.replay.specs.declared.Place.{Place}
@@ -36,17 +34,20 @@ use Rattle.replay_report.proofs.Exact.{bytes-count}
 
 -- ---- an accepted send is small: number 2 has tested the settings, and row 4 the size against the MTU
 
--- no row applies: not the first, and none of the others
-silent-here : (x : Row) (xs : List Row) → silent (x ∷ xs) ≡ true → (x .test ≡ false) × (silent xs ≡ true)
-unfolding silent
-silent-here x xs e = let b = both (not (x .test)) (silent xs) e in (not-true (x .test) (b .0), b .1)
+-- accepted is 0: no row applies
+decided-none : (n : ℕ) (w after : Context) → decided n w after .number ≡ 0 → n ≡ 0
+unfolding decided
+decided-none n w after =
+    eq-both (λ (x : Answered). x .number ≡ 0 → n ≡ 0) n 0 _ _ (λ zero _. zero) (λ _ e. e)
 
-send-small : (time : ℕ) (a : Send) (w : World) → onSend time a w .number ≡ 0 → a .size ≤ mtuMost
-send-small time a w accepted =
-    let unsound = silent-here _ _ (send-exact time w a .accepted accepted) in
-    let late = silent-here _ _ (unsound .1) in
-    let wide = silent-here _ _ (late .1) in
-    let good = sound-facts (viewOf w) (not-false _ (unsound .0)) in
+send-small : (time k : ℕ) (a : Send) (w : Context) → onSend time k a w .number ≡ 0 → a .size ≤ mtuMost
+unfolding onSend worldAt joinedOf
+send-small time k a w accepted =
+    let unsound = none-here 2 _ _ (omega arith) (decided-none _ w _ accepted) in
+    let late = none-here 3 _ _ (omega arith) (unsound .1) in
+    let out = none-here 25 _ _ (omega arith) (late .1) in
+    let wide = none-here 4 _ _ (omega arith) (out .1) in
+    let good = context-facts w (not-false _ (unsound .0)) in
     let size = inside-tells sizeLeast (a .size) (w .state .settings .mtu) (not-false _ (wide .0)) in
     omega (arith, size .1, good .range .mtu-high)
 
@@ -62,21 +63,22 @@ module _ (again : Bool) where
       (λ _. so-both Small again _ _ (λ _. omega arith) (λ _. h))
 
   -- it is no first record
-  accepted-send : (done time : ℕ) (a : Send) (w : World) → onEvent done (event.Send time a) w .number ≡ 0 → onSend time a w .number ≡ 0
+  accepted-send : (done time k : ℕ) (a : Send) (w : Context) → onEvent done (event.Send time k a) w .number ≡ 0
+      → onSend time k a w .number ≡ 0
   unfolding onEvent onFirst onLater
-  accepted-send done time a w =
-      eq-both (λ (t : Telling). t .number ≡ 0 → onSend time a w .number ≡ 0) done 0 _ _
+  accepted-send done time k a w =
+      eq-both (λ (t : Telling). t .number ≡ 0 → onSend time k a w .number ≡ 0) done 0 _ _
       (λ _ e. absurd (let no : ⊥ = omega (arith, e) in no))
       (λ _ e. e)
 
-  event-small : (done : ℕ) (e : Event) (w : World) → onEvent done e w .number ≡ 0 → Small (eventBytes again e)
+  event-small : (done : ℕ) (e : Event) (w : Context) → onEvent done e w .number ≡ 0 → Small (eventBytes again e)
   unfolding eventBytes
-  event-small done (event.NewData time bytes) w accepted = omega arith
-  event-small done (event.Send time a) w accepted = size-small a (send-small time a w (accepted-send done time a w accepted))
-  event-small done (event.Ack time a) w accepted = omega arith
-  event-small done (event.Nack time a) w accepted = omega arith
-  event-small done (event.Loss time a) w accepted = omega arith
-  event-small done (event.Path time) w accepted = omega arith
+  event-small done (event.NewData time k bytes) w accepted = omega arith
+  event-small done (event.Send time k a) w accepted = size-small a (send-small time k a w (accepted-send done time k a w accepted))
+  event-small done (event.Ack time k a) w accepted = omega arith
+  event-small done (event.Nack time k a) w accepted = omega arith
+  event-small done (event.Loss time k a) w accepted = omega arith
+  event-small done (event.Path time k) w accepted = omega arith
   event-small done (event.SetUp s) w accepted = omega arith
 
   refused-small : (x : Found) → Small (recordBytes again 12 x)
@@ -85,12 +87,12 @@ module _ (again : Bool) where
   refused-small found.End = omega arith
   refused-small found.Malformed = omega arith
 
-  whole-small : (done : ℕ) (e : Event) (next : ℕ) (w : World) → Small (recordBytes again (onEvent done e w .number) (found.Whole e next))
+  whole-small : (done : ℕ) (e : Event) (next : ℕ) (w : Context) → Small (recordBytes again (onEvent done e w .number) (found.Whole e next))
   unfolding recordBytes
   whole-small done e next w = eq-both Small (onEvent done e w .number) 0 _ 0 (λ accepted. event-small done e w accepted) (λ _. omega arith)
 
   -- a turn's bytes
-  turn-small : (f : Feed) (p : Place) (w : World) → turnOf f p w .ended ≡ false
+  turn-small : (f : Feed) (p : Place) (w : Context) → turnOf f p w .ended ≡ false
       → Small (recordBytes again (turnOf f p w .number) (foundAt f (p .at)))
   turn-small f p w =
       turn-cases f p w (λ (t : Turning). t .ended ≡ false → Small (recordBytes again (t .number) (foundAt f (p .at))))
@@ -99,7 +101,7 @@ module _ (again : Bool) where
       (λ _ _ _. refused-small (foundAt f (p .at)))
 
   -- and those of all turns
-  turns-small : (k : ℕ) (f : Feed) (p : Place) (w : World) → bytesSent again f p (turnsIn k f p w) ≤ mtuMost * k
+  turns-small : (k : ℕ) (f : Feed) (p : Place) (w : Context) → bytesSent again f p (turnsIn k f p w) ≤ mtuMost * k
   unfolding turnsIn bytesSent
   turns-small zero f p w = omega arith
   turns-small (suc k) f p w =
@@ -109,7 +111,7 @@ module _ (again : Bool) where
       (λ go. omega (arith, turn-small f p w go, turns-small k f (t .place) (t .after)))
 
   -- THE BYTES ARE EXACT SUMS, whatever is replayed, from zeros
-  pub bytes-exact : (f : Feed) (p : Place) (w : World) → endOf f < bytesEnd
+  pub bytes-exact : (f : Feed) (p : Place) (w : Context) → endOf f < bytesEnd
       → getD (counting f p (turnsOf f p w) zeros) (sentAt again) 0 ≡ bytesSent again f p (turnsOf f p w)
   unfolding turnsOf
   bytes-exact f p w fits =
@@ -117,7 +119,7 @@ module _ (again : Bool) where
       omega (arith, bytes-count again f p (turnsOf f p w) zeros refl (omega arith), turns-small (endOf f - p .at) f p w)
 
   -- and so of a report over one log
-  pub report-bytes : (log : List ℕ) (p : Place) (w : World) → length log < bytesEnd
+  pub report-bytes : (log : List ℕ) (p : Place) (w : Context) → length log < bytesEnd
       → getD (reportFrom log p w) (sentAt again) 0 ≡ bytesSent again (logged log) p (turnsOf (logged log) p w)
   unfolding endFrom
   report-bytes log p w fits = bytes-exact (logged log) p w fits

@@ -1,5 +1,6 @@
 -- An ACK whose outcome is ambiguous, request M-106: another service time gives the same answer, says the same of the sample and leaves the
--- same world, because the ambiguous resend is told by the packet and the retx flag, and the window's rules see no sample. Assumes nothing.
+-- same context, because the ambiguous resend is told by the packet of the ACK's flow and the retx flag, and the window's rules see no
+-- sample. Assumes nothing.
 use mathlib.Core.Path.{_≡_, refl, sym, ap, _∙_}
 use mathlib.Core.Bool.{Bool}
 use mathlib.Core.Option.{Option, none, some}
@@ -11,10 +12,12 @@ use Rattle.window.specs.Limits.{sampleMost}
 use Rattle.window.specs.declared.Sampling.{Sampling}
 use Rattle.window.specs.declared.Sampling.the-variants.{Cut, Gone, Ambiguous, NotPositive}
 use Rattle.window.proofs.Tests.{same-sample}
-use Rattle.sender.specs.World.{World, Answered, viewOf, worldOf}
+use Rattle.sender.specs.World.{World, View, viewOf, worldOf}
 use Rattle.sender.specs.Steps.{ackSample, ackSampling, ackStep}
-use Rattle.sender.specs.Events.{decided, onAck, says}
+use Rattle.sender.specs.Events.{says}
 use Rattle.sender.specs.declared.Ack.{Ack}
+use Rattle.context.specs.Context.{Context, Answered, worldAt, putWorld}
+use Rattle.context.specs.Events.{decided, onAck}
 use Rattle.replay.specs.Answers.{Telling, shownSays, heardBy, onFirst, onLater, onEvent}
 use Rattle.replay.specs.declared.Shown.the-variants.{Sample as Showing}
 use Rattle.replay.specs.declared.records.Event.the-variants as event
@@ -65,16 +68,19 @@ module _ (time : ℕ) (a : Ack) (w : World) (service : ℕ) (is : ackSampling ti
   unfolding ackStep
   step-served = rw sample-served
 
-  -- THE ANSWER AND THE WORLD AFTERWARDS ARE THE SAME: no row looks at the service time
-  ack-served : onAck time (served service a) w ≡ onAck time a w
+-- of flow k, whose packet the outcome is about
+module _ (time k : ℕ) (a : Ack) (x : Context) (service : ℕ) (is : ackSampling time a (viewOf (worldAt k x)) ≡ Ambiguous) where
+  -- THE ANSWER AND THE CONTEXT AFTERWARDS ARE THE SAME: no row looks at the service time
+  ack-served : onAck time k (served service a) x ≡ onAck time k a x
   unfolding onAck
-  ack-served = ap (decided _ w) (ap worldOf step-served)
+  ack-served = ap (decided _ x) (ap (λ (v : View). putWorld k x (worldOf v)) (step-served time a (worldAt k x) service is))
 
-  heard-served : onLater (event.Ack time (served service a)) w ≡ onLater (event.Ack time a) w
+  heard-served : onLater (event.Ack time k (served service a)) x ≡ onLater (event.Ack time k a) x
   unfolding onLater
   heard-served =
-      ap (λ (x : Answered). heardBy (says (x .number) (ackSampling time (served service a) (viewOf w))) x) ack-served
-      ∙ ap (λ (q : Sampling). heardBy (says (onAck time a w .number) q) (onAck time a w)) (says-served ∙ sym is)
+      ap (λ (y : Answered). heardBy (says (y .number) (ackSampling time (served service a) (viewOf (worldAt k x)))) y) ack-served
+      ∙ ap (λ (q : Sampling). heardBy (says (onAck time k a x .number) q) (onAck time k a x))
+      (says-served time a (worldAt k x) service is ∙ sym is)
 
 -- an answer that shows a sample is an acceptance
 shown-said : (n : ℕ) (q r : Sampling) → shownSays (says n q) ≡ Showing r → (n ≡ 0) × (q ≡ r)
@@ -84,26 +90,27 @@ shown-said n q r =
     (λ zero e. (zero, cc))
     (λ _ e. let z : _≡_ {A = ℕ} 0 1 = cc in absurd (let wrong : ⊥ = omega arith in wrong))
 
-module _ (done time : ℕ) (a : Ack) (w : World) (shows : onEvent done (event.Ack time a) w .shown ≡ Showing Ambiguous) where
+module _ (done time k : ℕ) (a : Ack) (x : Context) (shows : onEvent done (event.Ack time k a) x .shown ≡ Showing Ambiguous) where
   -- it is no first record
-  later-on : (onEvent done (event.Ack time a) w ≡ onLater (event.Ack time a) w) × (done ≡ 0 → ⊥)
+  later-on : (onEvent done (event.Ack time k a) x ≡ onLater (event.Ack time k a) x) × (done ≡ 0 → ⊥)
   unfolding onEvent onFirst
   later-on =
-      let e = event.Ack time a in
-      eq-both (λ (t : Telling). t .shown ≡ Showing Ambiguous → (t ≡ onLater e w) × (done ≡ 0 → ⊥)) done 0 (onFirst e w) (onLater e w)
+      let e = event.Ack time k a in
+      eq-both (λ (t : Telling). t .shown ≡ Showing Ambiguous → (t ≡ onLater e x) × (done ≡ 0 → ⊥)) done 0 (onFirst e x) (onLater e x)
       (λ _ s. let z : _≡_ {A = ℕ} 0 1 = cc in absurd (let wrong : ⊥ = omega arith in wrong))
       (λ not _. (refl, not)) shows
 
-  said : (onAck time a w .number ≡ 0) × (ackSampling time a (viewOf w) ≡ Ambiguous)
+  said : (onAck time k a x .number ≡ 0) × (ackSampling time a (viewOf (worldAt k x)) ≡ Ambiguous)
   unfolding onLater
   said = shown-said _ _ _ (ap (λ (t : Telling). t .shown) (sym (later-on .0)) ∙ shows)
 
-  pub ambiguous-accepted : onEvent done (event.Ack time a) w .number ≡ 0
+  pub ambiguous-accepted : onEvent done (event.Ack time k a) x .number ≡ 0
   unfolding onLater
   ambiguous-accepted = ap (λ (t : Telling). t .number) (later-on .0) ∙ said .0
 
   -- WHERE AN ACK IS AMBIGUOUS ITS SERVICE TIME DOES NOT MATTER
-  pub ambiguous-served : (service : ℕ) → onEvent done (event.Ack time (served service a)) w ≡ onEvent done (event.Ack time a) w
+  pub ambiguous-served : (service : ℕ) → onEvent done (event.Ack time k (served service a)) x ≡ onEvent done (event.Ack time k a) x
   unfolding onEvent
   ambiguous-served service =
-      sym (eq-no done 0 (onEvent done (event.Ack time a) w) _ _ (later-on .1) (later-on .0 ∙ sym (heard-served time a w service (said .1))))
+      sym (eq-no done 0 (onEvent done (event.Ack time k a) x) _ _ (later-on .1)
+      (later-on .0 ∙ sym (heard-served time k a x service (said .1))))

@@ -10,8 +10,8 @@ use borrow.Author.Tests.{eqb-true, not-true, not-false}
 use native.Mathlib.Omega.{arith}
 use Rattle.rules.specs.Branch.{so-yes, so-no}
 use Rattle.rules.specs.Test.{both}
-use Rattle.sender.specs.World.{World}
-use Rattle.replay.specs.Places.{Feed, foundAt, soundPlace, Turning, over, turnOf, turnsOf, lastPlace, lastWorld}
+use Rattle.context.specs.Context.{Context}
+use Rattle.replay.specs.Places.{Feed, foundAt, soundPlace, Turning, over, turnOf, turnsOf, lastPlace, lastContext}
 use Rattle.replay.specs.declared.Place.{Place}
 use Rattle.replay.specs.declared.turns.Found.{Found}
 use Rattle.replay.proofs.Progress.{turn-sound-place, turns-none, turns-more}
@@ -21,35 +21,35 @@ use Rattle.replay_report.specs.Figures.{counted}
 use Rattle.replay_report.specs.Tallies.{counting, Tallying, led, tallyTurnsOf, tallyOf}
 
 -- number 2 does not apply, and what is left takes the figures to the whole
-pub record Going (f : Feed) (p₀ : Place) (w₀ : World) (figures₀ : List ℕ) (p : Place) (w : World) (figures : List ℕ) : Type 0 where
+pub record Going (f : Feed) (p₀ : Place) (w₀ : Context) (figures₀ : List ℕ) (p : Place) (w : Context) (figures : List ℕ) : Type 0 where
   pub good : soundPlace p w ≡ true
   pub long : length figures ≡ figureCount
   pub is : tallyTurnsOf f p w figures ≡ tallyTurnsOf f p₀ w₀ figures₀
 
-pub going-none : (f : Feed) (p : Place) (w : World) (figures : List ℕ) → soundPlace p w ≡ true → length figures ≡ figureCount
+pub going-none : (f : Feed) (p : Place) (w : Context) (figures : List ℕ) → soundPlace p w ≡ true → length figures ≡ figureCount
     → Going f p w figures p w figures
 going-none f p w figures h l = record { good = h; long = l; is = refl }
 
 -- where there are no turns nothing is counted
-led-none : (f : Feed) (p : Place) (w : World) (figures : List ℕ)
+led-none : (f : Feed) (p : Place) (w : Context) (figures : List ℕ)
     → led f p w [] figures ≡ record { number = 0; place = p; after = w; figures = figures }
-unfolding lastPlace lastWorld counting
+unfolding lastPlace lastContext counting
 led-none f p w figures = refl
 
 -- one turn is counted, and the rest after it
-led-more : (f : Feed) (p : Place) (w : World) (figures : List ℕ) (t : Turning) (ts : List Turning)
+led-more : (f : Feed) (p : Place) (w : Context) (figures : List ℕ) (t : Turning) (ts : List Turning)
     → led f p w (t ∷ ts) figures ≡ led f (t .place) (t .after) ts (counted (foundAt f (p .at)) (t .number) (t .shown) figures)
-unfolding lastPlace lastWorld counting
+unfolding lastPlace lastContext counting
 led-more f p w figures t ts = refl
 
 -- the turns are this one and those after it
-rest-of : (f : Feed) (p : Place) (w : World) (t : Turning) → t ≡ turnOf f p w → t .ended ≡ false
+rest-of : (f : Feed) (p : Place) (w : Context) (t : Turning) → t ≡ turnOf f p w → t .ended ≡ false
     → turnsOf f p w ≡ t ∷ turnsOf f (t .place) (t .after)
 rest-of f p w t e d =
     let d′ : turnOf f p w .ended ≡ false = rw e at d in
     turns-more f p w d′ ∙ ap (λ (x : Turning). x ∷ turnsOf f (x .place) (x .after)) (sym e)
 
-module _ {f : Feed} {p₀ : Place} {w₀ : World} {figures₀ : List ℕ} {p : Place} {w : World} {figures : List ℕ}
+module _ {f : Feed} {p₀ : Place} {w₀ : Context} {figures₀ : List ℕ} {p : Place} {w : Context} {figures : List ℕ}
     (g : Going f p₀ w₀ figures₀ p w figures)
     (t : Turning) (e : t ≡ turnOf f p w) where
   pub going-ended : t .ended ≡ true → record { number = 0; place = t .place; after = t .after; figures = figures }
@@ -87,7 +87,7 @@ neither-not : (a b : Bool) → (not a || not b) ≡ not (a && b)
 neither-not true b = refl
 neither-not false b = refl
 
-module _ (f : Feed) (p : Place) (w : World) (figures : List ℕ) (r : Bool) (e : r ≡ soundPlace p w) where
+module _ (f : Feed) (p : Place) (w : Context) (figures : List ℕ) (r : Bool) (e : r ≡ soundPlace p w) where
   abbrev pub failed : Bool
   failed = not (eqb (length figures) figureCount) || not r
 

@@ -12,7 +12,7 @@ use Rattle.rules.specs.Branch.{ifSo, so-both}
 use Rattle.window.specs.Limits.{sampleMost}
 use Rattle.window.specs.Delays.{sampleIn}
 use Rattle.window.specs.declared.Sampling.the-variants.{Taken, Cut, Gone, Ambiguous, NotPositive}
-use Rattle.sender.specs.World.{World}
+use Rattle.context.specs.Context.{Context}
 use Rattle.replay.specs.Batches.{kindOf}
 use Rattle.replay.specs.Places.{Feed, logged, endFrom, Turning, turnOf, turnsIn, turnsOf}
 use Rattle.replay.specs.declared.Place.{Place}
@@ -88,7 +88,7 @@ few-turns test (t ∷ ts) =
     omega (arith, few-turns test ts, so-both (λ (n : ℕ). n ≤ 1) (test t) 1 0 (λ _. omega arith) (λ _. omega arith))
 
 -- no more turns than bytes
-turns-few : (k : ℕ) (f : Feed) (p : Place) (w : World) → length (turnsIn k f p w) ≤ k
+turns-few : (k : ℕ) (f : Feed) (p : Place) (w : Context) → length (turnsIn k f p w) ≤ k
 unfolding turnsIn
 turns-few zero f p w = omega arith
 turns-few (suc k) f p w =
@@ -96,12 +96,12 @@ turns-few (suc k) f p w =
     so-both (λ (ts : List Turning). length ts ≤ suc k) (t .ended) _ _ (λ _. omega arith)
     (λ _. omega (arith, turns-few k f (t .place) (t .after)))
 
-log-few : (log : List ℕ) (p : Place) (w : World) → length (turnsOf (logged log) p w) ≤ length log
+log-few : (log : List ℕ) (p : Place) (w : Context) → length (turnsOf (logged log) p w) ≤ length log
 unfolding turnsOf endFrom
 log-few log p w = omega (arith, turns-few (length log - p .at) (logged log) p w)
 
 -- from zeros, a figure that counts is the exact count
-module _ (log : List ℕ) (p : Place) (w : World) (fits : length log < 2 ^ 64) where
+module _ (log : List ℕ) (p : Place) (w : Context) (fits : length log < 2 ^ 64) where
   abbrev turns : List Turning
   turns = turnsOf (logged log) p w
 

@@ -86,12 +86,12 @@ unfoldable pub sendCounted : ℕ → Send → List ℕ → List ℕ
 sendCounted number a figures = ifEq number 0 (raised (sentAt (a .resend)) (a .size) figures) figures
 
 unfoldable pub eventCounted : ℕ → Event → List ℕ → List ℕ
-eventCounted number (event.NewData time bytes) figures = figures
-eventCounted number (event.Send time a) figures = sendCounted number a figures
-eventCounted number (event.Ack time a) figures = figures
-eventCounted number (event.Nack time a) figures = figures
-eventCounted number (event.Loss time a) figures = figures
-eventCounted number (event.Path time) figures = figures
+eventCounted number (event.NewData time k bytes) figures = figures
+eventCounted number (event.Send time k a) figures = sendCounted number a figures
+eventCounted number (event.Ack time k a) figures = figures
+eventCounted number (event.Nack time k a) figures = figures
+eventCounted number (event.Loss time k a) figures = figures
+eventCounted number (event.Path time k) figures = figures
 eventCounted number (event.SetUp s) figures = figures
 
 -- of what stands in the log

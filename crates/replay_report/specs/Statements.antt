@@ -12,7 +12,7 @@ use Rattle.rules.specs.Branch.{ifSo, ifEq}
 use Rattle.window.specs.Delays.{sampleIn}
 use Rattle.window.specs.declared.Sample.{Sample}
 use Rattle.window.specs.declared.Sample.the-variants.{Ticks, Absent}
-use Rattle.sender.specs.World.{World}
+use Rattle.context.specs.Context.{Context}
 use Rattle.sender.specs.declared.Send.{Send}
 use Rattle.replay.specs.Batches.{kindOf}
 use Rattle.replay.specs.Places.{Feed, logged, foundAt, Turning, turnsOf}
@@ -106,12 +106,12 @@ unfoldable pub sendBytes : Bool → Send → ℕ
 sendBytes again a = ifSo (a .resend) (ifSo again (a .size) 0) (ifSo again 0 (a .size))
 
 unfoldable pub eventBytes : Bool → Event → ℕ
-eventBytes again (event.NewData time bytes) = 0
-eventBytes again (event.Send time a) = sendBytes again a
-eventBytes again (event.Ack time a) = 0
-eventBytes again (event.Nack time a) = 0
-eventBytes again (event.Loss time a) = 0
-eventBytes again (event.Path time) = 0
+eventBytes again (event.NewData time k bytes) = 0
+eventBytes again (event.Send time k a) = sendBytes again a
+eventBytes again (event.Ack time k a) = 0
+eventBytes again (event.Nack time k a) = 0
+eventBytes again (event.Loss time k a) = 0
+eventBytes again (event.Path time k) = 0
 eventBytes again (event.SetUp s) = 0
 
 -- .. and accepted ..
@@ -134,5 +134,5 @@ bytesEnd = 2 ^ 50
 abbrev pub zeros : List ℕ
 zeros = replicate figureCount 0
 
-abbrev pub reportFrom : List ℕ → Place → World → List ℕ
+abbrev pub reportFrom : List ℕ → Place → Context → List ℕ
 reportFrom log p w = counting (logged log) p (turnsOf (logged log) p w) zeros

@@ -7,9 +7,9 @@ use lib.Dec.{eqb}
 use lib.ListN.{length}
 use Rattle.rules.specs.Branch.{ifSo}
 use Rattle.ledger.specs.Memory.{Memory}
-use Rattle.sender.specs.World.{World, world}
-use Rattle.sender.specs.declared.Controller.{Controller}
-use Rattle.replay.specs.Places.{Feed, foundAt, Turning, soundPlace, turnsOf, lastPlace, lastWorld}
+use Rattle.context.specs.Context.{Context, context}
+use Rattle.context.specs.declared.Controller.{Controller}
+use Rattle.replay.specs.Places.{Feed, foundAt, Turning, soundPlace, turnsOf, lastPlace, lastContext}
 use Rattle.replay.specs.declared.Place.{Place}
 use Rattle.report_text.specs.Places.{figureCount}
 use Rattle.replay_report.specs.Figures.{counted}
@@ -23,21 +23,21 @@ counting f p (t ∷ ts) figures = counting f (t .place) ts (counted (foundAt f (
 pub record Tallying : Type 0 where
   pub number : ℕ
   pub place : Place
-  pub after : World
+  pub after : Context
   pub figures : List ℕ
 
-abbrev pub tallying : ℕ → Place → Controller → Memory → List ℕ → List ℕ → Tallying
-tallying n p c r t figures = record { number = n; place = p; after = world c r t; figures = figures }
+abbrev pub tallying : ℕ → Place → Controller → List ℕ → Memory → List ℕ → List ℕ → Tallying
+tallying n p c fs r t figures = record { number = n; place = p; after = context c fs r t; figures = figures }
 
 -- all turns from a place on, and the figures with them
-abbrev pub led : Feed → Place → World → List Turning → List ℕ → Tallying
-led f p w ts figures = record { number = 0; place = lastPlace p ts; after = lastWorld w ts; figures = counting f p ts figures }
+abbrev pub led : Feed → Place → Context → List Turning → List ℕ → Tallying
+led f p w ts figures = record { number = 0; place = lastPlace p ts; after = lastContext w ts; figures = counting f p ts figures }
 
-unfoldable pub tallyTurnsOf : Feed → Place → World → List ℕ → Tallying
+unfoldable pub tallyTurnsOf : Feed → Place → Context → List ℕ → Tallying
 tallyTurnsOf f p w figures = led f p w (turnsOf f p w) figures
 
 -- number 2, also where the figures are not so many, or the turns
-unfoldable pub tallyOf : Feed → Place → World → List ℕ → Tallying
+unfoldable pub tallyOf : Feed → Place → Context → List ℕ → Tallying
 tallyOf f p w figures =
     ifSo (eqb (length figures) figureCount && soundPlace p w)
     (tallyTurnsOf f p w figures)

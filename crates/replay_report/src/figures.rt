@@ -135,7 +135,7 @@ fn count_event(figures: &mut [u64], verdict: Verdict, event: Event)
     requires { ⌜ length (now figures) ≡ figureCount ⌝ }
     ensures { λ _. ⌜ now (figures .exit) ≡ eventCounted (numberOf verdict) event (now (figures .entry)) ⌝ }
 {
-    let Event::Send(_, a) = event else {
+    let Event::Send(_, _, a) = event else {
         return;
     };
     if is_accepted(verdict) {

@@ -3,6 +3,7 @@
 pub mod figures;
 
 use crate::figures::count;
+use context::Controller;
 use replay::Place;
 use replay::Source;
 use replay::turns::is_sound;
@@ -10,7 +11,6 @@ use replay::turns::stands_at;
 use replay::turns::turn;
 use report_text::places::FIGURES;
 use rules::verdict::Verdict;
-use sender::Controller;
 ghost use mathlib.Core.Path.{_≡_};
 ghost use mathlib.Core.Bool.{true};
 ghost use lib.ListN.{length};
@@ -18,7 +18,7 @@ ghost use Rattle.rules.specs.Verdict.{numberOf};
 ghost use Rattle.replay.specs.Places.{feed, soundPlace};
 ghost use Rattle.report_text.specs.Places.{figureCount};
 ghost use Rattle.ledger.specs.Lent.{memoryAfter};
-ghost use Rattle.sender.specs.Lent.{worldGiven, worldBefore};
+ghost use Rattle.context.specs.Lent.{contextGiven, contextBefore};
 ghost use Rattle.replay_report.specs.Tallies.{tallying, tallyTurnsOf, tallyOf};
 
 // What a call answers: 2, or accepted. The figures are lent.
@@ -29,24 +29,25 @@ pub struct Tallied {
 }
 
 // The turns where number 2 is known not to apply: an inner step. Each turn's record is looked up once more, for its bytes.
-fn tally_turns<'a, 'b, 'c, 'd, 'e, 'f, 'g>(
+fn tally_turns<'a, 'b, 'c, 'd, 'e, 'f, 'g, 'h>(
     source: Source,
     place: Place,
     state: Controller,
-    outstanding: &'a mut [u64],
-    marked: &'b mut [u64],
-    sizes: &'c mut [u32],
-    sent: &'d mut [u64],
-    evs: &'e mut [u64],
-    log: &'f [u8],
-    figures: &'g mut [u64],
+    flows: &'a mut [u64],
+    outstanding: &'b mut [u64],
+    marked: &'c mut [u64],
+    sizes: &'d mut [u32],
+    sent: &'e mut [u64],
+    evs: &'f mut [u64],
+    log: &'g [u8],
+    figures: &'h mut [u64],
 ) -> Tallied
-    requires { ⌜ soundPlace place (worldGiven state outstanding marked sizes sent evs) ≡ true ⌝ }
+    requires { ⌜ soundPlace place (contextGiven state flows outstanding marked sizes sent evs) ≡ true ⌝ }
     requires { ⌜ length (now figures) ≡ figureCount ⌝ }
     ensures { λ r. ⌜ tallying (numberOf (r .verdict)) (r .place) (r .state)
-        (memoryAfter outstanding marked sizes sent) (now (evs .exit)) (now (figures .exit))
-        ≡ tallyTurnsOf (feed source (now (log .entry))) place (worldBefore state outstanding marked sizes sent evs) (now
-        (figures .entry)) ⌝ }
+        (now (flows .exit)) (memoryAfter outstanding marked sizes sent) (now (evs .exit)) (now (figures .exit))
+        ≡ tallyTurnsOf (feed source (now (log .entry))) place
+        (contextBefore state flows outstanding marked sizes sent evs) (now (figures .entry)) ⌝ }
 {
     let mut place = place;
     let mut state = state;
@@ -56,6 +57,7 @@ fn tally_turns<'a, 'b, 'c, 'd, 'e, 'f, 'g>(
             source,
             place,
             state,
+            flows,
             outstanding,
             marked,
             sizes,
@@ -80,23 +82,25 @@ fn tally_turns<'a, 'b, 'c, 'd, 'e, 'f, 'g>(
 
 // Makes all turns of a log from a place on, and adds each to the figures. A report over one log is the call from a replay's start with
 // zeros; of a log in parts it is a call for each part, with the same figures. Number 2 is tested once, also where the figures are not 70.
-pub fn tally<'a, 'b, 'c, 'd, 'e, 'f, 'g>(
+pub fn tally<'a, 'b, 'c, 'd, 'e, 'f, 'g, 'h>(
     source: Source,
     place: Place,
     state: Controller,
-    outstanding: &'a mut [u64],
-    marked: &'b mut [u64],
-    sizes: &'c mut [u32],
-    sent: &'d mut [u64],
-    evs: &'e mut [u64],
-    log: &'f [u8],
-    figures: &'g mut [u64],
+    flows: &'a mut [u64],
+    outstanding: &'b mut [u64],
+    marked: &'c mut [u64],
+    sizes: &'d mut [u32],
+    sent: &'e mut [u64],
+    evs: &'f mut [u64],
+    log: &'g [u8],
+    figures: &'h mut [u64],
 ) -> Tallied
     ensures { λ r. ⌜ tallying (numberOf (r .verdict)) (r .place) (r .state)
-        (memoryAfter outstanding marked sizes sent) (now (evs .exit)) (now (figures .exit))
-        ≡ tallyOf (feed source (now (log .entry))) place (worldBefore state outstanding marked sizes sent evs) (now (figures .entry)) ⌝ }
+        (now (flows .exit)) (memoryAfter outstanding marked sizes sent) (now (evs .exit)) (now (figures .exit))
+        ≡ tallyOf (feed source (now (log .entry))) place
+        (contextBefore state flows outstanding marked sizes sent evs) (now (figures .entry)) ⌝ }
 {
-    let whole = is_sound(place, state, outstanding, marked, sizes, sent, evs);
+    let whole = is_sound(place, state, flows, outstanding, marked, sizes, sent, evs);
     if (figures.len() != FIGURES) | !whole {
         return Tallied {
             verdict: Verdict::Unsound,
@@ -108,6 +112,7 @@ pub fn tally<'a, 'b, 'c, 'd, 'e, 'f, 'g>(
         source,
         place,
         state,
+        flows,
         outstanding,
         marked,
         sizes,

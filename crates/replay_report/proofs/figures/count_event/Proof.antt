@@ -16,7 +16,7 @@ returns : tie.Need-returns
 returns c =
     -- a send is variant 1, and the match left another
     send-none _ _ _
-    (λ t a e. ⊎-elim (eqb-false 1 0 refl) (⊎-elim (eqb-false 1 2 refl)
+    (λ t k a e. ⊎-elim (eqb-false 1 0 refl) (⊎-elim (eqb-false 1 2 refl)
     (⊎-elim (eqb-false 1 3 refl) (⊎-elim (eqb-false 1 4 refl) (⊎-elim (eqb-false 1 5 refl) (eqb-false 1 6 refl)))))
     (rw e at (c .match .keys2)))
 
@@ -41,12 +41,12 @@ returns-2 : tie.Need-returns-2
 returns-2 c =
     let k = c .before .before in
     let e = k .before .before .before .before in
-    send-one _ _ _ _ _ (e .before .before .before .event .given .1) (accepted-zero _ _ (e .before .is-accepted .ensures) (e .if1 .taken))
+    send-one _ _ _ _ _ _ (e .before .before .before .event .given .1) (accepted-zero _ _ (e .before .is-accepted .ensures) (e .if1 .taken))
     (rw (k .before .before .sent-at .ensures) at (k .add .ensures))
 
 returns-3 : tie.Need-returns-3
 returns-3 c =
-    send-refused _ _ _ _ _ (c .before .before .before .event .given .1)
+    send-refused _ _ _ _ _ _ (c .before .before .before .event .given .1)
     (refused-not _ _ (c .before .is-accepted .ensures) (c .if1 .left))
 
 pub count-event-spec : {M : Type 1} → statement M
