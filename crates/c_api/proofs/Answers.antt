@@ -12,10 +12,10 @@ use Rattle.window.specs.Range.{inRange}
 use Rattle.window.specs.declared.Settings.{Settings}
 use Rattle.ledger.specs.Memory.{Memory}
 use Rattle.rules.specs.Verdict.{numberOf}
-use Rattle.sender.specs.World.{World, world, Answered, answered}
-use Rattle.sender.specs.Start.{onSetUp}
-use Rattle.sender.specs.declared.Controller.{Controller}
-use Rattle.sender.specs.declared.Answer.{Answer}
+use Rattle.context.specs.Context.{context, Answered, answered}
+use Rattle.context.specs.Start.{onSetUp}
+use Rattle.context.specs.declared.Controller.{Controller}
+use Rattle.context.specs.declared.Answer.{Answer}
 use Rattle.replay.specs.Batches.{saying, onceOf}
 use Rattle.replay.specs.declared.records.Event.{Event}
 use Rattle.c_state.specs.Layout.{wordCount, settingsCount, stateWords, settingsFrom, stateFrom, wordsOk, unpacked}
@@ -46,10 +46,10 @@ unpacked-state ws ok = ap (λ (u : Unpacked). u .state) (sym (so-yes (wordsOk ws
 
 -- an answer kept beside the lent words is the event's answer packed
 kept-packed :
-    (ws : List ℕ) (x : Answered) (a : Answer) (s : Memory) (u : List ℕ) → answered (numberOf (a .verdict)) (a .state) s u ≡ x → (n : ℕ)
-    (xs : List ℕ) →
-    (n ≡ numberOf (a .verdict)) × (xs ≡ wordsAfter n ws (a .state)) → called n xs s u ≡ packed ws x
-kept-packed ws x a s u e n xs k = rw (k .1, k .0) (ap (packed ws) e)
+    (ws : List ℕ) (x : Answered) (a : Answer) (gs : List ℕ) (s : Memory) (u : List ℕ)
+    → answered (numberOf (a .verdict)) (a .state) gs s u ≡ x → (n : ℕ) (xs : List ℕ) →
+    (n ≡ numberOf (a .verdict)) × (xs ≡ wordsAfter n ws (a .state)) → called n xs gs s u ≡ packed ws x
+kept-packed ws x a gs s u e n xs k = rw (k .1, k .0) (ap (packed ws) e)
 
 module _ (ws : List ℕ) (given : Unpacked) (given-is : given ≡ unpacked ws) where
   good-is : given .good ≡ wordsOk ws
@@ -60,9 +60,9 @@ module _ (ws : List ℕ) (given : Unpacked) (given-is : given ≡ unpacked ws) w
     not-ok = sym good-is ∙ not-true (given .good) bad
 
     -- words that are no state's: 2, whatever the event
-    pub no-state : (e : Event) (r : Memory) (t : List ℕ) → called 2 ws r t ≡ onEventWords e ws r t
+    pub no-state : (e : Event) (fs : List ℕ) (r : Memory) (t : List ℕ) → called 2 ws fs r t ≡ onEventWords e ws fs r t
     unfolding onEventWords
-    no-state e r t = so-no (wordsOk ws) _ _ _ not-ok refl
+    no-state e fs r t = so-no (wordsOk ws) _ _ _ not-ok refl
 
   module _ (good : not (given .good) ≡ false) where
     pub ok : wordsOk ws ≡ true
@@ -76,17 +76,17 @@ module _ (ws : List ℕ) (given : Unpacked) (given-is : given ≡ unpacked ws) w
 
     -- the event's answer, kept
     pub event-on :
-        (e : Event) (r : Memory) (t : List ℕ) (n : ℕ) (c : Controller) (s : Memory) (u : List ℕ)
-        → saying n c s u ≡ onceOf e (world (given .state) r t) →
-        (xs : List ℕ) → xs ≡ wordsAfter (n % 2 ^ 32) ws c → called n xs s u ≡ onEventWords e ws r t
+        (e : Event) (fs : List ℕ) (r : Memory) (t : List ℕ) (n : ℕ) (c : Controller) (gs : List ℕ) (s : Memory) (u : List ℕ)
+        → saying n c gs s u ≡ onceOf e (context (given .state) fs r t) →
+        (xs : List ℕ) → xs ≡ wordsAfter (n % 2 ^ 32) ws c → called n xs gs s u ≡ onEventWords e ws fs r t
     unfolding onEventWords
-    event-on e r t n c s u q xs k =
-        so-yes (wordsOk ws) _ _ _ ok (rw k (ap (packedWord ws) (q ∙ ap (λ (d : Controller). onceOf e (world d r t)) state-is)))
+    event-on e fs r t n c gs s u q xs k =
+        so-yes (wordsOk ws) _ _ _ ok (rw k (ap (packedWord ws) (q ∙ ap (λ (d : Controller). onceOf e (context d fs r t)) state-is)))
 
 -- ---- setting up, by the tests in their order
 
-module _ (ns : List ℕ) (psn off : ℕ) (evs : ℕ) (ws : List ℕ) (r : Memory) (t : List ℕ) where
-  pub few-settings : (length ns ≡ settingsCount → ⊥) → called 2 ws r t ≡ onSetUpWords ns psn off evs ws r t
+module _ (ns : List ℕ) (psn off : ℕ) (evs : ℕ) (ws fs : List ℕ) (r : Memory) (t : List ℕ) where
+  pub few-settings : (length ns ≡ settingsCount → ⊥) → called 2 ws fs r t ≡ onSetUpWords ns psn off evs ws fs r t
   unfolding onSetUpWords
   few-settings h = so-no _ _ _ _ (ne-eqb (length ns) settingsCount h) refl
 
@@ -97,27 +97,28 @@ module _ (ns : List ℕ) (psn off : ℕ) (evs : ℕ) (ws : List ℕ) (r : Memory
       range-same : inRange (settingsFrom ns psn off evs) ≡ range
       range-same = sym (range-is ∙ ap inRange g-is)
 
-      pub out-of-range : not range ≡ true → called 1 ws r t ≡ onSetUpWords ns psn off evs ws r t
+      pub out-of-range : not range ≡ true → called 1 ws fs r t ≡ onSetUpWords ns psn off evs ws fs r t
       unfolding onSetUpWords
       out-of-range e = so-yes _ _ _ _ (eq-eqb (length ns) settingsCount enough) (so-no _ _ _ _ (range-same ∙ not-true range e) refl)
 
       module _ (in-range : not range ≡ false) where
         past-range :
-            (x : Called) → x ≡ ifSo (eqb (length ws) wordCount) (packed ws (onSetUp (settingsFrom ns psn off evs) r t)) (called 2 ws r t) →
-            x ≡ onSetUpWords ns psn off evs ws r t
+            (x : Called)
+            → x ≡ ifSo (eqb (length ws) wordCount) (packed ws (onSetUp (settingsFrom ns psn off evs) fs r t)) (called 2 ws fs r t) →
+            x ≡ onSetUpWords ns psn off evs ws fs r t
         unfolding onSetUpWords
         past-range x e =
             so-yes _ _ _ _ (eq-eqb (length ns) settingsCount enough) (so-yes _ _ _ _ (range-same ∙ not-false range in-range) e)
 
-        pub wrong-words : (length ws ≡ wordCount → ⊥) → called 2 ws r t ≡ onSetUpWords ns psn off evs ws r t
+        pub wrong-words : (length ws ≡ wordCount → ⊥) → called 2 ws fs r t ≡ onSetUpWords ns psn off evs ws fs r t
         wrong-words h = past-range _ (so-no _ _ _ _ (ne-eqb (length ws) wordCount h) refl)
 
         pub set-up-on :
-            length ws ≡ wordCount → (a : Answer) (s : Memory) (u : List ℕ) → answered (numberOf (a .verdict)) (a .state) s u
-            ≡ onSetUp g r t →
+            length ws ≡ wordCount → (a : Answer) (gs : List ℕ) (s : Memory) (u : List ℕ)
+            → answered (numberOf (a .verdict)) (a .state) gs s u ≡ onSetUp g fs r t →
             (n : ℕ) (xs : List ℕ) → (n ≡ numberOf (a .verdict)) × (xs ≡ wordsAfter n ws (a .state)) →
-            called n xs s u ≡ onSetUpWords ns psn off evs ws r t
-        set-up-on h a s u e n xs k =
+            called n xs gs s u ≡ onSetUpWords ns psn off evs ws fs r t
+        set-up-on h a gs s u e n xs k =
             past-range _
             (so-yes _ _ _ _ (eq-eqb (length ws) wordCount h)
-            (kept-packed ws _ a s u (e ∙ ap (λ (x : Settings). onSetUp x r t) g-is) n xs k))
+            (kept-packed ws _ a gs s u (e ∙ ap (λ (x : Settings). onSetUp x fs r t) g-is) n xs k))

@@ -6,9 +6,9 @@ use mathlib.Core.List.{List, [], _∷_, _++_}
 use Prim.Native.Nat.{ℕ, _+_, _<_}
 use lib.ListN.{length, take, length-append}
 use Rattle.rules.specs.Branch.{ifSo, ifEq, so-yes}
-use Rattle.sender.specs.World.{World, world}
-use Rattle.sender.specs.declared.Controller.{Controller}
-use Rattle.replay.specs.Places.{Feed, Turning, lastPlace, lastWorld}
+use Rattle.context.specs.Context.{Context, context}
+use Rattle.context.specs.declared.Controller.{Controller}
+use Rattle.replay.specs.Places.{Feed, Turning, lastPlace, lastContext}
 use Rattle.replay.specs.declared.Place.{Place}
 use Rattle.replay_chunks.specs.Chunks.{partOf, Chunking, untouched}
 use Rattle.replay_chunks.specs.Statements.{Between, Kept, Call, answered, left, tookBy, answersBy, turnsBy, overBy, joinedLog, answersFed}
@@ -31,7 +31,12 @@ use Rattle.c_api.proofs.Stored.{none-stored, then-long, back, twice, ca
 -- ---- nscc_chunk: what is lent, as the definitions hold it
 
 abbrev pub between : Lent → Between
-between l = record { carry = carryFrom (l .part); piece = l .piece; after = world (unpacked (l .words) .state) (l .slots) (l .times) }
+between l =
+    record {
+      carry = carryFrom (l .part);
+      piece = l .piece;
+      after = context (unpacked (l .words) .state) (l .flows) (l .slots) (l .times);
+    }
 
 -- what every call finds
 pub record Sound (l : Lent) : Type 0 where
@@ -92,7 +97,9 @@ module _ (l : Lent) (c : Call) (s : Sound l) where
   ws = wordsThen 0 (r .carry .place) (r .count) (r .after .state) (l .words)
 
   abbrev made : Chunked
-  made = chunkCalled 0 (partWords (r .carry) (r .count) (r .taken)) (r .piece) ws (r .after .slots) (r .after .times) (r .room)
+  made =
+      chunkCalled 0 (partWords (r .carry) (r .count) (r .taken)) (r .piece) ws (r .after .flows) (r .after .slots)
+      (r .after .times) (r .room)
 
   is-made : r .number ≡ 0 → handedPart (l .part) (l .words) r ≡ made
   unfolding handedPart partThen ifEq
@@ -101,7 +108,7 @@ module _ (l : Lent) (c : Call) (s : Sound l) where
       (λ (n : ℕ).
       chunkCalled n (partThen n (r .carry) (r .count) (r .taken) (l .part)) (r .piece)
       (wordsThen n (r .carry .place) (r .count) (r .after .state) (l .words))
-      (r .after .slots) (r .after .times) (r .room))
+      (r .after .flows) (r .after .slots) (r .after .times) (r .room))
       e
 
   going : Going (b .carry .place) (b .after)
@@ -111,28 +118,31 @@ module _ (l : Lent) (c : Call) (s : Sound l) where
   abbrev ts : List Turning
   ts = turnsBy b c r
 
-  ws-are : ws ≡ wordsThen 0 (lastPlace (b .carry .place) ts) (length ts) (lastWorld (b .after) ts .state) (l .words)
+  ws-are : ws ≡ wordsThen 0 (lastPlace (b .carry .place) ts) (length ts) (lastContext (b .after) ts .state) (l .words)
   ws-are =
       ap (λ (q : Place). wordsThen 0 q (r .count) (r .after .state) (l .words)) (o .place)
       ∙ (ap (λ (n : ℕ). wordsThen 0 (lastPlace (b .carry .place) ts) n (r .after .state) (l .words)) (sym (o .counted))
-      ∙ ap (λ (v : World). wordsThen 0 (lastPlace (b .carry .place) ts) (length ts) (v .state) (l .words)) (o .after))
+      ∙ ap (λ (v : Context). wordsThen 0 (lastPlace (b .carry .place) ts) (length ts) (v .state) (l .words)) (o .after))
 
   state-back : unpacked ws .state ≡ r .after .state
   state-back =
-      rw ws-are (back whole (r .count) (b .carry .place) (b .after) going (l .words) refl ∙ sym (ap (λ (v : World). v .state) (o .after)))
+      rw ws-are (back whole (r .count) (b .carry .place) (b .after) going (l .words) refl ∙ sym (ap (λ (v : Context). v .state) (o .after)))
+
+  -- what is left, with what is carried and the state by name
+  abbrev leftWith : Carry → Controller → Between
+  leftWith h d =
+      record { carry = h; piece = r .piece; after = context d (r .after .flows) (r .after .slots) (r .after .times) }
 
   made-next : between (chunkLeft made) ≡ left r
   made-next =
-      ap (λ (h : Carry). record { carry = h; piece = r .piece; after = world (unpacked ws .state) (r .after .slots) (r .after .times) })
-      (carry-back (r .carry) (r .count) (r .taken))
-      ∙ ap (λ (d : Controller). record { carry = r .carry; piece = r .piece; after = world d (r .after .slots) (r .after .times) })
-      state-back
+      ap (λ (h : Carry). leftWith h (unpacked ws .state)) (carry-back (r .carry) (r .count) (r .taken))
+      ∙ ap (leftWith (r .carry)) state-back
 
   made-machine : (r .carry .place .done ≡ 0 → ⊥) → Machine (unpacked ws .state)
   made-machine some =
       let done : lastPlace (b .carry .place) ts .done ≡ 0 → ⊥ = λ z. some (ap (λ (q : Place). q .done) (o .place) ∙ z) in
-      let m : Machine (lastWorld (b .after) ts .state) = turns-going whole (r .count) (b .carry .place) (b .after) going .1 done in
-      rw (state-back ∙ ap (λ (v : World). v .state) (o .after)) m
+      let m : Machine (lastContext (b .after) ts .state) = turns-going whole (r .count) (b .carry .place) (b .after) going .1 done in
+      rw (state-back ∙ ap (λ (v : Context). v .state) (o .after)) m
 
   made-matches : r .number ≡ 0 → Matches l c made r
   unfolding toldBy ifEq

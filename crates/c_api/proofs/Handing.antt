@@ -13,7 +13,7 @@ use borrow.Author.Tests.{eqb-true, eq-eqb, ne-eqb}
 use Rattle.rules.specs.Branch.{so-yes, so-no}
 use Rattle.rules.specs.Test.{both}
 use Rattle.ledger.specs.Memory.{Memory}
-use Rattle.sender.specs.World.{world}
+use Rattle.context.specs.Context.{context}
 use Rattle.replay.specs.Places.{logged}
 use Rattle.replay.specs.Batches.{Batching, batchOf}
 use Rattle.replay.specs.declared.Place.{Place}
@@ -46,24 +46,24 @@ module _ (place ws : List ℕ) where
       let p = both (eqb (length place) placeCount) (eqb (length ws) wordCount) (both _ _ e .0) in
       (eqb-true (length place) placeCount (p .0), eqb-true (length ws) wordCount (p .1))
 
-module _ (log place ws : List ℕ) (r : Memory) (t answers : List ℕ) where
-  pub lent-wrong : lentOk place ws ≡ false → replayCalled 2 place ws r t answers ≡ onReplayWords log place ws r t answers
+module _ (log place ws fs : List ℕ) (r : Memory) (t answers : List ℕ) where
+  pub lent-wrong : lentOk place ws ≡ false → replayCalled 2 place ws fs r t answers ≡ onReplayWords log place ws fs r t answers
   unfolding onReplayWords
   lent-wrong e = so-no (lentOk place ws) _ _ _ e refl
 
   module _
       (ok : lentOk place ws ≡ true) (from : Place) (from-is : from ≡ placeFrom place) (given : Unpacked) (given-is : given ≡ unpacked ws)
-      (b : Batching) (b-is : b ≡ batchOf (logged log) from (world (given .state) r t) answers)
+      (b : Batching) (b-is : b ≡ batchOf (logged log) from (context (given .state) fs r t) answers)
     where
-      as-defined : b ≡ batchOf (logged log) (placeFrom place) (world (unpacked ws .state) r t) answers
+      as-defined : b ≡ batchOf (logged log) (placeFrom place) (context (unpacked ws .state) fs r t) answers
       as-defined =
           b-is
-          ∙ ap (λ (p : Place). batchOf (logged log) p (world (given .state) r t) answers) from-is
-          ∙ ap (λ (u : Unpacked). batchOf (logged log) (placeFrom place) (world (u .state) r t) answers) given-is
+          ∙ ap (λ (p : Place). batchOf (logged log) p (context (given .state) fs r t) answers) from-is
+          ∙ ap (λ (u : Unpacked). batchOf (logged log) (placeFrom place) (context (u .state) fs r t) answers) given-is
 
       pub handed-back :
           (n : ℕ) (p xs : List ℕ) → n ≡ b .number → p ≡ placeThen (b .number) (b .place) (b .count) place →
           xs ≡ wordsThen (b .number) (b .place) (b .count) (b .after .state) ws →
-          replayCalled n p xs (b .after .slots) (b .after .times) (b .room) ≡ onReplayWords log place ws r t answers
+          replayCalled n p xs (b .after .flows) (b .after .slots) (b .after .times) (b .room) ≡ onReplayWords log place ws fs r t answers
       unfolding onReplayWords handed
       handed-back n p xs n-is p-is xs-are = so-yes (lentOk place ws) _ _ _ ok (rw (n-is, p-is, xs-are) (ap (handed place ws) as-defined))

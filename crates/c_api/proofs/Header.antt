@@ -10,9 +10,9 @@ use lib.ListN.{length, take}
 use lib.Seq.{take-all}
 use borrow.Author.Tests.{eq-eqb}
 use Rattle.ledger.specs.Memory.{Memory}
-use Rattle.sender.specs.World.{World}
+use Rattle.context.specs.Context.{Context}
 use Rattle.replay.specs.Answers.{soundAfter}
-use Rattle.replay.specs.Places.{logged, soundPlace, Turning, turnsOf, lastPlace, lastWorld}
+use Rattle.replay.specs.Places.{logged, soundPlace, Turning, turnsOf, lastPlace, lastContext}
 use Rattle.replay.specs.Batches.{wordsOf}
 use Rattle.replay.specs.declared.Place.{Place}
 use Rattle.replay_chunks.specs.Chunks.{Chunking}
@@ -31,12 +31,12 @@ use Rattle.c_api.proofs.ChunkCalls.{between, Sound, matches, Run, run}
 use Rattle.c_api.proofs.ReplayCalls.{Stands, replays}
 use Rattle.c_api.proofs.Stored.{threeWords}
 
-module _ (piece ws : List ℕ) (r : Memory) (t : List ℕ) (sized : Sized piece ws) where
+module _ (piece ws fs : List ℕ) (r : Memory) (t : List ℕ) (sized : Sized piece ws) where
   abbrev l : Lent
-  l = chunkStart piece ws r t
+  l = chunkStart piece ws fs r t
 
   abbrev a : Placed
-  a = replayStart ws r t
+  a = replayStart ws fs r t
 
   abbrev b : Between
   b = between l
@@ -44,7 +44,7 @@ module _ (piece ws : List ℕ) (r : Memory) (t : List ℕ) (sized : Sized piece 
   abbrev p : Place
   p = b .carry .place
 
-  abbrev w : World
+  abbrev w : Context
   w = b .after
 
   -- before record 1 there is no state to hold together
@@ -71,7 +71,7 @@ module _ (piece ws : List ℕ) (r : Memory) (t : List ℕ) (sized : Sized piece 
       record {
         ok = rw (eq-eqb (length ws) wordCount (sized .many));
         place = refl;
-        world-is = refl;
+        context-is = refl;
         going = (starts, λ some. absurd (some refl));
         first-words = refl;
       }
@@ -113,8 +113,8 @@ module _ (piece ws : List ℕ) (r : Memory) (t : List ℕ) (sized : Sized piece 
         let made = replays (chunkLog l cs) a p w rooms start-stands in
         let same : ts ≡ us = same-turns rooms enough in
         let place : endFed b cs .carry .place ≡ lastPlace p us = g .place ∙ ap (lastPlace p) same in
-        let after : endFed b cs .after ≡ lastWorld w us = g .after ∙ ap (lastWorld w) same in
-        let world-after : between (chunkLast l cs) .after ≡ lastWorld w us = ap (λ (d : Between). d .after) (calls .last) ∙ after in
+        let after : endFed b cs .after ≡ lastContext w us = g .after ∙ ap (lastContext w) same in
+        let context-after : between (chunkLast l cs) .after ≡ lastContext w us = ap (λ (d : Between). d .after) (calls .last) ∙ after in
         let there = made .stands in
         record {
           answers = calls .answers ∙ (g .answers ∙ (ap wordsOf same ∙ sym (made .answers)));
@@ -125,9 +125,10 @@ module _ (piece ws : List ℕ) (r : Memory) (t : List ℕ) (sized : Sized piece 
               calls .words
               ∙ (ap (λ (q : Place). wordsThen 0 q (length ts) (endFed b cs .after .state) ws) place
               ∙ (ap (λ (n : ℕ). wordsThen 0 (lastPlace p us) n (endFed b cs .after .state) ws) (ap length same)
-              ∙ (ap (λ (v : World). wordsThen 0 (lastPlace p us) (length us) (v .state) ws) after ∙ sym (made .words))));
-          slots = ap (λ (v : World). v .slots) (world-after ∙ sym (there .world-is));
-          times = ap (λ (v : World). v .times) (world-after ∙ sym (there .world-is));
+              ∙ (ap (λ (v : Context). wordsThen 0 (lastPlace p us) (length us) (v .state) ws) after ∙ sym (made .words))));
+          flows = ap (λ (v : Context). v .flows) (context-after ∙ sym (there .context-is));
+          slots = ap (λ (v : Context). v .slots) (context-after ∙ sym (there .context-is));
+          times = ap (λ (v : Context). v .times) (context-after ∙ sym (there .context-is));
         }
 
     -- a call behind them

@@ -14,15 +14,16 @@ use Rattle.rules.specs.Rows.{firstOf}
 use Rattle.window.specs.Sound.{freshOf}
 use Rattle.window.specs.declared.Settings.{Settings}
 use Rattle.ledger.specs.Memory.{Memory}
-use Rattle.sender.specs.World.{World, Answered}
-use Rattle.sender.specs.Sound.{sound}
-use Rattle.sender.specs.Rows.{setUpRows}
-use Rattle.sender.specs.Start.{noSettings, freshState, onSetUp}
-use Rattle.sender.specs.Events.{onNewData, onSend, onAck, onNack, onLoss, onPath}
-use Rattle.sender.proofs.Starts.{set-up-sound}
-use Rattle.sender.proofs.Kept.{new-data-lasts, send-lasts, ack-lasts, nack-lasts, loss-lasts, path-lasts}
+use Rattle.sender.specs.Start.{noSettings}
+use Rattle.sender.specs.Start.{freshState as freshSender}
+use Rattle.context.specs.Context.{Context, Answered, sharedOf}
+use Rattle.context.specs.Sound.{soundContext}
+use Rattle.context.specs.Start.{setUpRows, freshState, onSetUp}
+use Rattle.context.specs.Events.{onNewData, onSend, onAck, onNack, onLoss, onPath}
+use Rattle.context.proofs.Starts.{set-up-sound}
+use Rattle.context.proofs.Kept.{new-data-lasts, send-lasts, ack-lasts, nack-lasts, loss-lasts, path-lasts}
 use Rattle.replay.specs.Answers.{soundAfter, onFirst, onLater, onEvent, Telling}
-use Rattle.replay.specs.Places.{Feed, soundPlace, Turning, placeAfter, turnOf, turnsOf, lastPlace, lastWorld}
+use Rattle.replay.specs.Places.{Feed, soundPlace, Turning, placeAfter, turnOf, turnsOf, lastPlace, lastContext}
 use Rattle.replay.specs.declared.Place.{Place}
 use Rattle.replay.specs.declared.Shown.{Shown}
 use Rattle.replay.specs.declared.records.Event.{Event}
@@ -35,30 +36,27 @@ use Rattle.c_state.proofs.Inverse.{sound-machine}
 
 -- ---- an event
 
-later-machine : (e : Event) (w : World) → sound w ≡ true → Machine (onLater e w .after .state)
+later-machine : (e : Event) (w : Context) → soundContext w ≡ true → Machine (onLater e w .after .state)
 unfolding onLater
-later-machine (event.NewData time bytes) w s = sound-machine (onNewData time bytes w .after) (new-data-lasts time bytes w s)
-later-machine (event.Send time a) w s = sound-machine (onSend time a w .after) (send-lasts time a w s)
-later-machine (event.Ack time a) w s = sound-machine (onAck time a w .after) (ack-lasts time a w s)
-later-machine (event.Nack time a) w s = sound-machine (onNack time a w .after) (nack-lasts time a w s)
-later-machine (event.Loss time a) w s = sound-machine (onLoss time a w .after) (loss-lasts time a w s)
-later-machine (event.Path time) w s = sound-machine (onPath time w .after) (path-lasts time w s)
+later-machine (event.NewData time k bytes) w s = sound-machine (onNewData time k bytes w .after) (new-data-lasts w s time k bytes)
+later-machine (event.Send time k a) w s = sound-machine (onSend time k a w .after) (send-lasts w s time k a)
+later-machine (event.Ack time k a) w s = sound-machine (onAck time k a w .after) (ack-lasts w s time k a)
+later-machine (event.Nack time k a) w s = sound-machine (onNack time k a w .after) (nack-lasts w s time k a)
+later-machine (event.Loss time k a) w s = sound-machine (onLoss time k a w .after) (loss-lasts w s time k a)
+later-machine (event.Path time k) w s = sound-machine (onPath time k w .after) (path-lasts w s time k)
 later-machine (event.SetUp x) w s = sound-machine w s
 
 -- ---- record 1
 
 -- a state of zeros
 zeros-machine : Machine (freshState noSettings)
-unfolding freshState noSettings freshOf
+unfolding freshState sharedOf freshSender noSettings freshOf
 zeros-machine =
     record {
       first-psn = omega arith;
       quick-adapt-off = omega arith;
-      low = omega arith;
-      next = omega arith;
       flying = omega arith;
       marked = omega arith;
-      backlog = refl;
       fast = omega arith;
       trigger = omega arith;
       cursor = omega arith;
@@ -66,15 +64,15 @@ zeros-machine =
       flown = record { low = omega arith; high = omega arith };
     }
 
-refused-zeros : (s : Settings) (r : Memory) (times : List ℕ) → (onSetUp s r times .number ≡ 0 → ⊥)
-    → onSetUp s r times .after .state ≡ freshState noSettings
+refused-zeros : (s : Settings) (fs : List ℕ) (r : Memory) (times : List ℕ) → (onSetUp s fs r times .number ≡ 0 → ⊥)
+    → onSetUp s fs r times .after .state ≡ freshState noSettings
 unfolding onSetUp
-refused-zeros s r times =
-    eq-both (λ (a : Answered). (a .number ≡ 0 → ⊥) → a .after .state ≡ freshState noSettings) (firstOf (setUpRows s r times)) 0 _ _
+refused-zeros s fs r times =
+    eq-both (λ (a : Answered). (a .number ≡ 0 → ⊥) → a .after .state ≡ freshState noSettings) (firstOf (setUpRows s fs r times)) 0 _ _
     (λ e h. absurd (h refl)) (λ e h. refl)
 
 -- setting up is not refused with 12
-no-twelve : (s : Settings) (w : World) → onSetUp s (w .slots) (w .times) .number ≡ 12 → ⊥
+no-twelve : (s : Settings) (w : Context) → onSetUp s (w .flows) (w .slots) (w .times) .number ≡ 12 → ⊥
 unfolding onSetUp firstOf
 no-twelve s w =
     eq-both (λ (a : Answered). a .number ≡ 12 → ⊥) _ 0 _ _
@@ -83,37 +81,37 @@ no-twelve s w =
     so-both (λ (n : ℕ). n ≡ 12 → ⊥) _ 1 _ (λ _ e. omega (arith, e))
     (λ _. so-both (λ (n : ℕ). n ≡ 12 → ⊥) _ 2 0 (λ _ e. omega (arith, e)) (λ _ e. omega (arith, e))))
 
-set-up-machine : (s : Settings) (w : World) → Machine (onSetUp s (w .slots) (w .times) .after .state)
+set-up-machine : (s : Settings) (w : Context) → Machine (onSetUp s (w .flows) (w .slots) (w .times) .after .state)
 set-up-machine s w =
-    by-cases (ℕ-discrete (onSetUp s (w .slots) (w .times) .number) 0)
-    (λ e. sound-machine (onSetUp s (w .slots) (w .times) .after) (set-up-sound s (w .slots) (w .times) e))
-    (λ e. rw (refused-zeros s (w .slots) (w .times) e) zeros-machine)
+    by-cases (ℕ-discrete (onSetUp s (w .flows) (w .slots) (w .times) .number) 0)
+    (λ e. sound-machine (onSetUp s (w .flows) (w .slots) (w .times) .after) (set-up-sound s (w .flows) (w .slots) (w .times) e))
+    (λ e. rw (refused-zeros s (w .flows) (w .slots) (w .times) e) zeros-machine)
 
-first-machine : (e : Event) (w : World) → (onFirst e w .number ≡ 12 → ⊥) → Machine (onFirst e w .after .state)
+first-machine : (e : Event) (w : Context) → (onFirst e w .number ≡ 12 → ⊥) → Machine (onFirst e w .after .state)
 unfolding onFirst
-first-machine (event.NewData time bytes) w n = absurd (n refl)
-first-machine (event.Send time a) w n = absurd (n refl)
-first-machine (event.Ack time a) w n = absurd (n refl)
-first-machine (event.Nack time a) w n = absurd (n refl)
-first-machine (event.Loss time a) w n = absurd (n refl)
-first-machine (event.Path time) w n = absurd (n refl)
+first-machine (event.NewData time k bytes) w n = absurd (n refl)
+first-machine (event.Send time k a) w n = absurd (n refl)
+first-machine (event.Ack time k a) w n = absurd (n refl)
+first-machine (event.Nack time k a) w n = absurd (n refl)
+first-machine (event.Loss time k a) w n = absurd (n refl)
+first-machine (event.Path time k) w n = absurd (n refl)
 first-machine (event.SetUp s) w n = set-up-machine s w
 
 -- a 12 changes nothing
-first-twelve : (e : Event) (w : World) → onFirst e w .number ≡ 12 → onFirst e w .after ≡ w
+first-twelve : (e : Event) (w : Context) → onFirst e w .number ≡ 12 → onFirst e w .after ≡ w
 unfolding onFirst
-first-twelve (event.NewData time bytes) w e = refl
-first-twelve (event.Send time a) w e = refl
-first-twelve (event.Ack time a) w e = refl
-first-twelve (event.Nack time a) w e = refl
-first-twelve (event.Loss time a) w e = refl
-first-twelve (event.Path time) w e = refl
+first-twelve (event.NewData time k bytes) w e = refl
+first-twelve (event.Send time k a) w e = refl
+first-twelve (event.Ack time k a) w e = refl
+first-twelve (event.Nack time k a) w e = refl
+first-twelve (event.Loss time k a) w e = refl
+first-twelve (event.Path time k) w e = refl
 first-twelve (event.SetUp s) w e = absurd (no-twelve s w e)
 
 -- ---- turns
 
 -- number 2 does not apply, and past record 1 the state is one that the machine can hold
-abbrev pub Going : Place → World → Type 0
+abbrev pub Going : Place → Context → Type 0
 Going p w = (soundPlace p w ≡ true) × ((p .done ≡ 0 → ⊥) → Machine (w .state))
 
 -- a record that is refused with 12 is not done
@@ -123,7 +121,7 @@ refused-done p next number shown e =
     ap (λ (q : Place). q .done) (eq-yes number 12 (record { at = p .at; done = p .done; stopped = true }) _ _ e refl)
 
 module _ (f : Feed) where
-  module _ (p : Place) (w : World) (going : Going p w) where
+  module _ (p : Place) (w : Context) (going : Going p w) where
     event-machine : p .stopped ≡ false → (e : Event) (next : ℕ)
         → let t = onEvent (p .done) e w in (placeAfter p next (t .number) (t .shown) .done ≡ 0 → ⊥) → Machine (t .after .state)
     unfolding onEvent soundAfter
@@ -142,27 +140,27 @@ module _ (f : Feed) where
           (λ s i. going .1),
     )
 
-  pub turns-going : (n : ℕ) (p : Place) (w : World) → Going p w
-      → Going (lastPlace p (take n (turnsOf f p w))) (lastWorld w (take n (turnsOf f p w)))
+  pub turns-going : (n : ℕ) (p : Place) (w : Context) → Going p w
+      → Going (lastPlace p (take n (turnsOf f p w))) (lastContext w (take n (turnsOf f p w)))
   turns-going = along Going f turn-going
 
   -- the records done only grow
-  turn-done : (p : Place) (w : World) → p .done ≤ turnOf f p w .place .done
+  turn-done : (p : Place) (w : Context) → p .done ≤ turnOf f p w .place .done
   unfolding placeAfter
   turn-done p w =
       turn-cases f p w (λ (t : Turning). p .done ≤ t .place .done) (omega arith)
       (λ e next s q. eq-both (λ (x : Place). p .done ≤ x .done) _ 12 _ _ (λ _. omega arith) (λ _. omega arith))
       (λ s i. eq-both (λ (x : Place). p .done ≤ x .done) _ 12 _ _ (λ _. omega arith) (λ _. omega arith))
 
-  pub done-forward : (n : ℕ) (p : Place) (w : World) → p .done ≤ lastPlace p (take n (turnsOf f p w)) .done
+  pub done-forward : (n : ℕ) (p : Place) (w : Context) → p .done ≤ lastPlace p (take n (turnsOf f p w)) .done
   done-forward n p w = along (λ q v. p .done ≤ q .done) f (λ q v h. omega (arith, h, turn-done q v)) n p w (omega arith)
 
   -- before record 1 is done nothing has changed
-  module _ (start : World) where
-    abbrev Unchanged : Place → World → Type 0
+  module _ (start : Context) where
+    abbrev Unchanged : Place → Context → Type 0
     Unchanged p w = p .done ≡ 0 → w ≡ start
 
-    event-unchanged : (p : Place) (w : World) → Unchanged p w → (e : Event) (next : ℕ)
+    event-unchanged : (p : Place) (w : Context) → Unchanged p w → (e : Event) (next : ℕ)
         → let t = onEvent (p .done) e w in Unchanged (placeAfter p next (t .number) (t .shown)) (t .after)
     unfolding onEvent placeAfter
     event-unchanged p w same e next =
@@ -179,12 +177,12 @@ module _ (f : Feed) where
             (λ is _. twelve is ∙ same z)
             (λ _ more. absurd (let no : ⊥ = omega (arith, more) in no))
 
-    turn-unchanged : (p : Place) (w : World) → Unchanged p w → Unchanged (turnOf f p w .place) (turnOf f p w .after)
+    turn-unchanged : (p : Place) (w : Context) → Unchanged p w → Unchanged (turnOf f p w .place) (turnOf f p w .after)
     unfolding placeAfter ifEq
     turn-unchanged p w same =
         turn-cases f p w (λ (t : Turning). Unchanged (t .place) (t .after)) same (λ e next s q. event-unchanged p w same e next)
         (λ s i. same)
 
-  pub none-changed : (n : ℕ) (p : Place) (w : World) → lastPlace p (take n (turnsOf f p w)) .done ≡ 0
-      → lastWorld w (take n (turnsOf f p w)) ≡ w
+  pub none-changed : (n : ℕ) (p : Place) (w : Context) → lastPlace p (take n (turnsOf f p w)) .done ≡ 0
+      → lastContext w (take n (turnsOf f p w)) ≡ w
   none-changed n p w = along (Unchanged w) f (turn-unchanged w) n p w (λ _. refl)

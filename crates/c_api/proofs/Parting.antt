@@ -13,7 +13,7 @@ use borrow.Author.Tests.{eqb-true, eq-eqb, ne-eqb}
 use Rattle.rules.specs.Branch.{so-yes, so-no}
 use Rattle.rules.specs.Test.{both}
 use Rattle.ledger.specs.Memory.{Memory}
-use Rattle.sender.specs.World.{world}
+use Rattle.context.specs.Context.{context}
 use Rattle.replay_chunks.specs.Chunks.{Chunking, chunkOf}
 use Rattle.replay_chunks.specs.declared.Carry.{Carry}
 use Rattle.c_state.specs.Layout.{wordCount, word, unpacked}
@@ -46,24 +46,26 @@ module _ (part ws : List ℕ) where
       let p = both (eqb (length part) partCount) (eqb (length ws) wordCount) (both _ _ e .0) in
       (eqb-true (length part) partCount (p .0), eqb-true (length ws) wordCount (p .1))
 
-module _ (chunk : List ℕ) (ended : Bool) (part piece ws : List ℕ) (r : Memory) (t answers : List ℕ) where
-  pub part-wrong : partOk part ws ≡ false → chunkCalled 2 part piece ws r t answers ≡ onChunkWords chunk ended part piece ws r t answers
+module _ (chunk : List ℕ) (ended : Bool) (part piece ws fs : List ℕ) (r : Memory) (t answers : List ℕ) where
+  pub part-wrong : partOk part ws ≡ false
+      → chunkCalled 2 part piece ws fs r t answers ≡ onChunkWords chunk ended part piece ws fs r t answers
   unfolding onChunkWords
   part-wrong e = so-no (partOk part ws) _ _ _ e refl
 
   module _
       (ok : partOk part ws ≡ true) (h : Carry) (h-is : h ≡ carryFrom part) (given : Unpacked) (given-is : given ≡ unpacked ws)
-      (b : Chunking) (b-is : b ≡ chunkOf h (world (given .state) r t) piece chunk ended answers)
+      (b : Chunking) (b-is : b ≡ chunkOf h (context (given .state) fs r t) piece chunk ended answers)
     where
-      as-defined : b ≡ chunkOf (carryFrom part) (world (unpacked ws .state) r t) piece chunk ended answers
+      as-defined : b ≡ chunkOf (carryFrom part) (context (unpacked ws .state) fs r t) piece chunk ended answers
       as-defined =
           b-is
-          ∙ ap (λ (x : Carry). chunkOf x (world (given .state) r t) piece chunk ended answers) h-is
-          ∙ ap (λ (u : Unpacked). chunkOf (carryFrom part) (world (u .state) r t) piece chunk ended answers) given-is
+          ∙ ap (λ (x : Carry). chunkOf x (context (given .state) fs r t) piece chunk ended answers) h-is
+          ∙ ap (λ (u : Unpacked). chunkOf (carryFrom part) (context (u .state) fs r t) piece chunk ended answers) given-is
 
       pub part-back :
           (n : ℕ) (p xs : List ℕ) → n ≡ b .number → p ≡ partThen (b .number) (b .carry) (b .count) (b .taken) part →
           xs ≡ wordsThen (b .number) (b .carry .place) (b .count) (b .after .state) ws →
-          chunkCalled n p (b .piece) xs (b .after .slots) (b .after .times) (b .room) ≡ onChunkWords chunk ended part piece ws r t answers
+          chunkCalled n p (b .piece) xs (b .after .flows) (b .after .slots) (b .after .times) (b .room)
+          ≡ onChunkWords chunk ended part piece ws fs r t answers
       unfolding onChunkWords handedPart
       part-back n p xs n-is p-is xs-are = so-yes (partOk part ws) _ _ _ ok (rw (n-is, p-is, xs-are) (ap (handedPart part ws) as-defined))

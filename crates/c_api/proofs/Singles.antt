@@ -2,26 +2,31 @@
 -- or a NACK's sample, above 32 bits.
 -- Assumes nothing.
 use mathlib.Core.Path.{_≡_, refl, sym, ap, _∙_}
-use mathlib.Core.Bool.{Bool, true, false}
-use mathlib.Core.List.{List}
+use mathlib.Core.Bool.{Bool, true, false, not}
+use mathlib.Core.List.{List, _∷_}
 use mathlib.Core.Option.{Option, none, some}
 use Prim.Native.Nat.{ℕ, _+_, _*_, _^_, _%_, _/_, _≤_}
 use native.Mathlib.Omega.{arith}
+use lib.Dec.{leb}
 use Rattle.rules.specs.Branch.{ifSo, ifEq, so-yes, so-no, so-both, eq-no, eq-both}
-use Rattle.rules.specs.Rows.{Row, firstOf}
+use Rattle.rules.specs.Rows.{Row, row, firstOf}
 use Rattle.rules.specs.Test.{inside}
 use Rattle.window.specs.declared.Sampling.{Sampling}
 use Rattle.ledger.specs.Memory.{Memory}
-use Rattle.sender.specs.World.{World, world, Answered, Routing, ringOf, viewOf, worldOf}
-use Rattle.sender.specs.Sound.{sound}
-use Rattle.sender.specs.Rows.{withSound, newDataRows, sendAllRows, ackAllRows, nackAllRows, lossAllRows, pathRows}
-use Rattle.sender.specs.Steps.{ackSampling, ackStep, nackSampling, nackStep, pathStep}
-use Rattle.sender.specs.Events.{decided, onNewData, onSend, onAck, says, onNack, onLoss, onPath}
+use Rattle.sender.specs.World.{ringOf, viewOf}
+use Rattle.sender.specs.Steps.{ackSampling, nackSampling, routeOf}
+use Rattle.sender.specs.Events.{says}
 use Rattle.sender.specs.declared.Send.{Send}
 use Rattle.sender.specs.declared.Ack.{Ack}
 use Rattle.sender.specs.declared.Nack.{Nack}
 use Rattle.sender.specs.declared.Loss.{Loss}
-use Rattle.sender.proofs.Rowing.{numbered, first-most, send-all-numbered, answer, taken, untaken, entry-unsound}
+use Rattle.sender.proofs.Rowing.{numbered, first-most, send-all-numbered}
+use Rattle.context.specs.Context.{Context, context, Answered, Routing, flowCount, worldAt}
+use Rattle.context.specs.Sound.{soundContext}
+use Rattle.context.specs.Rows.{flowRow, withSound}
+use Rattle.context.specs.Events.{decided, chosen, newDataOf, sendOf, ackOf, ackLeft, nackOf, nackLeft, lossOf, pathOf, pathLeft}
+use Rattle.context.specs.Events.{onNewData, onSend, onAck, onNack, onLoss, onPath}
+use Rattle.context.proofs.Entries.{unsound-answer, unsound-route}
 use Rattle.replay.specs.Answers.{stated, shownSays, heardBy, routedBy, shownPath, onLater}
 use Rattle.replay.specs.Batches.{aboveOf, Saying, worded, onceOf}
 use Rattle.replay.specs.declared.Shown.{Shown}
@@ -33,92 +38,90 @@ use Rattle.c_api.specs.Calls.{Called, called, wordsAfter, packedWord, Be
 use Rattle.c_api.specs.Calls.{onWords, onEventWords, onBesideWords}
 
 -- a number stands in the low 32 bits, another above them
-pub word-parts : (ev n : ℕ) → n ≤ 24 → ((2 ^ 32 * ev + n) % 2 ^ 32 ≡ n) × ((2 ^ 32 * ev + n) / 2 ^ 32 ≡ ev)
+pub word-parts : (ev n : ℕ) → n ≤ 25 → ((2 ^ 32 * ev + n) % 2 ^ 32 ≡ n) × ((2 ^ 32 * ev + n) / 2 ^ 32 ≡ ev)
 word-parts ev n h = (omega arith, omega arith)
 
--- a word and a world
-abbrev said : ℕ → World → Saying
-said n w = record { word = n; after = w }
+-- a word and a context
+abbrev said : ℕ → Context → Saying
+said n x = record { word = n; after = x }
 
 -- ---- one event, by its rows
 
-two-more : (w : World) (xs : List Row) → numbered xs ≡ true → numbered (withSound w xs) ≡ true
-unfolding numbered inside
-two-more w xs e = e
-
--- 2, and the rows of an event, whose numbers are those of 01's table
-with-most : (w : World) (xs : List Row) → numbered xs ≡ true → firstOf (withSound w xs) ≤ 24
-with-most w xs e = first-most (withSound w xs) (two-more w xs e)
+-- 2, 3, a flow out of range (25), and the other rows of an event, whose numbers are those of 01's table
+with-most : (x : Context) (late : Bool) (k : ℕ) (xs : List Row) → numbered xs ≡ true
+    → firstOf (withSound x (row late 3 ∷ flowRow k x ∷ xs)) ≤ 25
+unfolding firstOf
+with-most x late k xs e =
+    so-both (λ (n : ℕ). n ≤ 25) (not (soundContext x)) 2 _ (λ _. omega arith)
+    (λ _.
+    so-both (λ (n : ℕ). n ≤ 25) late 3 _ (λ _. omega arith)
+    (λ _.
+    so-both (λ (n : ℕ). n ≤ 25) (leb (flowCount x) k) 25 _ (λ _. omega arith)
+    (λ _. omega (arith, first-most xs e))))
 
 -- the event's answer is what one event is answered, and its number is one of the table's
-pub record Single (e : Event) (w : World) (x : Answered) : Type 0 where
-  pub is : onceOf e w ≡ said (x .number) (x .after)
-  pub most : x .number ≤ 24
+pub record Single (e : Event) (x : Context) (a : Answered) : Type 0 where
+  pub is : onceOf e x ≡ said (a .number) (a .after)
+  pub most : a .number ≤ 25
 
 plain : (n : ℕ) → 2 ^ 32 * 0 + n ≡ n
 plain n = omega arith
 
-module _ (e : Event) (w : World) (xs : List Row) (after : World) where
+module _ (e : Event) (x : Context) (xs : List Row) (after : Context) where
   abbrev judged : Answered
-  judged = decided (firstOf (withSound w xs)) w after
+  judged = decided (firstOf (withSound x xs)) x after
 
-  judged-most : numbered xs ≡ true → judged .number ≤ 24
+  judged-most : firstOf (withSound x xs) ≤ 25 → judged .number ≤ 25
   unfolding decided
-  judged-most k = eq-both (λ (a : Answered). a .number ≤ 24) (firstOf (withSound w xs)) 0 _ _ (λ _. omega arith) (λ _. with-most w xs k)
+  judged-most m = eq-both (λ (a : Answered). a .number ≤ 25) (firstOf (withSound x xs)) 0 _ _ (λ _. omega arith) (λ _. m)
 
-  judged-unsound : sound w ≡ false → answer 2 w ≡ judged
-  unfolding decided
-  judged-unsound h = entry-unsound w xs (answer 0 after) (λ n. answer n w) (answer 2 w) h refl
+  judged-unsound : soundContext x ≡ false → record { number = 2; after = x } ≡ judged
+  judged-unsound h = unsound-answer x h xs after
 
-  judged-said : onLater e w ≡ stated judged → (s : Bool) → sound w ≡ s → onceOf e w ≡ said (judged .number) (judged .after)
+  judged-said : onLater e x ≡ stated judged → (s : Bool) → soundContext x ≡ s → onceOf e x ≡ said (judged .number) (judged .after)
   unfolding onceOf
   judged-said q true h =
-      sym (so-yes (sound w) (worded (onLater e w)) (worded (onLater e w)) (said 2 w) h refl)
+      sym (so-yes (soundContext x) (worded (onLater e x)) (worded (onLater e x)) (said 2 x) h refl)
       ∙ (ap worded q ∙ ap (λ (n : ℕ). said n (judged .after)) (plain (judged .number)))
   judged-said q false h =
-      sym (so-no (sound w) (said 2 w) (worded (onLater e w)) (said 2 w) h refl)
+      sym (so-no (soundContext x) (said 2 x) (worded (onLater e x)) (said 2 x) h refl)
       ∙ ap (λ (a : Answered). said (a .number) (a .after)) (judged-unsound h)
 
-  single-by : numbered xs ≡ true → onLater e w ≡ stated judged → Single e w judged
-  single-by k q = record { is = judged-said q (sound w) refl; most = judged-most k }
+  single-by : firstOf (withSound x xs) ≤ 25 → onLater e x ≡ stated judged → Single e x judged
+  single-by m q = record { is = judged-said q (soundContext x) refl; most = judged-most m }
 
-module _ (time : ℕ) (w : World) where
-  pub new-data-single : (bytes : ℕ) → Single (event.NewData time bytes) w (onNewData time bytes w)
+module _ (time k : ℕ) (x : Context) where
+  pub new-data-single : (bytes : ℕ) → Single (event.NewData time k bytes) x (onNewData time k bytes x)
   unfolding onNewData onLater numbered inside
-  new-data-single bytes = single-by (event.NewData time bytes) w (newDataRows time bytes (w .state)) _ refl refl
+  new-data-single bytes = single-by (event.NewData time k bytes) x (newDataOf time k bytes x) _ (with-most x _ k _ refl) refl
 
-  pub send-single : (a : Send) → Single (event.Send time a) w (onSend time a w)
-  unfolding onSend onLater
-  send-single a = single-by (event.Send time a) w (sendAllRows time a (w .state) (ringOf w)) _
-      (send-all-numbered time a (w .state) (ringOf w)) refl
+  pub send-single : (a : Send) → Single (event.Send time k a) x (onSend time k a x)
+  unfolding onSend onLater numbered inside
+  send-single a = single-by (event.Send time k a) x (sendOf time k a x) _
+      (with-most x _ k _ (send-all-numbered time a (worldAt k x .state) (ringOf (worldAt k x)))) refl
 
-  pub loss-single : (a : Loss) → Single (event.Loss time a) w (onLoss time a w)
+  pub loss-single : (a : Loss) → Single (event.Loss time k a) x (onLoss time k a x)
   unfolding onLoss onLater numbered inside
-  loss-single a = single-by (event.Loss time a) w (lossAllRows time a (w .state) (ringOf w)) _ refl refl
+  loss-single a = single-by (event.Loss time k a) x (lossOf time k a x) _ (with-most x _ k _ refl) refl
 
 -- ---- an event whose answer has a second number
 
 -- the event's answer is what one event is answered, its word of both numbers, and the first is one of the table's
-pub record Double (e : Event) (w : World) (x : Beside) : Type 0 where
-  pub is : onceOf e w ≡ said (besideWord x) (x .after)
-  pub most : x .number ≤ 24
+pub record Double (e : Event) (x : Context) (a : Beside) : Type 0 where
+  pub is : onceOf e x ≡ said (besideWord a) (a .after)
+  pub most : a .number ≤ 25
 
 -- from its word where state and buffers hold together, and from 2 alone where they don't
-double-said : (e : Event) (w : World) (x : Beside) → worded (onLater e w) ≡ said (besideWord x) (x .after)
-    → (sound w ≡ false → record { number = 2; above = 0; after = w } ≡ x) → (s : Bool) → sound w ≡ s
-    → onceOf e w ≡ said (besideWord x) (x .after)
+double-said : (e : Event) (x : Context) (a : Beside) → worded (onLater e x) ≡ said (besideWord a) (a .after)
+    → (soundContext x ≡ false → record { number = 2; above = 0; after = x } ≡ a) → (s : Bool) → soundContext x ≡ s
+    → onceOf e x ≡ said (besideWord a) (a .after)
 unfolding onceOf
-double-said e w x f g true h = sym (so-yes (sound w) (worded (onLater e w)) (worded (onLater e w)) (said 2 w) h refl) ∙ f
-double-said e w x f g false h =
-    sym (so-no (sound w) (said 2 w) (worded (onLater e w)) (said 2 w) h refl) ∙ ap (λ (y : Beside). said (besideWord y) (y .after)) (g h)
+double-said e x a f g true h = sym (so-yes (soundContext x) (worded (onLater e x)) (worded (onLater e x)) (said 2 x) h refl) ∙ f
+double-said e x a f g false h =
+    sym (so-no (soundContext x) (said 2 x) (worded (onLater e x)) (said 2 x) h refl)
+    ∙ ap (λ (b : Beside). said (besideWord b) (b .after)) (g h)
 
 -- ---- a path choice
-
-pub path-most : (time : ℕ) (w : World) → onPath time w .number ≤ 24
-unfolding onPath numbered inside
-path-most time w =
-    let rows = withSound w (pathRows time (w .state)) in
-    eq-both (λ (a : Routing). a .number ≤ 24) (firstOf rows) 0 _ _ (λ _. omega arith) (λ _. first-most rows refl)
 
 shown-yes : (ev : ℕ) → shownPath 0 ev ≡ Path ev
 unfolding shownPath ifEq
@@ -128,30 +131,38 @@ shown-no : (n ev : ℕ) → (n ≡ 0 → ⊥) → shownPath n ev ≡ State
 unfolding shownPath
 shown-no n ev h = sym (eq-no n 0 State (Path ev) State h refl)
 
--- its word has the EV where it was accepted; a refused one has the EV 0
-path-worded : (time : ℕ) (w : World) → worded (routedBy (onPath time w)) ≡ said (besideWord (pathBeside time w)) (onPath time w .after)
-unfolding onPath
-path-worded time w =
-    let n = firstOf (withSound w (pathRows time (w .state))) in
-    eq-both (λ (a : Routing). worded (routedBy a) ≡ said (2 ^ 32 * a .ev + a .number) (a .after)) n 0 (taken time w) (untaken n w)
-    (λ _. ap (λ (s : Shown). worded (record { number = 0; shown = s; after = worldOf (pathStep time (viewOf w)) })) (shown-yes
-    (taken time w .ev)))
-    (λ no. ap (λ (s : Shown). worded (record { number = n; shown = s; after = w })) (shown-no n 0 no))
+module _ (time k : ℕ) (x : Context) where
+  pub path-most : onPath time k x .number ≤ 25
+  unfolding onPath chosen numbered inside
+  path-most =
+      eq-both (λ (a : Routing). a .number ≤ 25) (firstOf (withSound x (pathOf time k x))) 0 _ _ (λ _. omega arith)
+      (λ _. with-most x _ k _ refl)
 
-path-unsound : (time : ℕ) (w : World) → sound w ≡ false → untaken 2 w ≡ onPath time w
-unfolding onPath
-path-unsound time w h = entry-unsound w (pathRows time (w .state)) (taken time w) (λ n. untaken n w) (untaken 2 w) h refl
+  -- its word has the EV where it was accepted; a refused one has the EV 0
+  path-worded : worded (routedBy (onPath time k x)) ≡ said (besideWord (pathBeside time k x)) (onPath time k x .after)
+  unfolding onPath chosen
+  path-worded =
+      let n = firstOf (withSound x (pathOf time k x)) in
+      eq-both (λ (a : Routing). worded (routedBy a) ≡ said (2 ^ 32 * a .ev + a .number) (a .after)) n 0 _ _
+      (λ _.
+      ap (λ (s : Shown). worded (record { number = 0; shown = s; after = pathLeft time k x }))
+      (shown-yes (routeOf time (viewOf (worldAt k x)) .ev)))
+      (λ no. ap (λ (s : Shown). worded (record { number = n; shown = s; after = x })) (shown-no n 0 no))
 
-pub path-double : (time : ℕ) (w : World) → Double (event.Path time) w (pathBeside time w)
-unfolding onLater
-path-double time w =
-    record {
-      is =
-          double-said (event.Path time) w (pathBeside time w) (path-worded time w)
-          (λ h. ap (λ (a : Routing). record { number = a .number; above = a .ev; after = a .after }) (path-unsound time w h)) (sound w)
-          refl;
-      most = path-most time w;
-    }
+  path-unsound : soundContext x ≡ false → record { number = 2; ev = 0; after = x } ≡ onPath time k x
+  unfolding onPath
+  path-unsound h = unsound-route x h (pathOf time k x) _ _
+
+  pub path-double : Double (event.Path time k) x (pathBeside time k x)
+  unfolding onLater
+  path-double =
+      record {
+        is =
+            double-said (event.Path time k) x (pathBeside time k x) path-worded
+            (λ h. ap (λ (a : Routing). record { number = a .number; above = a .ev; after = a .after }) (path-unsound h))
+            (soundContext x) refl;
+        most = path-most;
+      }
 
 -- ---- an ACK or a NACK
 
@@ -161,65 +172,66 @@ unfolding shownSays kindIn
 kind-shown none = refl
 kind-shown (some sampling) = refl
 
-module _ (e : Event) (w : World) (xs : List Row) (after : World) (sampling : Sampling) where
+module _ (e : Event) (x : Context) (xs : List Row) (after : Context) (sampling : Sampling) where
   abbrev sensed : Answered
-  sensed = decided (firstOf (withSound w xs)) w after
+  sensed = decided (firstOf (withSound x xs)) x after
 
   abbrev beside : Answered → Beside
   beside a = record { number = a .number; above = kindIn (says (a .number) sampling); after = a .after }
 
-  heard-unsound : sound w ≡ false → record { number = 2; above = 0; after = w } ≡ beside sensed
+  heard-unsound : soundContext x ≡ false → record { number = 2; above = 0; after = x } ≡ beside sensed
   unfolding says kindIn ifEq
-  heard-unsound h = ap beside (judged-unsound e w xs after h)
+  heard-unsound h = ap beside (judged-unsound e x xs after h)
 
-  heard-double : numbered xs ≡ true → onLater e w ≡ heardBy (says (sensed .number) sampling) sensed → Double e w (beside sensed)
-  heard-double k q =
+  heard-double : firstOf (withSound x xs) ≤ 25 → onLater e x ≡ heardBy (says (sensed .number) sampling) sensed → Double e x (beside sensed)
+  heard-double m q =
       record {
         is =
-            double-said e w (beside sensed)
+            double-said e x (beside sensed)
             (ap worded q ∙ ap (λ (n : ℕ). said (2 ^ 32 * n + sensed .number) (sensed .after)) (kind-shown (says (sensed .number) sampling)))
-            heard-unsound (sound w) refl;
-        most = judged-most e w xs after k;
+            heard-unsound (soundContext x) refl;
+        most = judged-most e x xs after m;
       }
 
-module _ (time : ℕ) (w : World) where
-  pub ack-double : (a : Ack) → Double (event.Ack time a) w (ackBeside time a w)
+module _ (time k : ℕ) (x : Context) where
+  pub ack-double : (a : Ack) → Double (event.Ack time k a) x (ackBeside time k a x)
   unfolding onAck onLater numbered inside
-  ack-double a = heard-double (event.Ack time a) w (ackAllRows time a (w .state)) (worldOf (ackStep time a (viewOf w)))
-      (ackSampling time a (viewOf w)) refl refl
+  ack-double a = heard-double (event.Ack time k a) x (ackOf time k a x) (ackLeft time k a x)
+      (ackSampling time a (viewOf (worldAt k x))) (with-most x _ k _ refl) refl
 
-  pub nack-double : (a : Nack) → Double (event.Nack time a) w (nackBeside time a w)
+  pub nack-double : (a : Nack) → Double (event.Nack time k a) x (nackBeside time k a x)
   unfolding onNack onLater numbered inside
-  nack-double a = heard-double (event.Nack time a) w (nackAllRows time a (w .state) (ringOf w)) (worldOf (nackStep time a (viewOf w)))
-      (nackSampling time a (viewOf w)) refl refl
+  nack-double a = heard-double (event.Nack time k a) x (nackOf time k a x) (nackLeft time k a x)
+      (nackSampling time a (viewOf (worldAt k x))) (with-most x _ k _ refl) refl
 
 -- ---- over lent words
 
-module _ (ws : List ℕ) (r : Memory) (t : List ℕ) where
-  pub words-on : (e : Event) (on : World → Answered) → ((w : World) → Single e w (on w)) → onEventWords e ws r t ≡ onWords ws r t on
+module _ (ws fs : List ℕ) (r : Memory) (t : List ℕ) where
+  pub words-on : (e : Event) (on : Context → Answered) → ((x : Context) → Single e x (on x))
+      → onEventWords e ws fs r t ≡ onWords ws fs r t on
   unfolding onEventWords onWords
   words-on e on single =
-      let w = world (stateFrom ws) r t in
-      let x = on w in
-      let low : x .number % 2 ^ 32 ≡ x .number = omega (arith, single w .most) in
-      ap (λ (c : Called). ifSo (wordsOk ws) c (called 2 ws r t))
-      (ap (packedWord ws) (single w .is) ∙ ap (λ (n : ℕ). called (x .number) (wordsAfter n ws (x .after .state)) (x .after .slots)
-      (x .after .times)) low)
+      let x = context (stateFrom ws) fs r t in
+      let a = on x in
+      let low : a .number % 2 ^ 32 ≡ a .number = omega (arith, single x .most) in
+      ap (λ (c : Called). ifSo (wordsOk ws) c (called 2 ws fs r t))
+      (ap (packedWord ws) (single x .is)
+      ∙ ap (λ (n : ℕ). called (a .number) (wordsAfter n ws (a .after .state)) (a .after .flows) (a .after .slots) (a .after .times)) low)
 
-  pub word-most : (e : Event) (on : World → Answered) → ((w : World) → Single e w (on w)) → (c : Called) → c ≡ onEventWords e ws r t
-      → c .number ≤ 24
+  pub word-most : (e : Event) (on : Context → Answered) → ((x : Context) → Single e x (on x)) → (c : Called)
+      → c ≡ onEventWords e ws fs r t → c .number ≤ 25
   unfolding onWords
   word-most e on single c q =
       rw (q ∙ words-on e on single)
-      (so-both (λ (x : Called). x .number ≤ 24) (wordsOk ws) _ _ (λ _. single (world (stateFrom ws) r t) .most) (λ _. omega arith))
+      (so-both (λ (d : Called). d .number ≤ 25) (wordsOk ws) _ _ (λ _. single (context (stateFrom ws) fs r t) .most) (λ _. omega arith))
 
-  pub beside-words-on : (e : Event) (on : World → Beside) → ((w : World) → Double e w (on w))
-      → onEventWords e ws r t ≡ onBesideWords ws r t on
+  pub beside-words-on : (e : Event) (on : Context → Beside) → ((x : Context) → Double e x (on x))
+      → onEventWords e ws fs r t ≡ onBesideWords ws fs r t on
   unfolding onEventWords onBesideWords
   beside-words-on e on double =
-      let w = world (stateFrom ws) r t in
-      let a = on w in
-      ap (λ (c : Called). ifSo (wordsOk ws) c (called 2 ws r t))
-      (ap (packedWord ws) (double w .is)
-      ∙ ap (λ (n : ℕ). called (besideWord a) (wordsAfter n ws (a .after .state)) (a .after .slots) (a .after .times))
-      (word-parts (a .above) (a .number) (double w .most) .0))
+      let x = context (stateFrom ws) fs r t in
+      let a = on x in
+      ap (λ (c : Called). ifSo (wordsOk ws) c (called 2 ws fs r t))
+      (ap (packedWord ws) (double x .is)
+      ∙ ap (λ (n : ℕ). called (besideWord a) (wordsAfter n ws (a .after .state)) (a .after .flows) (a .after .slots) (a .after .times))
+      (word-parts (a .above) (a .number) (double x .most) .0))

@@ -11,9 +11,9 @@ use lib.Dec.{eqb, ltb}
 use lib.ListN.{length, take}
 use borrow.Author.Tests.{eq-eqb, ne-eqb}
 use Rattle.rules.specs.Branch.{ifSo, ifEq, so-no, so-both}
-use Rattle.sender.specs.World.{World}
-use Rattle.sender.specs.declared.Controller.{Controller}
-use Rattle.replay.specs.Places.{Feed, Turning, turnsOf, lastPlace, lastWorld}
+use Rattle.context.specs.Context.{Context}
+use Rattle.context.specs.declared.Controller.{Controller}
+use Rattle.replay.specs.Places.{Feed, Turning, turnsOf, lastPlace, lastContext}
 use Rattle.replay.specs.declared.Place.{Place}
 use Rattle.replay_chunks.specs.declared.Carry.{Carry}
 use Rattle.c_state.specs.Layout.{wordCount, stateWords, unpacked}
@@ -58,33 +58,33 @@ no-turns : (ts : List Turning) → length ts ≡ 0 → ts ≡ []
 no-turns [] e = refl
 no-turns (t ∷ ts) e = absurd (let no : ⊥ = omega (arith, e) in no)
 
-module _ (f : Feed) (n : ℕ) (p : Place) (w : World) where
+module _ (f : Feed) (n : ℕ) (p : Place) (w : Context) where
   abbrev ts : List Turning
   ts = take n (turnsOf f p w)
 
   abbrev there : Place
   there = lastPlace p ts
 
-  abbrev then : World
-  then = lastWorld w ts
+  abbrev then : Context
+  then = lastContext w ts
 
   pub back : Going p w → (ws : List ℕ) → unpacked ws .state ≡ w .state
       → unpacked (wordsThen 0 there (length ts) (then .state) ws) .state ≡ then .state
-  unfolding lastWorld
+  unfolding lastContext
   back going ws e =
       by-cases (ℕ-discrete (length ts) 0)
       (λ z.
       rw (none-stored there (length ts) (then .state) ws z)
-      (e ∙ sym (ap (λ (l : List Turning). lastWorld w l .state) (no-turns ts z))))
+      (e ∙ sym (ap (λ (l : List Turning). lastContext w l .state) (no-turns ts z))))
       (λ some.
       by-cases (ℕ-discrete (there .done) 0)
-      (λ z. rw (not-stored there (length ts) (then .state) ws z) (e ∙ sym (ap (λ (v : World). v .state) (none-changed f n p w z))))
+      (λ z. rw (not-stored there (length ts) (then .state) ws z) (e ∙ sym (ap (λ (v : Context). v .state) (none-changed f n p w z))))
       (λ done. rw (stored there (length ts) (then .state) ws some done) (read-back (then .state) (turns-going f n p w going .1 done))))
 
   pub twice : (count : ℕ) (ws : List ℕ)
       → wordsThen 0 there (length ts) (then .state) (wordsThen 0 p count (w .state) ws)
       ≡ wordsThen 0 there (count + length ts) (then .state) ws
-  unfolding lastPlace lastWorld
+  unfolding lastPlace lastContext
   twice count ws =
       let once = wordsThen 0 p count (w .state) ws in
       by-cases (ℕ-discrete (length ts) 0)
@@ -94,7 +94,7 @@ module _ (f : Feed) (n : ℕ) (p : Place) (w : World) where
       none-stored there (length ts) (then .state) once z
       ∙ sym
       (ap (λ (k : ℕ). wordsThen 0 there k (then .state) ws) same
-      ∙ ap (λ (l : List Turning). wordsThen 0 (lastPlace p l) count (lastWorld w l .state) ws) none))
+      ∙ ap (λ (l : List Turning). wordsThen 0 (lastPlace p l) count (lastContext w l .state) ws) none))
       (λ some.
       by-cases (ℕ-discrete (there .done) 0)
       (λ z.

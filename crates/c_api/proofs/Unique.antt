@@ -5,7 +5,7 @@ use mathlib.Core.Bool.{Bool}
 use mathlib.Core.List.{List}
 use Prim.Native.Nat.{ℕ}
 use Rattle.ledger.specs.Memory.{Memory}
-use Rattle.sender.specs.Events.{onNewData, onSend, onLoss}
+use Rattle.context.specs.Events.{onNewData, onSend, onLoss}
 use Rattle.rules.specs.Unique.{OneOutcome, one-outcome}
 use Rattle.c_api.specs.Calls.{sendBy, ackBy, nackBy, lossBy, Called, called, onWords, pathBeside, ackBeside, nackBeside}
 use Rattle.c_api.specs.Calls.{onBesideWords, onSetUpWords}
@@ -17,43 +17,45 @@ use Rattle.c_api.specs.Parts.{Chunked, chunkCalled, onChunkWords}
 pub record Outcome : Type 0 where
   pub number : ℕ
   pub state : List ℕ
+  pub flows : List ℕ
   pub slots : Memory
   pub evs : List ℕ
 
 -- what the contracts make of it
 abbrev pub made : Outcome → Called
-made x = called (x .number) (x .state) (x .slots) (x .evs)
+made x = called (x .number) (x .state) (x .flows) (x .slots) (x .evs)
 
 abbrev back : Called → Outcome
-back c = record { number = c .number; state = c .words; slots = c .slots; evs = c .times }
+back c = record { number = c .number; state = c .words; flows = c .flows; slots = c .slots; evs = c .times }
 
 call-unique : (wanted : Called) → OneOutcome made wanted
 call-unique = one-outcome made back (λ x. refl)
 
--- handed the words of a state, a ring and EV times
-module _ (ws : List ℕ) (r : Memory) (t : List ℕ) where
-  pub set-up-unique : (settings : List ℕ) (psn off : ℕ) (evs : ℕ) → OneOutcome made (onSetUpWords settings psn off evs ws r t)
+-- handed the words of a state, a table of flows, a ring buffer and EV times; of flow k
+module _ (ws fs : List ℕ) (r : Memory) (t : List ℕ) where
+  pub set-up-unique : (settings : List ℕ) (psn off : ℕ) (evs : ℕ) → OneOutcome made (onSetUpWords settings psn off evs ws fs r t)
   set-up-unique settings psn off evs = call-unique _
 
-  pub new-data-unique : (time bytes : ℕ) → OneOutcome made (onWords ws r t (onNewData time bytes))
-  new-data-unique time bytes = call-unique _
+  pub new-data-unique : (time k bytes : ℕ) → OneOutcome made (onWords ws fs r t (onNewData time k bytes))
+  new-data-unique time k bytes = call-unique _
 
-  pub send-unique : (time psn bytes : ℕ) (resend : Bool) → OneOutcome made (onWords ws r t (onSend time (sendBy psn bytes resend)))
-  send-unique time psn bytes resend = call-unique _
+  pub send-unique : (time k psn bytes : ℕ) (resend : Bool)
+      → OneOutcome made (onWords ws fs r t (onSend time k (sendBy psn bytes resend)))
+  send-unique time k psn bytes resend = call-unique _
 
-  pub ack-unique : (time cum map trigger count service ev : ℕ) (marked retx : Bool)
-      → OneOutcome made (onBesideWords ws r t (ackBeside time (ackBy cum map trigger count service ev marked retx)))
-  ack-unique time cum map trigger count service ev marked retx = call-unique _
+  pub ack-unique : (time k cum map trigger count service ev : ℕ) (marked retx : Bool)
+      → OneOutcome made (onBesideWords ws fs r t (ackBeside time k (ackBy cum map trigger count service ev marked retx)))
+  ack-unique time k cum map trigger count service ev marked retx = call-unique _
 
-  pub nack-unique : (time psn ev reason : ℕ) (marked retx : Bool)
-      → OneOutcome made (onBesideWords ws r t (nackBeside time (nackBy psn ev reason marked retx)))
-  nack-unique time psn ev reason marked retx = call-unique _
+  pub nack-unique : (time k psn ev reason : ℕ) (marked retx : Bool)
+      → OneOutcome made (onBesideWords ws fs r t (nackBeside time k (nackBy psn ev reason marked retx)))
+  nack-unique time k psn ev reason marked retx = call-unique _
 
-  pub loss-unique : (time psn ev : ℕ) → OneOutcome made (onWords ws r t (onLoss time (lossBy psn ev)))
-  loss-unique time psn ev = call-unique _
+  pub loss-unique : (time k psn ev : ℕ) → OneOutcome made (onWords ws fs r t (onLoss time k (lossBy psn ev)))
+  loss-unique time k psn ev = call-unique _
 
-  pub path-unique : (time : ℕ) → OneOutcome made (onBesideWords ws r t (pathBeside time))
-  path-unique time = call-unique _
+  pub path-unique : (time k : ℕ) → OneOutcome made (onBesideWords ws fs r t (pathBeside time k))
+  path-unique time k = call-unique _
 
 -- ---- a replay, and a replay in chunks
 
@@ -61,38 +63,41 @@ pub record ReplayOutcome : Type 0 where
   pub number : ℕ
   pub place : List ℕ
   pub state : List ℕ
+  pub flows : List ℕ
   pub slots : Memory
   pub evs : List ℕ
   pub answers : List ℕ
 
 abbrev pub madeReplay : ReplayOutcome → Replayed
-madeReplay x = replayCalled (x .number) (x .place) (x .state) (x .slots) (x .evs) (x .answers)
+madeReplay x = replayCalled (x .number) (x .place) (x .state) (x .flows) (x .slots) (x .evs) (x .answers)
 
 abbrev backReplay : Replayed → ReplayOutcome
 backReplay c = record {
   number = c .number;
   place = c .place;
   state = c .words;
+  flows = c .flows;
   slots = c .slots;
   evs = c .times;
   answers = c .answers;
 }
 
-pub replay-unique : (log place ws : List ℕ) (r : Memory) (t answers : List ℕ) → OneOutcome madeReplay (onReplayWords log
-    place ws r t answers)
-replay-unique log place ws r t answers = one-outcome madeReplay backReplay (λ x. refl) _
+pub replay-unique : (log place ws fs : List ℕ) (r : Memory) (t answers : List ℕ) → OneOutcome madeReplay (onReplayWords log
+    place ws fs r t answers)
+replay-unique log place ws fs r t answers = one-outcome madeReplay backReplay (λ x. refl) _
 
 pub record ChunkOutcome : Type 0 where
   pub number : ℕ
   pub part : List ℕ
   pub piece : List ℕ
   pub state : List ℕ
+  pub flows : List ℕ
   pub slots : Memory
   pub evs : List ℕ
   pub answers : List ℕ
 
 abbrev pub madeChunk : ChunkOutcome → Chunked
-madeChunk x = chunkCalled (x .number) (x .part) (x .piece) (x .state) (x .slots) (x .evs) (x .answers)
+madeChunk x = chunkCalled (x .number) (x .part) (x .piece) (x .state) (x .flows) (x .slots) (x .evs) (x .answers)
 
 abbrev backChunk : Chunked → ChunkOutcome
 backChunk c =
@@ -101,11 +106,12 @@ backChunk c =
       part = c .part;
       piece = c .piece;
       state = c .words;
+      flows = c .flows;
       slots = c .slots;
       evs = c .times;
       answers = c .answers;
     }
 
-pub chunk-unique : (chunk : List ℕ) (ended : Bool) (part piece ws : List ℕ) (r : Memory) (t answers : List ℕ)
-    → OneOutcome madeChunk (onChunkWords chunk ended part piece ws r t answers)
-chunk-unique chunk ended part piece ws r t answers = one-outcome madeChunk backChunk (λ x. refl) _
+pub chunk-unique : (chunk : List ℕ) (ended : Bool) (part piece ws fs : List ℕ) (r : Memory) (t answers : List ℕ)
+    → OneOutcome madeChunk (onChunkWords chunk ended part piece ws fs r t answers)
+chunk-unique chunk ended part piece ws fs r t answers = one-outcome madeChunk backChunk (λ x. refl) _

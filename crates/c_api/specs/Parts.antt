@@ -1,4 +1,5 @@
--- A replay of a log in chunks over lent words, request M-104: what it holds between chunks, the state's words, and an answer a record.
+-- A replay of a log in chunks over lent words, request M-104: what it holds between chunks, the state's words, the flows', and an answer a
+-- record.
 -- Assumes nothing.
 use mathlib.Core.Bool.{Bool, _&&_}
 use mathlib.Core.List.{List, [], _∷_}
@@ -7,7 +8,7 @@ use lib.Dec.{ltb, eqb}
 use lib.ListN.{length}
 use Rattle.rules.specs.Branch.{ifSo, ifEq}
 use Rattle.ledger.specs.Memory.{Memory}
-use Rattle.sender.specs.World.{world}
+use Rattle.context.specs.Context.{context}
 use Rattle.replay_chunks.specs.Chunks.{Chunking, chunkOf}
 use Rattle.replay_chunks.specs.declared.Carry.{Carry}
 use Rattle.c_state.specs.Layout.{wordCount, word, unpacked}
@@ -36,16 +37,18 @@ pub record Chunked : Type 0 where
   pub part : List ℕ
   pub piece : List ℕ
   pub words : List ℕ
+  pub flows : List ℕ
   pub slots : Memory
   pub times : List ℕ
   pub answers : List ℕ
 
-abbrev pub chunkCalled : ℕ → List ℕ → List ℕ → List ℕ → Memory → List ℕ → List ℕ → Chunked
-chunkCalled n p piece ws r t room = record {
+abbrev pub chunkCalled : ℕ → List ℕ → List ℕ → List ℕ → List ℕ → Memory → List ℕ → List ℕ → Chunked
+chunkCalled n p piece ws fs r t room = record {
   number = n;
   part = p;
   piece = piece;
   words = ws;
+  flows = fs;
   slots = r;
   times = t;
   answers = room;
@@ -60,11 +63,11 @@ unfoldable pub handedPart : List ℕ → List ℕ → Chunking → Chunked
 handedPart part ws b =
     chunkCalled (b .number) (partThen (b .number) (b .carry) (b .count) (b .taken) part) (b .piece)
     (wordsThen (b .number) (b .carry .place) (b .count) (b .after .state) ws)
-    (b .after .slots) (b .after .times) (b .room)
+    (b .after .flows) (b .after .slots) (b .after .times) (b .room)
 
 -- words that are no state's are a state of zeros, which number 2 refuses past record 1
-unfoldable pub onChunkWords : List ℕ → Bool → List ℕ → List ℕ → List ℕ → Memory → List ℕ → List ℕ → Chunked
-onChunkWords chunk ended part piece ws r t answers =
+unfoldable pub onChunkWords : List ℕ → Bool → List ℕ → List ℕ → List ℕ → List ℕ → Memory → List ℕ → List ℕ → Chunked
+onChunkWords chunk ended part piece ws fs r t answers =
     ifSo (partOk part ws)
-    (handedPart part ws (chunkOf (carryFrom part) (world (unpacked ws .state) r t) piece chunk ended answers))
-    (chunkCalled 2 part piece ws r t answers)
+    (handedPart part ws (chunkOf (carryFrom part) (context (unpacked ws .state) fs r t) piece chunk ended answers))
+    (chunkCalled 2 part piece ws fs r t answers)

@@ -82,6 +82,7 @@ fn keep_batch<'a, 'b>(place: &'a mut [u64], state: &'b mut [u64], batch: Batch) 
 pub extern "C" fn nscc_replay(
     place: &mut [u64],
     state: &mut [u64],
+    flows: &mut [u64],
     outstanding: &mut [u64],
     marked: &mut [u64],
     sizes: &mut [u32],
@@ -91,9 +92,9 @@ pub extern "C" fn nscc_replay(
     answers: &mut [u64],
 ) -> u32
     ensures { λ r. ⌜ replayCalled r (now (place .exit)) (now (state .exit))
-        (memoryAfter outstanding marked sizes sent) (now (evs .exit)) (now (answers .exit))
+        (now (flows .exit)) (memoryAfter outstanding marked sizes sent) (now (evs .exit)) (now (answers .exit))
         ≡ onReplayWords (now (log .entry)) (now (place .entry)) (now (state .entry))
-        (memoryBefore outstanding marked sizes sent) (now (evs .entry)) (now (answers .entry)) ⌝ }
+        (now (flows .entry)) (memoryBefore outstanding marked sizes sent) (now (evs .entry)) (now (answers .entry)) ⌝ }
 {
     if !is_lent(place, state) {
         return number_of(Verdict::Unsound);
@@ -105,6 +106,7 @@ pub extern "C" fn nscc_replay(
         Source::Log,
         from,
         before,
+        flows,
         outstanding,
         marked,
         sizes,

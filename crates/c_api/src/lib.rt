@@ -1,19 +1,19 @@
-// The library for C: every event over lent words. Slices only: the state's 40 words (`c_state`), the ring's four slices, the EV
-// times, a log's bytes. A call is a replay's batch of one event (`replay::once`), so that the archive has the rules once, in
-// the replay's loop. No function has a `requires`; what no proof can see, that pointers and lengths are true and that nothing
-// overlaps, is said in include/nscc.h.
+// The library for C: every event of a flow over lent words. Slices only: the state's 37 words (`c_state`), the table of flows
+// (request M-107), the ring buffer's four slices, the EV times, a log's bytes. A call is a replay's batch of one event
+// (`replay::once`), so that the archive has the rules once, in the replay's loop. No function has a `requires`; what no proof
+// can see, that pointers and lengths are true and that nothing overlaps, is said in include/nscc.h.
 
 pub mod batch;
 pub mod looks;
 pub mod parts;
 
 use c_state::WORDS;
+use context::Controller;
 use replay::ABOVE;
 use replay::records::Event;
 use rules::verdict::Verdict;
 use rules::verdict::number_of;
 use sender::Ack;
-use sender::Controller;
 use sender::Loss;
 use sender::Nack;
 use sender::Send;
@@ -22,7 +22,7 @@ ghost use lib.ListN.{length};
 ghost use Rattle.rules.specs.Mode.{modeOf};
 ghost use Rattle.ledger.specs.Lent.{memoryBefore};
 ghost use Rattle.ledger.specs.Memory.{memory};
-ghost use Rattle.sender.specs.Events.{onNewData, onSend, onLoss};
+ghost use Rattle.context.specs.Events.{onNewData, onSend, onLoss};
 ghost use Rattle.c_state.specs.Layout.{wordCount};
 ghost use Rattle.c_api.specs.Calls.{calledAfter, wordsAfter, onEventWords, onWords, ackBeside, nackBeside, pathBeside, onBesideWords};
 ghost use Rattle.c_api.specs.Calls.{onSetUpWords, sendBy, ackBy, nackBy, lossBy};
@@ -38,24 +38,25 @@ fn keep(state: &mut [u64], number: u64, after: Controller)
 }
 
 // An event on the state that the words are: the number, and above its 32 bits the EV or the kind of a sample.
-fn take<'a, 'b, 'c, 'd, 'e, 'f>(
+fn take<'a, 'b, 'c, 'd, 'e, 'f, 'g>(
     event: Event,
     state: &'a mut [u64],
-    outstanding: &'b mut [u64],
-    marked: &'c mut [u64],
-    sizes: &'d mut [u32],
-    sent: &'e mut [u64],
-    evs: &'f mut [u64],
+    flows: &'b mut [u64],
+    outstanding: &'c mut [u64],
+    marked: &'d mut [u64],
+    sizes: &'e mut [u32],
+    sent: &'f mut [u64],
+    evs: &'g mut [u64],
 ) -> u64
-    ensures { λ r. ⌜ calledAfter r state outstanding marked sizes sent evs
-        ≡ onEventWords event (now (state .entry)) (memoryBefore outstanding marked sizes sent) (now (evs .entry)) ⌝ }
+    ensures { λ r. ⌜ calledAfter r state flows outstanding marked sizes sent evs
+        ≡ onEventWords event (now (state .entry)) (now (flows .entry)) (memoryBefore outstanding marked sizes sent) (now (evs .entry)) ⌝ }
 {
     let given = c_state::unpack(state);
     if !given.good {
         return number_of(Verdict::Unsound) as u64;
     }
     let before = given.state;
-    let said = replay::once(event, before, outstanding, marked, sizes, sent, evs);
+    let said = replay::once(event, before, flows, outstanding, marked, sizes, sent, evs);
     let word = said.word;
     let after = said.state;
     keep(state, word % ABOVE, after);
@@ -70,15 +71,16 @@ pub extern "C" fn nscc_set_up(
     quick_adapt_off: bool,
     ev_count: u32,
     state: &mut [u64],
+    flows: &mut [u64],
     outstanding: &mut [u64],
     marked: &mut [u64],
     sizes: &mut [u32],
     sent: &mut [u64],
     evs: &mut [u64],
 ) -> u32
-    ensures { λ r. ⌜ calledAfter r state outstanding marked sizes sent evs
+    ensures { λ r. ⌜ calledAfter r state flows outstanding marked sizes sent evs
         ≡ onSetUpWords (now (settings .entry)) «first_psn» (modeOf «quick_adapt_off») «ev_count» (now (state .entry))
-        (memoryBefore outstanding marked sizes sent) (now (evs .entry)) ⌝ }
+        (now (flows .entry)) (memoryBefore outstanding marked sizes sent) (now (evs .entry)) ⌝ }
 {
     if settings.len() != c_state::SETTINGS {
         return number_of(Verdict::Unsound);
@@ -91,7 +93,7 @@ pub extern "C" fn nscc_set_up(
     if state.len() != WORDS {
         return number_of(Verdict::Unsound);
     }
-    let answer = sender::start::set_up(given, outstanding, marked, sizes, sent, evs);
+    let answer = context::start::set_up(given, flows, outstanding, marked, sizes, sent, evs);
     let verdict = answer.verdict;
     let after = answer.state;
     let number = number_of(verdict);
@@ -103,20 +105,24 @@ pub extern "C" fn nscc_set_up(
 #[no_mangle]
 pub extern "C" fn nscc_new_data(
     state: &mut [u64],
+    flows: &mut [u64],
     outstanding: &mut [u64],
     marked: &mut [u64],
     sizes: &mut [u32],
     sent: &mut [u64],
     evs: &mut [u64],
     time: u64,
+    flow: usize,
     bytes: u64,
 ) -> u32
-    ensures { λ r. ⌜ calledAfter r state outstanding marked sizes sent evs
-        ≡ onWords (now (state .entry)) (memoryBefore outstanding marked sizes sent) (now (evs .entry)) (onNewData time bytes) ⌝ }
+    ensures { λ r. ⌜ calledAfter r state flows outstanding marked sizes sent evs
+        ≡ onWords (now (state .entry)) (now (flows .entry)) (memoryBefore outstanding marked sizes sent) (now (evs .entry))
+        (onNewData time flow bytes) ⌝ }
 {
     take(
-        Event::NewData(time, bytes),
+        Event::NewData(time, flow, bytes),
         state,
+        flows,
         outstanding,
         marked,
         sizes,
@@ -129,19 +135,21 @@ pub extern "C" fn nscc_new_data(
 #[no_mangle]
 pub extern "C" fn nscc_send(
     state: &mut [u64],
+    flows: &mut [u64],
     outstanding: &mut [u64],
     marked: &mut [u64],
     sizes: &mut [u32],
     sent: &mut [u64],
     evs: &mut [u64],
     time: u64,
+    flow: usize,
     psn: u32,
     bytes: u32,
     resend: bool,
 ) -> u32
-    ensures { λ r. ⌜ calledAfter r state outstanding marked sizes sent evs
-        ≡ onWords (now (state .entry)) (memoryBefore outstanding marked sizes sent) (now (evs .entry)) (onSend time
-        (sendBy psn bytes resend)) ⌝ }
+    ensures { λ r. ⌜ calledAfter r state flows outstanding marked sizes sent evs
+        ≡ onWords (now (state .entry)) (now (flows .entry)) (memoryBefore outstanding marked sizes sent) (now (evs .entry))
+        (onSend time flow (sendBy psn bytes resend)) ⌝ }
 {
     let a = Send {
         psn,
@@ -149,8 +157,9 @@ pub extern "C" fn nscc_send(
         resend,
     };
     take(
-        Event::Send(time, a),
+        Event::Send(time, flow, a),
         state,
+        flows,
         outstanding,
         marked,
         sizes,
@@ -163,12 +172,14 @@ pub extern "C" fn nscc_send(
 #[no_mangle]
 pub extern "C" fn nscc_ack(
     state: &mut [u64],
+    flows: &mut [u64],
     outstanding: &mut [u64],
     marked: &mut [u64],
     sizes: &mut [u32],
     sent: &mut [u64],
     evs: &mut [u64],
     time: u64,
+    flow: usize,
     cum: u32,
     map: u64,
     trigger: u32,
@@ -178,9 +189,9 @@ pub extern "C" fn nscc_ack(
     m_flag: bool,
     retx: bool,
 ) -> u64
-    ensures { λ r. ⌜ calledAfter r state outstanding marked sizes sent evs
-        ≡ onBesideWords (now (state .entry)) (memoryBefore outstanding marked sizes sent) (now (evs .entry))
-        (ackBeside time (ackBy cum map trigger count service ev «m_flag» retx)) ⌝ }
+    ensures { λ r. ⌜ calledAfter r state flows outstanding marked sizes sent evs
+        ≡ onBesideWords (now (state .entry)) (now (flows .entry)) (memoryBefore outstanding marked sizes sent) (now (evs .entry))
+        (ackBeside time flow (ackBy cum map trigger count service ev «m_flag» retx)) ⌝ }
 {
     let a = Ack {
         cum,
@@ -193,8 +204,9 @@ pub extern "C" fn nscc_ack(
         retx,
     };
     take(
-        Event::Ack(time, a),
+        Event::Ack(time, flow, a),
         state,
+        flows,
         outstanding,
         marked,
         sizes,
@@ -207,21 +219,23 @@ pub extern "C" fn nscc_ack(
 #[no_mangle]
 pub extern "C" fn nscc_nack(
     state: &mut [u64],
+    flows: &mut [u64],
     outstanding: &mut [u64],
     marked: &mut [u64],
     sizes: &mut [u32],
     sent: &mut [u64],
     evs: &mut [u64],
     time: u64,
+    flow: usize,
     psn: u32,
     ev: u32,
     reason: u32,
     m_flag: bool,
     retx: bool,
 ) -> u64
-    ensures { λ r. ⌜ calledAfter r state outstanding marked sizes sent evs
-        ≡ onBesideWords (now (state .entry)) (memoryBefore outstanding marked sizes sent) (now (evs .entry))
-        (nackBeside time (nackBy psn ev reason «m_flag» retx)) ⌝ }
+    ensures { λ r. ⌜ calledAfter r state flows outstanding marked sizes sent evs
+        ≡ onBesideWords (now (state .entry)) (now (flows .entry)) (memoryBefore outstanding marked sizes sent) (now (evs .entry))
+        (nackBeside time flow (nackBy psn ev reason «m_flag» retx)) ⌝ }
 {
     let a = Nack {
         psn,
@@ -231,8 +245,9 @@ pub extern "C" fn nscc_nack(
         retx,
     };
     take(
-        Event::Nack(time, a),
+        Event::Nack(time, flow, a),
         state,
+        flows,
         outstanding,
         marked,
         sizes,
@@ -245,21 +260,25 @@ pub extern "C" fn nscc_nack(
 #[no_mangle]
 pub extern "C" fn nscc_loss(
     state: &mut [u64],
+    flows: &mut [u64],
     outstanding: &mut [u64],
     marked: &mut [u64],
     sizes: &mut [u32],
     sent: &mut [u64],
     evs: &mut [u64],
     time: u64,
+    flow: usize,
     psn: u32,
     ev: u32,
 ) -> u32
-    ensures { λ r. ⌜ calledAfter r state outstanding marked sizes sent evs
-        ≡ onWords (now (state .entry)) (memoryBefore outstanding marked sizes sent) (now (evs .entry)) (onLoss time (lossBy psn ev)) ⌝ }
+    ensures { λ r. ⌜ calledAfter r state flows outstanding marked sizes sent evs
+        ≡ onWords (now (state .entry)) (now (flows .entry)) (memoryBefore outstanding marked sizes sent) (now (evs .entry))
+        (onLoss time flow (lossBy psn ev)) ⌝ }
 {
     take(
-        Event::Loss(time, Loss { psn, ev }),
+        Event::Loss(time, flow, Loss { psn, ev }),
         state,
+        flows,
         outstanding,
         marked,
         sizes,
@@ -272,19 +291,23 @@ pub extern "C" fn nscc_loss(
 #[no_mangle]
 pub extern "C" fn nscc_path(
     state: &mut [u64],
+    flows: &mut [u64],
     outstanding: &mut [u64],
     marked: &mut [u64],
     sizes: &mut [u32],
     sent: &mut [u64],
     evs: &mut [u64],
     time: u64,
+    flow: usize,
 ) -> u64
-    ensures { λ r. ⌜ calledAfter r state outstanding marked sizes sent evs
-        ≡ onBesideWords (now (state .entry)) (memoryBefore outstanding marked sizes sent) (now (evs .entry)) (pathBeside time) ⌝ }
+    ensures { λ r. ⌜ calledAfter r state flows outstanding marked sizes sent evs
+        ≡ onBesideWords (now (state .entry)) (now (flows .entry)) (memoryBefore outstanding marked sizes sent) (now (evs .entry))
+        (pathBeside time flow) ⌝ }
 {
     take(
-        Event::Path(time),
+        Event::Path(time, flow),
         state,
+        flows,
         outstanding,
         marked,
         sizes,

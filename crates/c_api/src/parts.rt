@@ -95,6 +95,7 @@ pub extern "C" fn nscc_chunk(
     part: &mut [u64],
     piece: &mut [u8],
     state: &mut [u64],
+    flows: &mut [u64],
     outstanding: &mut [u64],
     marked: &mut [u64],
     sizes: &mut [u32],
@@ -105,9 +106,9 @@ pub extern "C" fn nscc_chunk(
     answers: &mut [u64],
 ) -> u32
     ensures { λ r. ⌜ chunkCalled r (now (part .exit)) (now (piece .exit)) (now (state .exit))
-        (memoryAfter outstanding marked sizes sent) (now (evs .exit)) (now (answers .exit))
+        (now (flows .exit)) (memoryAfter outstanding marked sizes sent) (now (evs .exit)) (now (answers .exit))
         ≡ onChunkWords (now (chunk .entry)) ended (now (part .entry)) (now (piece .entry)) (now (state .entry))
-        (memoryBefore outstanding marked sizes sent) (now (evs .entry)) (now (answers .entry)) ⌝ }
+        (now (flows .entry)) (memoryBefore outstanding marked sizes sent) (now (evs .entry)) (now (answers .entry)) ⌝ }
 {
     if !is_lent(part, state) {
         return number_of(Verdict::Unsound);
@@ -118,6 +119,7 @@ pub extern "C" fn nscc_chunk(
     let took = replay_chunks::chunk(
         carry,
         before,
+        flows,
         outstanding,
         marked,
         sizes,

@@ -11,8 +11,9 @@ use borrow.Author.Tests.{ltb-true, eqb-true, lt-ltb, eq-eqb, ne-eqb, not-true, n
 use Rattle.rules.specs.Branch.{so-yes, so-no}
 use Rattle.rules.specs.Test.{both, whole}
 use Rattle.window.specs.declared.Settings.{Settings}
-use Rattle.sender.specs.Start.{noSettings, freshState}
-use Rattle.sender.specs.declared.Controller.{Controller}
+use Rattle.sender.specs.Start.{noSettings}
+use Rattle.context.specs.Start.{freshState}
+use Rattle.context.specs.declared.Controller.{Controller}
 use Rattle.c_state.specs.Places as place
 use Rattle.c_state.specs.Layout.{wordCount, fieldEnd, inFlightAdded, inFlightMost, word}
 use Rattle.c_state.specs.Layout.{stateFrom, wordsOk, unpacked}
@@ -35,9 +36,7 @@ module _ (ws : List ℕ) where
       let in-flight = below _ (word ws place.inFlight) (inFlightMost + inFlightAdded + 1) (fast .0) in
       let marked = below _ (word ws place.marked) fieldEnd (in-flight .0) in
       let flying = below _ (word ws place.flying) fieldEnd (marked .0) in
-      let next = below _ (word ws place.next) fieldEnd (flying .0) in
-      let low = below _ (word ws place.low) fieldEnd (next .0) in
-      let off = below _ (word ws place.quickAdaptOff) fieldEnd (low .0) in
+      let off = below _ (word ws place.quickAdaptOff) fieldEnd (flying .0) in
       let psn = below (eqb (length ws) wordCount) (word ws place.firstPsn) fieldEnd (off .0) in
       let long = eqb-true (length ws) wordCount (psn .0) in
       omega arith
@@ -55,7 +54,6 @@ module _ (ws : List ℕ) where
   -- of the right length, the rest of the test is left
   pub rest-left : length ws ≡ wordCount →
       (ltb (word ws place.firstPsn) fieldEnd && ltb (word ws place.quickAdaptOff) fieldEnd
-      && ltb (word ws place.low) fieldEnd && ltb (word ws place.next) fieldEnd
       && ltb (word ws place.flying) fieldEnd && ltb (word ws place.marked) fieldEnd
       && ltb (word ws place.inFlight) (inFlightMost + inFlightAdded + 1)
       && ltb (word ws place.fast) fieldEnd && ltb (word ws place.trigger) fieldEnd

@@ -1,5 +1,5 @@
 -- READING WORDS AND WRITING A STATE ARE INVERSE: words that are a state's are written back as they were (`pack-unpack`), and a state that
--- the machine can hold is read back as it was (`unpack-pack`); a state that passes number 2 is such a state (`sound-machine`).
+-- the machine can hold is read back as it was (`unpack-pack`); that of a context that passes number 2 is such a state (`sound-machine`).
 -- Assumes nothing.
 use mathlib.Core.Path.{_≡_, refl, sym, _∙_}
 use mathlib.Core.Bool.{true}
@@ -9,17 +9,16 @@ use native.Mathlib.Omega.{arith}
 use lib.ListN.{length}
 use lib.Seq.{ext-getD}
 use Rattle.ledger.specs.Ring.{tabulate}
-use Rattle.ledger.specs.Sound.{alone}
 use Rattle.ledger.proofs.Signs.{sound-ledger-flown}
 use Rattle.ledger.proofs.Walks.{length-tabulate, getD-tabulate}
-use Rattle.ledger.proofs.Facts.{sound-ledger-facts, sound-ledger-parts}
-use Rattle.sender.specs.Sound.{sound}
-use Rattle.sender.specs.World.{World, viewOf, ledgerOf}
-use Rattle.sender.specs.declared.Controller.{Controller}
-use Rattle.sender.proofs.Sounds.{sound-facts, sound-to-ledger, sound-bounded, phase-high}
+use Rattle.sender.proofs.Sounds.{holds-ledger, holds-bounded, phase-high}
+use Rattle.context.specs.Context.{Context, joinedOf, worldAt}
+use Rattle.context.specs.Sound.{soundContext}
+use Rattle.context.specs.declared.Controller.{Controller}
+use Rattle.context.proofs.Sounds.{context-facts, one-holds}
 use Rattle.c_state.specs.Places as place
 use Rattle.c_state.specs.Layout.{wordCount, stateWords, word}
-use Rattle.c_state.specs.Layout.{settingsFrom, flowFrom, totalsFrom, windowFrom, stateFrom, wordsOk}
+use Rattle.c_state.specs.Layout.{settingsFrom, totalsFrom, windowFrom, stateFrom, wordsOk}
 use Rattle.c_state.specs.Statements.{WordsFacts, Machine}
 use Rattle.c_state.proofs.Checked.{words-facts, facts-words}
 use Rattle.c_state.proofs.InFlight.{word-most, word-back, back-word}
@@ -33,14 +32,14 @@ spelled ws n e =
     ext-getD 0 (tabulate (λ i. word ws i) n) ws (long ∙ sym e) (λ i h. getD-tabulate (λ k. word ws k) 0 n i (omega arith))
 
 pub pack-unpack : (ws : List ℕ) → wordsOk ws ≡ true → stateWords (stateFrom ws) ≡ ws
-unfolding stateWords stateFrom settingsFrom flowFrom totalsFrom windowFrom tabulate
+unfolding stateWords stateFrom settingsFrom totalsFrom windowFrom tabulate
 pack-unpack ws ok =
     let W = words-facts ws ok in
     rw (back-word (word ws place.inFlight) (W .in-flight)) (spelled ws wordCount (W .long))
 
 -- ---- a state to words and back
 
--- a state has 40 words
+-- a state has 37 words
 pub long : (c : Controller) → length (stateWords c) ≡ wordCount
 unfolding stateWords
 long c = refl
@@ -53,8 +52,6 @@ module _ (c : Controller) (M : Machine c) where
         long = refl;
         first-psn = M .first-psn;
         quick-adapt-off = M .quick-adapt-off;
-        low = M .low;
-        next = M .next;
         flying = M .flying;
         marked = M .marked;
         in-flight = word-most (c .totals .«in_flight») (M .flown);
@@ -65,29 +62,28 @@ module _ (c : Controller) (M : Machine c) where
       }
 
   state-back : stateFrom (stateWords c) ≡ c
-  unfolding stateWords stateFrom settingsFrom flowFrom totalsFrom windowFrom
-  state-back = rw (word-back (c .totals .«in_flight») (M .flown), M .backlog)
+  unfolding stateWords stateFrom settingsFrom totalsFrom windowFrom
+  state-back = rw (word-back (c .totals .«in_flight») (M .flown))
 
   pub unpack-pack : (wordsOk (stateWords c) ≡ true) × (stateFrom (stateWords c) ≡ c)
   unpack-pack = (facts-words (stateWords c) machine-facts, state-back)
 
--- A STATE THAT PASSES NUMBER 2 is one that the machine can hold
-pub sound-machine : (w : World) → sound w ≡ true → Machine (w .state)
-sound-machine w e =
-    let C = sound-to-ledger w e in
-    let F = sound-ledger-facts C in
-    let S = sound-facts (viewOf w) e in
+-- THE STATE OF A CONTEXT THAT PASSES NUMBER 2 is one that the machine can hold: its totals are in the bounds that any flow's step relies
+-- on, and there is a flow
+pub sound-machine : (x : Context) → soundContext x ≡ true → Machine (x .state)
+unfolding worldAt joinedOf
+sound-machine x e =
+    let S = context-facts x e in
+    let H = one-holds x S 0 (S .table .some) in
+    let C = holds-ledger (worldAt 0 x) H in
     record {
       first-psn = S .range .psn-high;
       quick-adapt-off = omega (arith, S .range .off-high);
-      low = F .low-psn;
-      next = F .next-psn;
       flying = omega (arith, C .flying-most);
       marked = omega (arith, C .marked-most);
-      backlog = omega (arith, sound-ledger-parts _ _ _ alone (ledgerOf w) (S .sound-ledger) .1 .backlog);
       fast = omega (arith, S .sound-window .fast-high);
       trigger = omega (arith, S .sound-window .trigger-high);
-      cursor = omega (arith, S .cursor-ok, sound-bounded w e .evs-high);
-      phase = rw (S .named) (omega (arith, phase-high (w .state .settings .mtu) (w .state .window .cwnd) (w .state .totals)));
+      cursor = omega (arith, S .cursor-ok, holds-bounded (worldAt 0 x) H .evs-high);
+      phase = rw (S .named) (omega (arith, phase-high (x .state .settings .mtu) (x .state .window .cwnd) (x .state .totals)));
       flown = sound-ledger-flown C;
     }

@@ -1,6 +1,7 @@
--- The controller's state as words, in the order of `Places`: the settings in document 01's order, the first PSN and the mode that disables
--- quick adapt; low, next, held and backlog; flying, marked, marked bytes and in-flight; the window; the clock, the path cursor and the
--- state's name; the number of EVs (request M-110).
+-- The shared state of a context as words, in the order of `Places`: the settings in document 01's order, the first PSN and the mode that
+-- disables quick adapt; the totals over all flows: backlog, flying, marked, marked bytes and in-flight; the window; the clock, the path
+-- cursor and the state's name; the number of EVs (request M-110). Low, next, held and backlog of each flow "sit in a lent table of flow
+-- records" (request M-107), not here.
 -- Assumes nothing.
 use mathlib.Core.Bool.{Bool, true, false, _&&_}
 use mathlib.Core.List.{List, [], _∷_}
@@ -12,16 +13,16 @@ use lib.Signed.{ltZ}
 use Rattle.rules.specs.Branch.{ifSo}
 use Rattle.window.specs.declared.Settings.{Settings}
 use Rattle.window.specs.declared.Window.{Window}
-use Rattle.ledger.specs.declared.Flow.{Flow}
 use Rattle.ledger.specs.declared.Totals.{Totals}
-use Rattle.sender.specs.Start.{noSettings, freshState}
-use Rattle.sender.specs.declared.Controller.{Controller}
+use Rattle.sender.specs.Start.{noSettings}
+use Rattle.context.specs.Start.{freshState}
+use Rattle.context.specs.declared.Controller.{Controller}
 use Rattle.c_state.specs.Places as place
 use Rattle.c_state.specs.declared.Unpacked.{Unpacked}
 
 -- how many words a state has
 abbrev pub wordCount : ℕ
-wordCount = 40
+wordCount = 37
 
 -- how many numbers the settings have, which come first
 abbrev pub settingsCount : ℕ
@@ -64,10 +65,7 @@ stateWords c =
     ∷ c .settings .«qa_threshold»
     ∷ c .settings .«first_psn»
     ∷ c .settings .«quick_adapt_off»
-    ∷ c .flow .low
-    ∷ c .flow .next
-    ∷ c .flow .held
-    ∷ c .flow .backlog
+    ∷ c .totals .backlog
     ∷ c .totals .flying
     ∷ c .totals .marked
     ∷ c .totals .«marked_bytes»
@@ -119,9 +117,6 @@ settingsFrom ws psn off evs =
       «ev_count» = evs;
     }
 
-unfoldable pub flowFrom : List ℕ → Flow
-flowFrom ws = record { low = word ws place.low; next = word ws place.next; held = word ws place.held; backlog = word ws place.backlog }
-
 unfoldable pub totalsFrom : List ℕ → Totals
 totalsFrom ws =
     record {
@@ -155,7 +150,6 @@ unfoldable pub stateFrom : List ℕ → Controller
 stateFrom ws =
     record {
       settings = settingsFrom ws (word ws place.firstPsn) (word ws place.quickAdaptOff) (word ws place.evCount);
-      flow = flowFrom ws;
       totals = totalsFrom ws;
       window = windowFrom ws;
       clock = word ws place.clock;
@@ -171,8 +165,6 @@ wordsOk ws =
     eqb (length ws) wordCount
     && ltb (word ws place.firstPsn) fieldEnd
     && ltb (word ws place.quickAdaptOff) fieldEnd
-    && ltb (word ws place.low) fieldEnd
-    && ltb (word ws place.next) fieldEnd
     && ltb (word ws place.flying) fieldEnd
     && ltb (word ws place.marked) fieldEnd
     && ltb (word ws place.inFlight) (inFlightMost + inFlightAdded + 1)

@@ -46,85 +46,75 @@ firstPsn = 12
 abbrev pub quickAdaptOff : ℕ
 quickAdaptOff = 13
 
--- the flow
-abbrev pub low : ℕ
-low = 14
-
-abbrev pub next : ℕ
-next = 15
-
-abbrev pub held : ℕ
-held = 16
-
+-- the totals, over all flows; in-flight has 2^24 added
 abbrev pub backlog : ℕ
-backlog = 17
+backlog = 14
 
--- the totals; in-flight has 2^24 added
 abbrev pub flying : ℕ
-flying = 18
+flying = 15
 
 abbrev pub marked : ℕ
-marked = 19
+marked = 16
 
 abbrev pub markedBytes : ℕ
-markedBytes = 20
+markedBytes = 17
 
 abbrev pub inFlight : ℕ
-inFlight = 21
+inFlight = 18
 
 -- the window
 abbrev pub cwnd : ℕ
-cwnd = 22
+cwnd = 19
 
 abbrev pub base : ℕ
-base = 23
+base = 20
 
 abbrev pub avg : ℕ
-avg = 24
+avg = 21
 
 abbrev pub incBytes : ℕ
-incBytes = 25
+incBytes = 22
 
 abbrev pub received : ℕ
-received = 26
+received = 23
 
 abbrev pub achieved : ℕ
-achieved = 27
+achieved = 24
 
 abbrev pub ignored : ℕ
-ignored = 28
+ignored = 25
 
 abbrev pub bytesToIgnore : ℕ
-bytesToIgnore = 29
+bytesToIgnore = 26
 
 abbrev pub fiCount : ℕ
-fiCount = 30
+fiCount = 27
 
 abbrev pub fast : ℕ
-fast = 31
+fast = 28
 
 abbrev pub trigger : ℕ
-trigger = 32
+trigger = 29
 
 abbrev pub qaEnd : ℕ
-qaEnd = 33
+qaEnd = 30
 
 abbrev pub lastAdjust : ℕ
-lastAdjust = 34
+lastAdjust = 31
 
 abbrev pub lastDec : ℕ
-lastDec = 35
+lastDec = 32
 
 -- the clock, the path cursor and the state's name
 abbrev pub clock : ℕ
-clock = 36
+clock = 33
 
 abbrev pub cursor : ℕ
-cursor = 37
+cursor = 34
 
 abbrev pub phase : ℕ
-phase = 38
+phase = 35
 
 -- the number of EVs, request M-110
 abbrev pub evCount : ℕ
-evCount = 39
+evCount = 36

@@ -5,7 +5,7 @@ use mathlib.Core.List.{List}
 use Prim.Native.Nat.{ℕ, _+_, _≤_, _<_}
 use lib.ListN.{length}
 use Rattle.ledger.specs.Bounds.{Flown}
-use Rattle.sender.specs.declared.Controller.{Controller}
+use Rattle.context.specs.declared.Controller.{Controller}
 use Rattle.c_state.specs.Places as place
 use Rattle.c_state.specs.Layout.{wordCount, fieldEnd, inFlightAdded, inFlightMost, word}
 
@@ -14,8 +14,6 @@ pub record WordsFacts (ws : List ℕ) : Type 0 where
   pub long : length ws ≡ wordCount
   pub first-psn : word ws place.firstPsn < fieldEnd
   pub quick-adapt-off : word ws place.quickAdaptOff < fieldEnd
-  pub low : word ws place.low < fieldEnd
-  pub next : word ws place.next < fieldEnd
   pub flying : word ws place.flying < fieldEnd
   pub marked : word ws place.marked < fieldEnd
   pub in-flight : word ws place.inFlight ≤ inFlightMost + inFlightAdded
@@ -28,12 +26,8 @@ pub record WordsFacts (ws : List ℕ) : Type 0 where
 pub record Machine (c : Controller) : Type 0 where
   pub first-psn : c .settings .«first_psn» < fieldEnd
   pub quick-adapt-off : c .settings .«quick_adapt_off» < fieldEnd
-  pub low : c .flow .low < fieldEnd
-  pub next : c .flow .next < fieldEnd
   pub flying : c .totals .flying < fieldEnd
   pub marked : c .totals .marked < fieldEnd
-  -- of one flow, whose backlog is the total: one word says both
-  pub backlog : c .totals .backlog ≡ c .flow .backlog
   pub fast : c .window .fast < fieldEnd
   pub trigger : c .window .trigger < fieldEnd
   pub cursor : c .cursor < fieldEnd

@@ -1,20 +1,20 @@
-// The controller's state as words, for callers that hold it as plain memory: 40 numbers of 64 bits each at its place in `places`.
+// The shared state of a context as words, for callers that hold it as plain memory: 37 numbers of 64 bits each at its place in `places`.
+// The flows' own records are words already, in a lent table (request M-107).
 pub mod places;
 
-use ledger::Flow;
+use context::Controller;
 use ledger::Totals;
-use sender::Controller;
 use window::Settings;
 use window::Window;
 ghost use mathlib.Core.Path.{_≡_};
 ghost use Prim.Native.Nat.{_≤_};
 ghost use lib.ListN.{length};
 ghost use Rattle.c_state.specs.Layout.{wordCount, settingsCount, inFlightWord, stateWords};
-ghost use Rattle.c_state.specs.Layout.{settingsFrom, flowFrom, totalsFrom, windowFrom, stateFrom, wordsOk, unpacked};
+ghost use Rattle.c_state.specs.Layout.{settingsFrom, totalsFrom, windowFrom, stateFrom, wordsOk, unpacked};
 ghost use Rattle.c_state.specs.Statements.{WordsFacts};
 
 // How many words a state has.
-pub const WORDS: usize = 40;
+pub const WORDS: usize = 37;
 
 // How many numbers the settings have, which come first.
 pub const SETTINGS: usize = 12;
@@ -55,7 +55,6 @@ pub fn pack(state: Controller) -> [u64; WORDS]
     ensures { λ r. ⌜ r ≡ stateWords state ⌝ }
 {
     let s = state.settings;
-    let f = state.flow;
     let t = state.totals;
     let w = state.window;
     [
@@ -73,10 +72,7 @@ pub fn pack(state: Controller) -> [u64; WORDS]
         s.qa_threshold,
         s.first_psn as u64,
         s.quick_adapt_off as u64,
-        f.low as u64,
-        f.next as u64,
-        f.held,
-        f.backlog,
+        t.backlog,
         t.flying as u64,
         t.marked as u64,
         t.marked_bytes,
@@ -111,8 +107,6 @@ fn words_ok(ws: &[u64]) -> bool
     }
     (ws[places::FIRST_PSN] < FIELD_END)
         & (ws[places::QUICK_ADAPT_OFF] < FIELD_END)
-        & (ws[places::LOW] < FIELD_END)
-        & (ws[places::NEXT] < FIELD_END)
         & (ws[places::FLYING] < FIELD_END)
         & (ws[places::MARKED] < FIELD_END)
         & (ws[places::IN_FLIGHT] < IN_FLIGHT_END)
@@ -148,18 +142,6 @@ pub fn settings_of(ws: &[u64], first_psn: u32, quick_adapt_off: u32, ev_count: u
 }
 
 // The other parts of a state from its words. Inner steps: the caller proves that the words are those of a state.
-fn flow_from(ws: &[u64]) -> Flow
-    requires { ⌜ WordsFacts (now ws) ⌝ }
-    ensures { λ r. ⌜ r ≡ flowFrom (now (ws .entry)) ⌝ }
-{
-    Flow {
-        low: ws[places::LOW] as u32,
-        next: ws[places::NEXT] as u32,
-        held: ws[places::HELD],
-        backlog: ws[places::BACKLOG],
-    }
-}
-
 fn totals_from(ws: &[u64]) -> Totals
     requires { ⌜ WordsFacts (now ws) ⌝ }
     ensures { λ r. ⌜ r ≡ totalsFrom (now (ws .entry)) ⌝ }
@@ -206,7 +188,6 @@ fn state_from(ws: &[u64]) -> Controller
             ws[places::QUICK_ADAPT_OFF] as u32,
             ws[places::EV_COUNT],
         ),
-        flow: flow_from(ws),
         totals: totals_from(ws),
         window: window_from(ws),
         clock: ws[places::CLOCK],
@@ -222,7 +203,7 @@ pub fn unpack(ws: &[u64]) -> Unpacked
     if !words_ok(ws) {
         return Unpacked {
             good: false,
-            state: sender::start::fresh(sender::start::no_settings()),
+            state: context::start::fresh(sender::start::no_settings()),
         };
     }
     Unpacked {
@@ -231,7 +212,7 @@ pub fn unpack(ws: &[u64]) -> Unpacked
     }
 }
 
-// Stores a state's words over those that were lent. An inner step: the caller proves that there are 40.
+// Stores a state's words over those that were lent. An inner step: the caller proves that there are 37.
 pub fn store(ws: &mut [u64], state: Controller)
     requires { ⌜ length (now ws) ≡ wordCount ⌝ }
     ensures { λ _. ⌜ now (ws .exit) ≡ stateWords state ⌝ }

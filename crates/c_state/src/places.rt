@@ -30,59 +30,52 @@ pub const FIRST_PSN: usize = 12;
 
 pub const QUICK_ADAPT_OFF: usize = 13;
 
-// The flow.
-pub const LOW: usize = 14;
+// The totals, over all flows; in-flight has 2^24 added.
+pub const BACKLOG: usize = 14;
 
-pub const NEXT: usize = 15;
+pub const FLYING: usize = 15;
 
-pub const HELD: usize = 16;
+pub const MARKED: usize = 16;
 
-pub const BACKLOG: usize = 17;
+pub const MARKED_BYTES: usize = 17;
 
-// The totals; in-flight has 2^24 added.
-pub const FLYING: usize = 18;
-
-pub const MARKED: usize = 19;
-
-pub const MARKED_BYTES: usize = 20;
-
-pub const IN_FLIGHT: usize = 21;
+pub const IN_FLIGHT: usize = 18;
 
 // The window.
-pub const CWND: usize = 22;
+pub const CWND: usize = 19;
 
-pub const BASE: usize = 23;
+pub const BASE: usize = 20;
 
-pub const AVG: usize = 24;
+pub const AVG: usize = 21;
 
-pub const INC_BYTES: usize = 25;
+pub const INC_BYTES: usize = 22;
 
-pub const RECEIVED: usize = 26;
+pub const RECEIVED: usize = 23;
 
-pub const ACHIEVED: usize = 27;
+pub const ACHIEVED: usize = 24;
 
-pub const IGNORED: usize = 28;
+pub const IGNORED: usize = 25;
 
-pub const BYTES_TO_IGNORE: usize = 29;
+pub const BYTES_TO_IGNORE: usize = 26;
 
-pub const FI_COUNT: usize = 30;
+pub const FI_COUNT: usize = 27;
 
-pub const FAST: usize = 31;
+pub const FAST: usize = 28;
 
-pub const TRIGGER: usize = 32;
+pub const TRIGGER: usize = 29;
 
-pub const QA_END: usize = 33;
+pub const QA_END: usize = 30;
 
-pub const LAST_ADJUST: usize = 34;
+pub const LAST_ADJUST: usize = 31;
 
-pub const LAST_DEC: usize = 35;
+pub const LAST_DEC: usize = 32;
 
 // The clock, the path cursor and the state's name.
-pub const CLOCK: usize = 36;
+pub const CLOCK: usize = 33;
 
-pub const CURSOR: usize = 37;
+pub const CURSOR: usize = 34;
 
-pub const PHASE: usize = 38;
+pub const PHASE: usize = 35;
 
 // The number of EVs, request M-110.
-pub const EV_COUNT: usize = 39;
+pub const EV_COUNT: usize = 36;

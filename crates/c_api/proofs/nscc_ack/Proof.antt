@@ -26,11 +26,14 @@ same-length-5 c = search needs
 same-length-6 : tie.Need-same-length-6
 same-length-6 c = search needs
 
+same-length-7 : tie.Need-same-length-7
+same-length-7 c = search needs
+
 returns : tie.Need-returns
-returns c = c .before .before .before .before .before .before .before .before .before .before .before .before .take .ensures
-    ∙ beside-words-on _ _ _ _ _ (λ w. ack-double _ w _)
+returns c = c .before .before .before .before .before .before .before .before .before .before .before .before .before .before .take .ensures
+    ∙ beside-words-on _ _ _ _ _ _ (λ x. ack-double _ _ x _)
 
 pub nscc-ack-spec : {M : Type 1} → statement M
 nscc-ack-spec =
     tie.close
-    (tie.spec take-requires same-length same-length-2 same-length-3 same-length-4 same-length-5 same-length-6 returns)
+    (tie.spec take-requires same-length same-length-2 same-length-3 same-length-4 same-length-5 same-length-6 same-length-7 returns)

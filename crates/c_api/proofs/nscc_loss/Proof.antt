@@ -12,8 +12,8 @@ take-requires c κs = search needs
 cast-result : tie.Need-cast-result
 cast-result c = omega (
   arith,
-  word-most _ _ _ _ _ (λ w. loss-single _ w _) _
-      (c .before .before .before .before .before .before .before .before .before .before .before .before .take .ensures),
+  word-most _ _ _ _ _ _ (λ x. loss-single _ _ x _) _
+      (c .before .before .before .before .before .before .before .before .before .before .before .before .before .before .take .ensures),
 )
 
 same-length : tie.Need-same-length
@@ -34,11 +34,24 @@ same-length-5 c = search needs
 same-length-6 : tie.Need-same-length-6
 same-length-6 c = search needs
 
+same-length-7 : tie.Need-same-length-7
+same-length-7 c = search needs
+
 returns : tie.Need-returns
-returns c = c .before .before .before .before .before .before .before .before .before .before .before .before .take .ensures
-    ∙ words-on _ _ _ _ _ (λ w. loss-single _ w _)
+returns c = c .before .before .before .before .before .before .before .before .before .before .before .before .before .before .take .ensures
+    ∙ words-on _ _ _ _ _ _ (λ x. loss-single _ _ x _)
 
 pub nscc-loss-spec : {M : Type 1} → statement M
 nscc-loss-spec =
     tie.close
-    (tie.spec take-requires cast-result same-length same-length-2 same-length-3 same-length-4 same-length-5 same-length-6 returns)
+    (tie.spec
+    take-requires
+    cast-result
+    same-length
+    same-length-2
+    same-length-3
+    same-length-4
+    same-length-5
+    same-length-6
+    same-length-7
+    returns)

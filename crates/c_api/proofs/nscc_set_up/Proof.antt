@@ -20,7 +20,7 @@ number-of-requires-3 c κs = search needs
 
 returns : tie.Need-returns
 unfolding numberOf
-returns c = rw (c .number-of .ensures) (few-settings _ _ _ _ _ _ _ (c .before .if1 .taken))
+returns c = rw (c .number-of .ensures) (few-settings _ _ _ _ _ _ _ _ (c .before .if1 .taken))
 
 mode-of-requires : tie.Need-mode-of-requires
 mode-of-requires c κs = search needs
@@ -30,7 +30,7 @@ settings-of-requires c κs = search needs
 
 -- from the settings back to the entry
 abbrev start : tie.After-settings-of → tie.Start
-start c = c .before .before .before .before .before .before .before .before .before .before
+start c = c .before .before .before .before .before .before .before .before .before .before .before
 
 -- the settings that were handed in, the mode by the flag
 given :
@@ -38,7 +38,8 @@ given :
     c .settings-of .result ≡ settingsFrom (a .settings .now) (a .first-psn) (modeOf (a .quick-adapt-off)) (a .ev-count)
 given c =
     let a = start c .args in
-    c .settings-of .ensures ∙ ap (λ (off : ℕ). settingsFrom (a .settings .now) (a .first-psn) off (a .ev-count)) (c .before .mode-of .ensures)
+    c .settings-of .ensures
+    ∙ ap (λ (off : ℕ). settingsFrom (a .settings .now) (a .first-psn) off (a .ev-count)) (c .before .mode-of .ensures)
 
 in-range-requires : tie.Need-in-range-requires
 in-range-requires c κs = search needs
@@ -48,7 +49,7 @@ unfolding numberOf
 returns-2 c =
     let i = c .before in
     rw (c .number-of2 .ensures)
-    (out-of-range _ _ _ _ _ _ _ (i .before .before .before .before .if1 .left) _ (given (i .before .before)) _
+    (out-of-range _ _ _ _ _ _ _ _ (i .before .before .before .before .if1 .left) _ (given (i .before .before)) _
     (i .before .in-range .ensures) (i .if2 .taken))
 
 returns-3 : tie.Need-returns-3
@@ -56,7 +57,7 @@ unfolding numberOf
 returns-3 c =
     let i = c .before in
     rw (c .number-of3 .ensures)
-    (wrong-words _ _ _ _ _ _ _ (i .before .before .before .before .before .if1 .left) _ (given (i .before .before .before)) _
+    (wrong-words _ _ _ _ _ _ _ _ (i .before .before .before .before .before .if1 .left) _ (given (i .before .before .before)) _
     (i .before .before .in-range .ensures) (i .before .if2 .left) (i .if3 .taken))
 
 set-up-requires : tie.Need-set-up-requires
@@ -89,14 +90,17 @@ same-length-5 c = search needs
 same-length-6 : tie.Need-same-length-6
 same-length-6 c = search needs
 
+same-length-7 : tie.Need-same-length-7
+same-length-7 c = search needs
+
 returns-4 : tie.Need-returns-4
 returns-4 c =
     let a = c .before .before .before .before .before .before .before .before .before .before .before .before .before .before .before
-    .before in
-    let e = a .before .before .before .before .before .before in
-    set-up-on _ _ _ _ _ _ _ (e .before .before .before .before .before .if1 .left) _ (given (e .before .before .before)) _
+    .before .before .before in
+    let e = a .before .before .before .before .before .before .before in
+    set-up-on _ _ _ _ _ _ _ _ (e .before .before .before .before .before .if1 .left) _ (given (e .before .before .before)) _
     (e .before .before .in-range .ensures) (e .before .if2 .left) (e .if3 .left)
-    _ _ _ (a .set-up .ensures) _ _ (c .before .before .before .before .number-of4 .ensures, c .before .before .keep .ensures)
+    _ _ _ _ (a .set-up .ensures) _ _ (c .before .before .before .before .number-of4 .ensures, c .before .before .keep .ensures)
 
 pub nscc-set-up-spec : {M : Type 1} → statement M
 nscc-set-up-spec =
@@ -121,4 +125,5 @@ nscc-set-up-spec =
     same-length-4
     same-length-5
     same-length-6
+    same-length-7
     returns-4)

@@ -19,7 +19,7 @@ same-length c = search needs
 
 returns : tie.Need-returns
 unfolding numberOf
-returns c = rw (c .number-of .ensures) (no-state _ _ (c .before .before .before .unpack .ensures) (c .before .if1 .taken) _ _ _)
+returns c = rw (c .number-of .ensures) (no-state _ _ (c .before .before .before .unpack .ensures) (c .before .if1 .taken) _ _ _ _)
 
 once-requires : tie.Need-once-requires
 once-requires c κs = search needs
@@ -27,7 +27,7 @@ once-requires c κs = search needs
 keep-requires : tie.Need-keep-requires
 keep-requires c κs =
     let e = c .before .before .before .before .before .before .before .before .before .before .before .before .before .before .before
-    .before .before .before .before in
+    .before .before .before .before .before .before .before in
     words-long _ _ (e .before .before .unpack .ensures) (e .if1 .left)
 
 same-length-2 : tie.Need-same-length-2
@@ -48,11 +48,16 @@ same-length-6 c = search needs
 same-length-7 : tie.Need-same-length-7
 same-length-7 c = search needs
 
+same-length-8 : tie.Need-same-length-8
+same-length-8 c = search needs
+
 returns-2 : tie.Need-returns-2
 returns-2 c =
-    let a = c .before .before .before .before .before .before .before .before .before .before .before .before .before .before .before in
-    let e = a .before .before .before .before .before .before .before in
-    event-on _ _ (e .before .before .unpack .ensures) (e .if1 .left) _ _ _ _ _ _ _ (a .once .ensures) _ (c .before .before .keep .ensures)
+    let a = c .before .before .before .before .before .before .before .before .before .before .before .before .before .before .before
+    .before .before in
+    let e = a .before .before .before .before .before .before .before .before in
+    event-on _ _ (e .before .before .unpack .ensures) (e .if1 .left) _ _ _ _ _ _ _ _ _ (a .once .ensures) _ (c .before .before .keep
+    .ensures)
 
 pub take-spec : {M : Type 1} → statement M
 take-spec =
@@ -71,4 +76,5 @@ take-spec =
     same-length-5
     same-length-6
     same-length-7
+    same-length-8
     returns-2)

@@ -22,37 +22,33 @@ shared-slice-read-settings-of-3 c = search needs
 settings-of-requires : tie.Need-settings-of-requires
 settings-of-requires c κs = search needs
 
-flow-from-requires : tie.Need-flow-from-requires
-flow-from-requires c κs = search needs
-
 totals-from-requires : tie.Need-totals-from-requires
 totals-from-requires c κs = search needs
 
 window-from-requires : tie.Need-window-from-requires
 window-from-requires c κs = search needs
 
-shared-slice-read-t15 : tie.Need-shared-slice-read-t15
-shared-slice-read-t15 c = search needs
+shared-slice-read-t14 : tie.Need-shared-slice-read-t14
+shared-slice-read-t14 c = search needs
 
-shared-slice-read-t17 : tie.Need-shared-slice-read-t17
-shared-slice-read-t17 c = search needs
+shared-slice-read-t16 : tie.Need-shared-slice-read-t16
+shared-slice-read-t16 c = search needs
 
-cast-t18 : tie.Need-cast-t18
-cast-t18 c = search needs
+cast-t17 : tie.Need-cast-t17
+cast-t17 c = search needs
 
-shared-slice-read-t20 : tie.Need-shared-slice-read-t20
-shared-slice-read-t20 c = search needs
+shared-slice-read-t19 : tie.Need-shared-slice-read-t19
+shared-slice-read-t19 c = search needs
 
-cast-t21 : tie.Need-cast-t21
-cast-t21 c = search needs
+cast-t20 : tie.Need-cast-t20
+cast-t20 c = search needs
 
 returns : tie.Need-returns
 unfolding stateFrom
 returns c =
     let window = c .before .before .before in
     rw (
-      window .before .before .before .settings-of .ensures,
-      window .before .before .flow-from .ensures,
+      window .before .before .settings-of .ensures,
       window .before .totals-from .ensures,
       window .window-from .ensures,
     )
@@ -67,12 +63,11 @@ state-from-spec =
     cast-settings-of-2
     shared-slice-read-settings-of-3
     settings-of-requires
-    flow-from-requires
     totals-from-requires
     window-from-requires
-    shared-slice-read-t15
-    shared-slice-read-t17
-    cast-t18
-    shared-slice-read-t20
-    cast-t21
+    shared-slice-read-t14
+    shared-slice-read-t16
+    cast-t17
+    shared-slice-read-t19
+    cast-t20
     returns)

@@ -9,7 +9,7 @@ use Rattle.c_api.proofs.batch.nscc_replay.Tie as tie
 
 -- from the replay back to the state that was unpacked for it, to the place, and to the test of what was lent
 abbrev unpacking : tie.After-replay → tie.After-unpack
-unpacking k = k .before .before .before .before .before .before .before .before
+unpacking k = k .before .before .before .before .before .before .before .before .before
 
 abbrev placing : tie.After-unpack → tie.After-place-of
 placing u = u .before .before
@@ -33,7 +33,7 @@ returns : tie.Need-returns
 unfolding numberOf
 returns c =
     let i = c .before in
-    rw (c .number-of .ensures) (lent-wrong _ _ _ _ _ _ (sym (i .before .is-lent .ensures) ∙ not-true _ (i .if1 .taken)))
+    rw (c .number-of .ensures) (lent-wrong _ _ _ _ _ _ _ (sym (i .before .is-lent .ensures) ∙ not-true _ (i .if1 .taken)))
 
 place-of-requires : tie.Need-place-of-requires
 place-of-requires c κs = lent-long _ _ (sym (c .before .before .is-lent .ensures) ∙ not-false _ (c .before .if1 .left)) .0
@@ -47,7 +47,7 @@ replay-requires c κs = search needs
 keep-batch-requires : tie.Need-keep-batch-requires
 keep-batch-requires c κs =
     let e = testing (placing (unpacking
-    (c .before .before .before .before .before .before .before .before .before .before .before .before .before .before))) in
+    (c .before .before .before .before .before .before .before .before .before .before .before .before .before .before .before .before))) in
     lent-long _ _ (sym (e .before .is-lent .ensures) ∙ not-false _ (e .if1 .left))
 
 same-length-3 : tie.Need-same-length-3
@@ -74,15 +74,18 @@ same-length-9 c = search needs
 same-length-10 : tie.Need-same-length-10
 same-length-10 c = search needs
 
+same-length-11 : tie.Need-same-length-11
+same-length-11 c = search needs
+
 returns-2 : tie.Need-returns-2
 returns-2 c =
     let k = c .before .before .before .before .before .before .before .before .before .before .before .before .before .before .before
-    .before .before .before .before in
+    .before .before .before .before .before .before in
     let u = unpacking k in
     let p = placing u in
     let e = testing p in
     let stored = c .before .before .before .before .keep-batch .ensures in
-    handed-back _ _ _ _ _ _ (sym (e .before .is-lent .ensures) ∙ not-false _ (e .if1 .left)) _ (p .place-of .ensures) _
+    handed-back _ _ _ _ _ _ _ (sym (e .before .is-lent .ensures) ∙ not-false _ (e .if1 .left)) _ (p .place-of .ensures) _
     (u .unpack .ensures) _ (k .replay .ensures)
     _ _ _ (stored .0) (stored .1) (stored .2)
 
@@ -107,4 +110,5 @@ nscc-replay-spec =
     same-length-8
     same-length-9
     same-length-10
+    same-length-11
     returns-2)

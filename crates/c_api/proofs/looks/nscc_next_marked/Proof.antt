@@ -1,4 +1,4 @@
--- `nscc_next_marked`: words that are no state's are refused with 2 (`look-none`); else the sender looks (`look-on`).
+-- `nscc_next_marked`: words that are no state's are refused with 2 (`look-none`); else the context looks (`look-on`).
 use borrow.Author.Needs.{needs}
 use mathlib.Core.Path.{_∙_}
 use Rattle.rules.specs.Verdict.{numberOf}
@@ -17,7 +17,7 @@ cast-result c = search needs
 
 returns : tie.Need-returns
 unfolding numberOf
-returns c = c .number-of .ensures ∙ look-none _ _ _ _ _ (c .before .before .before .unpack .ensures) (c .before .if1 .taken)
+returns c = c .number-of .ensures ∙ look-none _ _ _ _ _ _ (c .before .before .before .unpack .ensures) (c .before .if1 .taken)
 
 next-marked-requires : tie.Need-next-marked-requires
 next-marked-requires c κs = search needs
@@ -27,7 +27,7 @@ word-of-requires c κs = search needs
 
 returns-2 : tie.Need-returns-2
 returns-2 c =
-    look-on _ _ _ _ _ (c .before .before .before .before .before .unpack .ensures) (c .before .before .before .if1 .left) _ _ _ (c
+    look-on _ _ _ _ _ _ (c .before .before .before .before .before .unpack .ensures) (c .before .before .before .if1 .left) _ _ _ (c
     .before .next-marked .ensures) (c .word-of .ensures)
 
 pub nscc-next-marked-spec : {M : Type 1} → statement M

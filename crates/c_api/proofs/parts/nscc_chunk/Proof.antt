@@ -9,7 +9,7 @@ use Rattle.c_api.proofs.parts.nscc_chunk.Tie as tie
 
 -- from the chunk back to the state that was unpacked for it, to what is carried, and to the test of what was lent
 abbrev unpacking : tie.After-chunk → tie.After-unpack
-unpacking k = k .before .before .before .before .before .before .before .before .before
+unpacking k = k .before .before .before .before .before .before .before .before .before .before
 
 abbrev placing : tie.After-unpack → tie.After-carry-of
 placing u = u .before .before
@@ -33,7 +33,7 @@ returns : tie.Need-returns
 unfolding numberOf
 returns c =
     let i = c .before in
-    rw (c .number-of .ensures) (part-wrong _ _ _ _ _ _ _ _ (sym (i .before .is-lent .ensures) ∙ not-true _ (i .if1 .taken)))
+    rw (c .number-of .ensures) (part-wrong _ _ _ _ _ _ _ _ _ (sym (i .before .is-lent .ensures) ∙ not-true _ (i .if1 .taken)))
 
 carry-of-requires : tie.Need-carry-of-requires
 carry-of-requires c κs = part-long _ _ (sym (c .before .before .is-lent .ensures) ∙ not-false _ (c .before .if1 .left)) .0
@@ -47,8 +47,8 @@ chunk-requires c κs = search needs
 keep-took-requires : tie.Need-keep-took-requires
 keep-took-requires c κs =
     let e = testing (placing (unpacking
-    (c .before .before .before .before .before .before .before .before .before .before .before .before .before .before .before
-    .before))) in
+    (c .before .before .before .before .before .before .before .before .before .before .before .before .before .before .before .before
+    .before .before))) in
     part-long _ _ (sym (e .before .is-lent .ensures) ∙ not-false _ (e .if1 .left))
 
 same-length-3 : tie.Need-same-length-3
@@ -78,15 +78,18 @@ same-length-10 c = search needs
 same-length-11 : tie.Need-same-length-11
 same-length-11 c = search needs
 
+same-length-12 : tie.Need-same-length-12
+same-length-12 c = search needs
+
 returns-2 : tie.Need-returns-2
 returns-2 c =
     let k = c .before .before .before .before .before .before .before .before .before .before .before .before .before .before .before
-    .before .before .before .before .before .before in
+    .before .before .before .before .before .before .before .before in
     let u = unpacking k in
     let p = placing u in
     let e = testing p in
     let stored = c .before .before .before .before .keep-took .ensures in
-    part-back _ _ _ _ _ _ _ _ (sym (e .before .is-lent .ensures) ∙ not-false _ (e .if1 .left)) _ (p .carry-of .ensures) _
+    part-back _ _ _ _ _ _ _ _ _ (sym (e .before .is-lent .ensures) ∙ not-false _ (e .if1 .left)) _ (p .carry-of .ensures) _
     (u .unpack .ensures) _ (k .chunk .ensures)
     _ _ _ (stored .0) (stored .1) (stored .2)
 
@@ -112,4 +115,5 @@ nscc-chunk-spec =
     same-length-9
     same-length-10
     same-length-11
+    same-length-12
     returns-2)
