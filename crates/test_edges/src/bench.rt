@@ -64,6 +64,12 @@ fn look(b: Bench, p: Phrase) -> Bench {
     b
 }
 
+// Writes the flow's record.
+fn record(b: Bench) -> Bench {
+    say::record(b.world);
+    b
+}
+
 fn choose(b: Bench, p: Phrase) -> Bench {
     let n = p.numbers;
     let word = p.word;
@@ -71,6 +77,7 @@ fn choose(b: Bench, p: Phrase) -> Bench {
         words::FULL => at(make::full(), make::CLOCK),
         words::EMPTY => at(make::empty(narrow(n[0]), narrow(n[1])), make::CLOCK),
         words::FLOWN => at(make::flown(narrow(n[0]), narrow(n[1])), make::CLOCK),
+        words::PAIR => at(make::pair(), make::CLOCK),
         words::KEEP => at(b.world, b.time),
         _ => compare(b),
     }
@@ -107,6 +114,7 @@ pub(crate) fn act(b: Bench, p: Phrase) -> Bench {
         words::STATUS..=words::EV_TIME => set_slot(b, p),
         words::FULL..=words::COMPARE => choose(b, p),
         words::STATUS_OF..=words::NEXT_MARKED => look(b, p),
+        words::RECORD => record(b),
         words::NEW_DATA..=words::SET_UP => call(b, p),
         words::UNKNOWN => {
             say::text(b" unknown");

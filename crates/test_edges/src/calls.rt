@@ -80,7 +80,7 @@ pub(crate) fn call(w: World, time: u64, word: u32, n: Numbers) -> World {
     if word == words::SET_UP {
         let state = w.state;
         let settings = state.settings;
-        return worlds::after(make::unset(), time, Call::SetUp(settings));
+        return worlds::after(make::unset(w.table), time, Call::SetUp(settings));
     }
     worlds::after(w, time, a_call(word, n))
 }

@@ -3,6 +3,7 @@
 use crate::calls::plain_ack;
 use crate::calls::plain_nack;
 use crate::fields::narrow;
+use crate::flows;
 use crate::say;
 use crate::worlds;
 use crate::worlds::Call;
@@ -11,11 +12,6 @@ use ledger::Flow;
 use sender::Ack;
 use sender::Loss;
 use sender::Send;
-
-fn flow_of(w: World) -> Flow {
-    let state = w.state;
-    state.flow
-}
 
 // A new packet of 41 bytes.
 fn a_send(f: Flow) -> Send {
@@ -38,7 +34,7 @@ fn event(w: World, time: u64, call: Call) {
 
 // Six answers.
 pub(crate) fn each(w: World, time: u64) {
-    let flow = flow_of(w);
+    let flow = flows::flow_of(w);
     let psn = flow.low;
     event(w, time, Call::NewData(1));
     event(w, time, Call::Send(a_send(flow)));

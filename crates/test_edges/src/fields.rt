@@ -1,9 +1,9 @@
 // A world with one number changed, by its word.
+use crate::flows;
 use crate::words;
 use crate::worlds::World;
-use ledger::Flow;
+use context::Controller;
 use ledger::Totals;
-use sender::Controller;
 use window::Settings;
 use window::Window;
 
@@ -67,21 +67,21 @@ fn settings_with(s: Settings, word: u32, n: u64) -> Settings {
     }
 }
 
-fn flow_with(f: Flow, word: u32, n: u64) -> Flow {
-    Flow {
-        low: pick_32(word, words::LOW, n, f.low),
-        next: pick_32(word, words::NEXT, n, f.next),
-        held: pick(word, words::HELD, n, f.held),
-        backlog: pick(word, words::BACKLOG, n, f.backlog),
+// The total backlog moves by what a flow's does.
+fn backlog_with(total: u64, word: u32, n: u64, held: u64) -> u64 {
+    if word == words::BACKLOG {
+        return std::num::wrapping_add_u64(total, std::num::wrapping_sub_u64(n, held));
     }
+    pick(word, words::BACKLOG_TOTAL, n, total)
 }
 
-fn totals_with(t: Totals, word: u32, n: u64) -> Totals {
+// `held` is the flow's backlog.
+fn totals_with(t: Totals, word: u32, n: u64, held: u64) -> Totals {
     Totals {
         flying: pick_32(word, words::FLYING, n, t.flying),
         marked: pick_32(word, words::MARKED, n, t.marked),
         marked_bytes: pick(word, words::MARKED_BYTES, n, t.marked_bytes),
-        backlog: pick(word, words::BACKLOG, n, t.backlog),
+        backlog: backlog_with(t.backlog, word, n, held),
         in_flight: pick_signed(word, words::IN_FLIGHT, n, t.in_flight),
     }
 }
@@ -116,11 +116,10 @@ fn phase_with(held: u32, word: u32) -> u32 {
     }
 }
 
-fn state_with(c: Controller, word: u32, n: u64) -> Controller {
+fn state_with(c: Controller, word: u32, n: u64, held: u64) -> Controller {
     Controller {
         settings: settings_with(c.settings, word, n),
-        flow: flow_with(c.flow, word, n),
-        totals: totals_with(c.totals, word, n),
+        totals: totals_with(c.totals, word, n, held),
         window: window_with(c.window, word, n),
         clock: pick(word, words::CLOCK, n, c.clock),
         cursor: pick_32(word, words::CURSOR, n, c.cursor),
@@ -128,10 +127,24 @@ fn state_with(c: Controller, word: u32, n: u64) -> Controller {
     }
 }
 
-// A number of the state, or its name.
+// A word of the flow that the case is at, which flow it is at, or how much of the table is lent.
+fn flows_with(w: World, word: u32, n: u64) -> World {
+    match word {
+        words::LOW => flows::with_word(w, flow_table::LOW, n),
+        words::NEXT => flows::with_word(w, flow_table::NEXT, n),
+        words::HELD => flows::with_word(w, flow_table::HELD, n),
+        words::BACKLOG => flows::with_word(w, flow_table::BACKLOG, n),
+        words::FLOW => flows::at(w, n),
+        words::TABLE => flows::with_table(w, n as usize),
+        _ => w,
+    }
+}
+
+// A number of the state or of a flow, or the state's name.
 pub(crate) fn with_number(w: World, word: u32, n: u64) -> World {
-    let state = state_with(w.state, word, n);
-    let mut v = w;
+    let held = flows::word_of(w, flow_table::BACKLOG);
+    let state = state_with(w.state, word, n, held);
+    let mut v = flows_with(w, word, n);
     v.state = state;
     v
 }

@@ -5,6 +5,7 @@ mod calls;
 mod cases;
 mod events;
 mod fields;
+mod flows;
 mod make;
 mod phrase;
 mod read;

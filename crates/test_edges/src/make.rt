@@ -1,10 +1,11 @@
 // Worlds to start from, each built by hand and not by calls.
+use crate::flows;
 use crate::slots;
 use crate::worlds;
 use crate::worlds::World;
+use context::Controller;
 use ledger::Flow;
 use ledger::Totals;
-use sender::Controller;
 use window::Settings;
 use window::Window;
 
@@ -13,6 +14,9 @@ pub const CLOCK: u64 = 1000;
 
 // A resend in a slot's number.
 const RESEND: u32 = 65536;
+
+// What memory holds before it is set up.
+const OLD: u32 = 7;
 
 // Settings E of document 01, and 256 EVs.
 fn settings() -> Settings {
@@ -76,12 +80,10 @@ fn quiet_window(cwnd: u64, base: u64) -> Window {
 }
 
 // No packet flying or marked, and the window that settings start with.
-fn quiet(settings: Settings, flow: Flow, clock: u64, phase: u32) -> Controller {
+fn quiet(settings: Settings, backlog: u64, clock: u64, phase: u32) -> Controller {
     let window = quiet_window(settings.maxwnd, settings.config_base_rtt);
-    let backlog = flow.backlog;
     Controller {
         settings,
-        flow,
         totals: Totals {
             flying: 0,
             marked: 0,
@@ -96,15 +98,18 @@ fn quiet(settings: Settings, flow: Flow, clock: u64, phase: u32) -> Controller {
     }
 }
 
-// Lent memory that holds one number in each place.
-fn lend(state: Controller, fill: u32, wide: bool) -> World {
+// Memory that holds one number in each place, of which so much of the table is lent.
+fn lend(state: Controller, fill: u32, table: usize, wide: bool) -> World {
     World {
-        outstanding: [fill as u64; 2],
-        marked: [fill as u64; 2],
-        sizes: [fill; 128],
-        sent: [fill as u64; 128],
+        flows: [fill as u64; worlds::TABLE_MOST],
+        outstanding: [fill as u64; worlds::WORDS_MOST],
+        marked: [fill as u64; worlds::WORDS_MOST],
+        sizes: [fill; worlds::SLOTS_MOST],
+        sent: [fill as u64; worlds::SLOTS_MOST],
         evs: [fill as u64; 256],
+        table,
         wide,
+        flow: 0,
         number: 0,
         state,
     }
@@ -112,23 +117,49 @@ fn lend(state: Controller, fill: u32, wide: bool) -> World {
 
 // What a fresh state is, by document 01.
 fn fresh_state(settings: Settings) -> Controller {
-    let flow = Flow {
-        low: settings.first_psn,
-        next: settings.first_psn,
+    quiet(settings, 0, 0, sender::IDLE)
+}
+
+// Zeros in every slot that is lent, and no other.
+fn cleared(w: World) -> World {
+    let end = worlds::slot_count(w.table, w.wide);
+    let mut v = w;
+    for slot in 0..576 {
+        if slot < end {
+            v = slots::zero(v, slot);
+        }
+    }
+    v
+}
+
+// Every flow that is lent from the same PSN on, and no other.
+fn numbered(w: World, psn: u32) -> World {
+    let end = worlds::count(w.table);
+    let f = Flow {
+        low: psn,
+        next: psn,
         held: 0,
         backlog: 0,
     };
-    quiet(settings, flow, 0, sender::IDLE)
+    let mut v = w;
+    for k in 0..9 {
+        if k < end {
+            v = flows::put(flows::at(v, k as u64), f);
+        }
+    }
+    v
 }
 
 // What an accepted setting up must leave.
-pub(crate) fn fresh(settings: Settings) -> World {
-    lend(fresh_state(settings), 0, true)
+pub(crate) fn fresh(settings: Settings, table: usize) -> World {
+    let mut w = lend(fresh_state(settings), OLD, table, true);
+    w.evs = [0; 256];
+    numbered(cleared(w), settings.first_psn)
 }
 
 // No state, which a refused setting up answers too, and lent memory that holds whatever it held.
-pub(crate) fn unset() -> World {
-    lend(fresh_state(no_settings()), 7, true)
+pub(crate) fn unset(table: usize) -> World {
+    lend(fresh_state(no_settings()), OLD, table, true)
 }
 
 // An empty ring with a backlog, named READY.
@@ -139,7 +170,8 @@ pub(crate) fn empty(low: u32, next: u32) -> World {
         held: 7,
         backlog: 8192,
     };
-    lend(quiet(settings(), flow, CLOCK, sender::READY), 0, false)
+    let state = quiet(settings(), flow.backlog, CLOCK, sender::READY);
+    flows::put(lend(state, 0, flow_table::FLOW_WORDS, false), flow)
 }
 
 // Low 5, next 10: 5 flying, 6 marked, 7 done, 8 and 9 flying. Every event has one that is accepted here.
@@ -163,9 +195,30 @@ pub(crate) fn mixed() -> World {
     w
 }
 
+// Flow 0 is that of `mixed`. Flow 1 has low 20, next 23: 20 flying, 21 marked, 22 flying.
+pub(crate) fn pair() -> World {
+    let flow = Flow {
+        low: 20,
+        next: 23,
+        held: 3,
+        backlog: 1000,
+    };
+    let mut w = flows::at(flows::put(flows::at(mixed(), 1), flow), 0);
+    w.table = 2 * flow_table::FLOW_WORDS;
+    w.state.totals.flying = 5;
+    w.state.totals.marked = 2;
+    w.state.totals.marked_bytes = 350;
+    w.state.totals.backlog = 9192;
+    w = slots::flying(w, 84, 100, 940);
+    w = slots::flying(w, 85, 150 + RESEND, 950);
+    w = slots::flying(w, 86, 250, 960);
+    w.marked[1] = 1 << 21;
+    w
+}
+
 // Whether a slot is one of low..next-1.
 fn is_between(slot: usize, low: u32, next: u32, wide: bool) -> bool {
-    let cap = worlds::capacity(wide);
+    let cap = worlds::capacity(flow_table::FLOW_WORDS, wide);
     let age = std::num::wrapping_sub_usize(slot, low as usize) % cap;
     (slot < cap) & (age < std::num::wrapping_sub_u32(next, low) as usize)
 }

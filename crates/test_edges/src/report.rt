@@ -20,7 +20,6 @@ fn bytes_of(in_flight: i64) -> u64 {
 fn row(w: World) {
     let state = w.state;
     let totals = state.totals;
-    let flow = state.flow;
     let window = state.window;
     let phase = state.phase;
     say::also(w.number as u64);
@@ -28,16 +27,16 @@ fn row(w: World) {
     say::also(window.cwnd);
     say::also(totals.flying as u64);
     say::also(totals.marked as u64);
-    say::also(flow.backlog);
+    say::also(totals.backlog);
     say::word_of(phase);
 }
 
 // What setting up must leave, by the number that it answered.
-fn set_up_leaves(settings: Settings, number: u32) -> World {
+fn set_up_leaves(settings: Settings, table: usize, number: u32) -> World {
     if number == 0 {
-        return make::fresh(settings);
+        return make::fresh(settings, table);
     }
-    make::unset()
+    make::unset(table)
 }
 
 // The number; then `fresh` or `same`, where the world is what setting up must leave.
@@ -50,7 +49,7 @@ fn set_up(before: World, after: World) {
     } else {
         say::text(b" same");
     }
-    if !same_world(set_up_leaves(state.settings, number), after) {
+    if !same_world(set_up_leaves(state.settings, after.table, number), after) {
         say::text(b" CHANGED");
     }
 }
@@ -63,7 +62,7 @@ pub(crate) fn write(word: u32, before: World, after: World, time: u64) {
         words::EVENTS => events::each(after, time),
         words::ROW => row(after),
         words::LEDGER => ring::write(after),
-        words::COMPARE..=words::NEXT_MARKED => (),
+        words::COMPARE..=words::RECORD => (),
         _ => say::text(b" unknown"),
     }
 }

@@ -1,5 +1,6 @@
-// A ledger as it is written: what a call answered, low, next, the totals of flying packets, marked packets and marked bytes; then the ring
-// from low on, slot by slot, equal ones together with their number: f flying, m marked, d done, e empty, x what no slot may be.
+// A flow's ledger as it is written: what a call answered, low, next, the totals of flying packets, marked packets and marked bytes; then
+// its ring from low on, slot by slot, equal ones together with their number: f flying, m marked, d done, e empty, x what no slot may be.
+use crate::flows;
 use crate::say;
 use crate::slots;
 use crate::worlds;
@@ -32,11 +33,20 @@ fn kind(w: World, slot: usize) -> u8 {
     DONE
 }
 
+// Where a flow's ring begins: of several flows each has 64 slots.
+fn start_of(flow: u64) -> usize {
+    if flow < 9 {
+        return 64 * (flow as usize);
+    }
+    worlds::SLOTS_MOST
+}
+
 // The slot k after low.
 fn slot_after(w: World, k: usize) -> usize {
-    let state = w.state;
-    let flow = state.flow;
-    std::num::wrapping_add_usize(flow.low as usize, k) % worlds::capacity(w.wide)
+    let flow = flows::flow_of(w);
+    let cap = worlds::capacity(w.table, w.wide);
+    let slot = std::num::wrapping_add_usize(flow.low as usize, k) % cap;
+    std::num::wrapping_add_usize(start_of(w.flow), slot)
 }
 
 // Slots of one kind.
@@ -76,7 +86,7 @@ fn slots(w: World) {
         kind: kind(w, slot_after(w, 0)),
         count: 0,
     };
-    let end = worlds::capacity(w.wide);
+    let end = worlds::capacity(w.table, w.wide);
     let mut k = 0;
     while k < end {
         run = run.next(kind(w, slot_after(w, k)));
@@ -88,7 +98,7 @@ fn slots(w: World) {
 pub(crate) fn write(w: World) {
     let state = w.state;
     let totals = state.totals;
-    let flow = state.flow;
+    let flow = flows::flow_of(w);
     say::also(w.number as u64);
     say::also(flow.low as u64);
     say::also(flow.next as u64);

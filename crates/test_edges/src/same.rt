@@ -1,6 +1,6 @@
 // Whether two worlds are the same, word by word and slot by slot.
 use crate::worlds::World;
-use sender::Controller;
+use context::Controller;
 
 // Slices of one length whose every element is equal, at two widths.
 fn same_32<'a>(a: &'a [u32], b: &'a [u32]) -> bool {
@@ -57,13 +57,23 @@ fn same_packets(a: World, b: World) -> bool {
     same_32(&a_sizes, &b_sizes) & same_64(&a_sent, &b_sent)
 }
 
+fn same_flows(a: World, b: World) -> bool {
+    let a_flows = a.flows;
+    let b_flows = b.flows;
+    same_64(&a_flows, &b_flows)
+}
+
 fn same_evs(a: World, b: World) -> bool {
     let a_evs = a.evs;
     let b_evs = b.evs;
     same_64(&a_evs, &b_evs)
 }
 
-// State, ring and EV times; what the last call answered is no part of it.
+// State, table, rings and EV times; what the last call answered is no part of it.
 pub(crate) fn same_world(a: World, b: World) -> bool {
-    same_state(a.state, b.state) & same_bits(a, b) & same_packets(a, b) & same_evs(a, b)
+    same_state(a.state, b.state)
+        & same_flows(a, b)
+        & same_bits(a, b)
+        & same_packets(a, b)
+        & same_evs(a, b)
 }

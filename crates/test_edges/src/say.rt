@@ -1,4 +1,5 @@
 // What the program writes.
+use crate::flows;
 use crate::same::same_world;
 use crate::worlds::World;
 use rules::verdict::number_of;
@@ -34,6 +35,14 @@ pub(crate) fn comparison(before: World, after: World) {
         return;
     }
     text(b" CHANGED");
+}
+
+// Low, next, the held count and the backlog of the flow that the case is at.
+pub(crate) fn record(w: World) {
+    also(flows::word_of(w, flow_table::LOW));
+    also(flows::word_of(w, flow_table::NEXT));
+    also(flows::word_of(w, flow_table::HELD));
+    also(flows::word_of(w, flow_table::BACKLOG));
 }
 
 // The number that a look answered, and what it found.

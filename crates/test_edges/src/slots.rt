@@ -2,19 +2,23 @@
 // lower and the upper half of one number.
 use crate::fields::narrow;
 use crate::words;
+use crate::worlds;
 use crate::worlds::World;
 
 // The lower half of a slot's number.
 const HALF: u32 = 65535;
+
+// One bit a slot.
+type Bits = [u64; worlds::WORDS_MOST];
 
 // Where a slot's bit stands in its word.
 fn bit(slot: usize) -> u64 {
     1 << (slot % 64)
 }
 
-fn with_bit(all: [u64; 2], slot: usize, on: bool) -> [u64; 2] {
+fn with_bit(all: Bits, slot: usize, on: bool) -> Bits {
     let mut v = all;
-    if slot < 128 {
+    if slot < 576 {
         let q = slot / 64;
         v[q] = if on {
             v[q] | bit(slot)
@@ -25,8 +29,8 @@ fn with_bit(all: [u64; 2], slot: usize, on: bool) -> [u64; 2] {
     v
 }
 
-pub(crate) fn is_set(all: [u64; 2], slot: usize) -> bool {
-    if slot < 128 {
+pub(crate) fn is_set(all: Bits, slot: usize) -> bool {
+    if slot < 576 {
         return all[slot / 64] & bit(slot) != 0;
     }
     false
@@ -55,14 +59,14 @@ fn with_status(w: World, slot: usize, n: u64) -> World {
 
 fn with_slot_number(w: World, slot: usize, n: u32) -> World {
     let mut v = w;
-    if slot < 128 {
+    if slot < 576 {
         v.sizes[slot] = n;
     }
     v
 }
 
 pub(crate) fn number_at(w: World, slot: usize) -> u32 {
-    if slot < 128 {
+    if slot < 576 {
         return w.sizes[slot];
     }
     0
@@ -78,14 +82,14 @@ fn with_resent(w: World, slot: usize, n: u64) -> World {
 
 fn with_sent(w: World, slot: usize, n: u64) -> World {
     let mut v = w;
-    if slot < 128 {
+    if slot < 576 {
         v.sent[slot] = n;
     }
     v
 }
 
 pub(crate) fn sent_at(w: World, slot: usize) -> u64 {
-    if slot < 128 {
+    if slot < 576 {
         return w.sent[slot];
     }
     0
@@ -103,6 +107,11 @@ fn with_ev_time(w: World, ev: usize, n: u64) -> World {
 pub(crate) fn flying(w: World, slot: usize, size: u32, sent: u64) -> World {
     let v = with_slot_number(w, slot, size);
     with_outstanding(with_sent(v, slot, sent), slot, true)
+}
+
+// A slot as it is where there is no packet.
+pub(crate) fn zero(w: World, slot: usize) -> World {
+    with_status(with_sent(with_slot_number(w, slot, 0), slot, 0), slot, 0)
 }
 
 // A slot's bit or number, or an EV's time.

@@ -1,25 +1,38 @@
-// A state with the memory that is lent to it, as one value: a call takes one and answers the next, so the one before stays to compare with.
+// A context with the memory that is lent to it, as one value: a call takes one and answers the next, so the one before stays to compare
+// with.
+use context::Answer;
+use context::Controller;
+use context::Heard;
+use context::Routed;
+use context::entry;
 use rules::verdict::number_of;
 use sender::Ack;
-use sender::Answer;
-use sender::Controller;
-use sender::Heard;
 use sender::Loss;
 use sender::Nack;
-use sender::Routed;
 use sender::Send;
 use sender::look::Look;
 use window::Settings;
 ghost use Prim.Native.Nat.{_≤_, _<_};
 
-// A ring of 64 slots, or of 128 where it is wide: so much of the memory is lent. `number` is what the last call answered.
+// The memory has room for nine flows, one more than a context may have, and for a ring of 64 slots for each.
+pub const TABLE_MOST: usize = 36;
+
+pub const WORDS_MOST: usize = 9;
+
+pub const SLOTS_MOST: usize = 576;
+
+// The first `table` words of `flows` are lent, and so much of the other memory as these flows have rings: of 64 slots, or one of 128
+// where it is wide. `flow` is the one that the case is at, `number` what the last call answered.
 pub struct World {
+    pub flows: [u64; TABLE_MOST],
     pub evs: [u64; 256],
-    pub outstanding: [u64; 2],
-    pub marked: [u64; 2],
-    pub sizes: [u32; 128],
-    pub sent: [u64; 128],
+    pub outstanding: [u64; WORDS_MOST],
+    pub marked: [u64; WORDS_MOST],
+    pub sizes: [u32; SLOTS_MOST],
+    pub sent: [u64; SLOTS_MOST],
+    pub table: usize,
     pub wide: bool,
+    pub flow: u64,
     pub number: u32,
     pub state: Controller,
 }
@@ -68,16 +81,35 @@ fn of_routed(routed: Routed) -> Got {
     }
 }
 
-// The ring's capacity.
-pub(crate) fn capacity(wide: bool) -> usize
-    ensures { λ r. ⌜ (0 < r) × (r ≤ 128) ⌝ }
-{
-    if wide { 128 } else { 64 }
+// How many flows are lent.
+pub(crate) fn count(table: usize) -> usize {
+    table / flow_table::FLOW_WORDS
 }
 
-// The words of each kind of bits.
-fn word_count(wide: bool) -> usize {
-    if wide { 2 } else { 1 }
+// The capacity of each ring.
+pub(crate) fn capacity(table: usize, wide: bool) -> usize
+    ensures { λ r. ⌜ (0 < r) × (r ≤ 128) ⌝ }
+{
+    if wide & (count(table) < 2) { 128 } else { 64 }
+}
+
+// The words of each kind of bits that are lent: one for each flow, and with no flow still one ring.
+fn word_count(table: usize, wide: bool) -> usize
+    ensures { λ r. ⌜ r ≤ 9 ⌝ }
+{
+    let least = if wide { 2 } else { 1 };
+    cut(most(count(table), least), WORDS_MOST)
+}
+
+// The slots that are lent.
+pub(crate) fn slot_count(table: usize, wide: bool) -> usize
+    ensures { λ r. ⌜ r ≤ 576 ⌝ }
+{
+    64 * word_count(table, wide)
+}
+
+fn most(a: usize, b: usize) -> usize {
+    if a < b { b } else { a }
 }
 
 // So much of what is there.
@@ -87,95 +119,110 @@ fn cut(n: usize, len: usize) -> usize
     if n < len { n } else { len }
 }
 
-// The calls that only read what is lent.
-fn reading<'a>(
+// The calls that only read the rings and the EV times.
+fn reading<'a, 'b>(
     call: Call,
-    before: Controller,
+    c: Controller,
     time: u64,
-    outstanding: &'a [u64],
-    marked: &'a [u64],
-    sizes: &'a [u32],
-    sent: &'a [u64],
-    evs: &'a [u64],
+    flow: usize,
+    flows: &'a mut [u64],
+    out: &'b [u64],
+    marked: &'b [u64],
+    sizes: &'b [u32],
+    sent: &'b [u64],
+    evs: &'b [u64],
 ) -> Got {
     match call {
-        Call::NewData(n) => of_answer(before.new_data(
-            outstanding,
-            marked,
-            sizes,
-            sent,
-            evs,
-            time,
-            n,
-        )),
-        _ => of_routed(before.path(outstanding, marked, sizes, sent, evs, time)),
+        Call::NewData(n) => {
+            let answer = entry::new_data(c, flows, out, marked, sizes, sent, evs, time, flow, n);
+            of_answer(answer)
+        }
+        _ => of_routed(entry::path(c, flows, out, marked, sizes, sent, evs, time, flow)),
     }
 }
 
 // Those that change marks and EV times, and those that only read.
-fn marking<'a, 'b, 'c>(
+fn marking<'a, 'b, 'c, 'd>(
     call: Call,
-    before: Controller,
+    c: Controller,
     time: u64,
-    outstanding: &'b [u64],
-    marked: &'a mut [u64],
-    sizes: &'b [u32],
-    sent: &'b [u64],
+    flow: usize,
+    flows: &'a mut [u64],
+    out: &'d [u64],
+    marked: &'b mut [u64],
+    sizes: &'d [u32],
+    sent: &'d [u64],
     evs: &'c mut [u64],
 ) -> Got {
     match call {
-        Call::Nack(a) => of_heard(before.nack(outstanding, marked, sizes, sent, evs, time, a)),
-        Call::Loss(a) => of_answer(before.loss(outstanding, marked, sizes, sent, evs, time, a)),
-        _ => reading(call, before, time, outstanding, marked, sizes, sent, evs),
+        Call::Nack(a) => {
+            let heard = entry::nack(c, flows, out, marked, sizes, sent, evs, time, flow, a);
+            of_heard(heard)
+        }
+        Call::Loss(a) => {
+            let answer = entry::loss(c, flows, out, marked, sizes, sent, evs, time, flow, a);
+            of_answer(answer)
+        }
+        _ => reading(call, c, time, flow, flows, out, marked, sizes, sent, evs),
     }
 }
 
 // All of them.
-fn answered<'a, 'b, 'c, 'd, 'e>(
+fn answered<'a, 'b, 'c, 'd, 'e, 'f>(
     call: Call,
-    before: Controller,
+    c: Controller,
     time: u64,
-    outstanding: &'a mut [u64],
-    marked: &'b mut [u64],
-    sizes: &'c mut [u32],
-    sent: &'d mut [u64],
-    evs: &'e mut [u64],
+    flow: usize,
+    flows: &'a mut [u64],
+    out: &'b mut [u64],
+    marked: &'c mut [u64],
+    sizes: &'d mut [u32],
+    sent: &'e mut [u64],
+    evs: &'f mut [u64],
 ) -> Got {
     match call {
-        Call::SetUp(s) => of_answer(sender::start::set_up(
-            s,
-            outstanding,
-            marked,
-            sizes,
-            sent,
-            evs,
-        )),
-        Call::Send(a) => of_answer(before.send(outstanding, marked, sizes, sent, evs, time, a)),
-        Call::Ack(a) => of_heard(before.ack(outstanding, marked, sizes, sent, evs, time, a)),
-        _ => marking(call, before, time, outstanding, marked, sizes, sent, evs),
+        Call::SetUp(s) => {
+            let answer = context::start::set_up(s, flows, out, marked, sizes, sent, evs);
+            of_answer(answer)
+        }
+        Call::Send(a) => {
+            let answer = entry::send(c, flows, out, marked, sizes, sent, evs, time, flow, a);
+            of_answer(answer)
+        }
+        Call::Ack(a) => {
+            let heard = entry::ack(c, flows, out, marked, sizes, sent, evs, time, flow, a);
+            of_heard(heard)
+        }
+        _ => marking(call, c, time, flow, flows, out, marked, sizes, sent, evs),
     }
 }
 
 // A call on the part of the memory that is lent.
-fn lent<'a, 'b, 'c, 'd, 'e>(
+fn lent<'a, 'b, 'c, 'd, 'e, 'f>(
     call: Call,
     before: Controller,
+    table: usize,
     wide: bool,
     time: u64,
-    outstanding: &'a mut [u64],
-    marked: &'b mut [u64],
-    sizes: &'c mut [u32],
-    sent: &'d mut [u64],
-    evs: &'e mut [u64],
+    flow: usize,
+    flows: &'a mut [u64],
+    outstanding: &'b mut [u64],
+    marked: &'c mut [u64],
+    sizes: &'d mut [u32],
+    sent: &'e mut [u64],
+    evs: &'f mut [u64],
 ) -> Got {
-    let a = cut(word_count(wide), outstanding.len());
-    let b = cut(word_count(wide), marked.len());
-    let c = cut(capacity(wide), sizes.len());
-    let d = cut(capacity(wide), sent.len());
+    let t = cut(table, flows.len());
+    let a = cut(word_count(table, wide), outstanding.len());
+    let b = cut(word_count(table, wide), marked.len());
+    let c = cut(slot_count(table, wide), sizes.len());
+    let d = cut(slot_count(table, wide), sent.len());
     answered(
         call,
         before,
         time,
+        flow,
+        &mut flows[0..t],
         &mut outstanding[0..a],
         &mut marked[0..b],
         &mut sizes[0..c],
@@ -186,6 +233,7 @@ fn lent<'a, 'b, 'c, 'd, 'e>(
 
 // The world after a call.
 pub(crate) fn after(w: World, time: u64, call: Call) -> World {
+    let mut flows = w.flows;
     let mut outstanding = w.outstanding;
     let mut marked = w.marked;
     let mut sizes = w.sizes;
@@ -194,8 +242,11 @@ pub(crate) fn after(w: World, time: u64, call: Call) -> World {
     let got = lent(
         call,
         w.state,
+        w.table,
         w.wide,
         time,
+        w.flow as usize,
+        &mut flows,
         &mut outstanding,
         &mut marked,
         &mut sizes,
@@ -205,12 +256,15 @@ pub(crate) fn after(w: World, time: u64, call: Call) -> World {
     let state = got.state;
     World {
         state,
+        flows,
         outstanding,
         marked,
         sizes,
         sent,
         evs,
+        table: w.table,
         wide: w.wide,
+        flow: w.flow,
         number: got.number,
     }
 }
@@ -219,29 +273,35 @@ pub(crate) fn after(w: World, time: u64, call: Call) -> World {
 fn seen<'a>(
     status: bool,
     state: Controller,
+    table: usize,
     wide: bool,
+    flow: usize,
     psn: u32,
+    flows: &'a [u64],
     outstanding: &'a [u64],
     marked: &'a [u64],
     sizes: &'a [u32],
     sent: &'a [u64],
     evs: &'a [u64],
 ) -> Look {
-    let a = cut(word_count(wide), outstanding.len());
-    let b = cut(word_count(wide), marked.len());
-    let c = cut(capacity(wide), sizes.len());
-    let d = cut(capacity(wide), sent.len());
+    let t = cut(table, flows.len());
+    let a = cut(word_count(table, wide), outstanding.len());
+    let b = cut(word_count(table, wide), marked.len());
+    let c = cut(slot_count(table, wide), sizes.len());
+    let d = cut(slot_count(table, wide), sent.len());
+    let records = &flows[0..t];
     let out = &outstanding[0..a];
     let mark = &marked[0..b];
     let size = &sizes[0..c];
     let time = &sent[0..d];
     if status {
-        return sender::look::status(state, out, mark, size, time, evs, psn);
+        return context::look::status(state, records, out, mark, size, time, evs, flow, psn);
     }
-    sender::look::next_marked(state, out, mark, size, time, evs, psn)
+    context::look::next_marked(state, records, out, mark, size, time, evs, flow, psn)
 }
 
 pub(crate) fn look(w: World, status: bool, psn: u32) -> Look {
+    let flows = w.flows;
     let outstanding = w.outstanding;
     let marked = w.marked;
     let sizes = w.sizes;
@@ -250,8 +310,11 @@ pub(crate) fn look(w: World, status: bool, psn: u32) -> Look {
     seen(
         status,
         w.state,
+        w.table,
         w.wide,
+        w.flow as usize,
         psn,
+        &flows,
         &outstanding,
         &marked,
         &sizes,

@@ -1,19 +1,23 @@
 // Every entry point on lent slices of any lengths.
 use crate::make;
-use crate::make::Evs;
+use crate::make::Given;
+use crate::make::TABLE;
+use context::Answer;
+use context::Controller;
+use context::Heard;
+use context::Routed;
+use context::entry;
+use context::look;
+use context::start;
 use rules::verdict::number_of;
 use sender::Ack;
-use sender::Answer;
-use sender::Controller;
-use sender::Heard;
 use sender::Loss;
 use sender::Nack;
-use sender::Routed;
 use sender::Send;
 use sender::look::Look;
 use window::Settings;
 
-// An entry point; the events are calls on the empty ledger that no row but 2, 10 or, by its EV, 23 refuses.
+// An entry point; the events are calls on empty rings that no row but 2, 10 or, by its EV, 23 or, by its flow, 25 refuses.
 pub enum Call {
     SetUp(Settings),
     NewData,
@@ -96,113 +100,130 @@ fn a_nack(ev: u32) -> Nack {
     }
 }
 
-// The calls that only read what is lent.
-fn reading<'a>(
+// The calls that change no ring and no EV time: of flow k, at the clock.
+fn reading<'a, 'b>(
     call: Call,
-    e: Evs,
-    outstanding: &'a [u64],
-    marked: &'a [u64],
-    sizes: &'a [u32],
-    sent: &'a [u64],
-    evs: &'a [u64],
+    e: Given,
+    flows: &'a mut [u64],
+    outstanding: &'b [u64],
+    marked: &'b [u64],
+    sizes: &'b [u32],
+    sent: &'b [u64],
+    evs: &'b [u64],
 ) -> Got {
-    let time = make::CLOCK;
-    let before = make::empty(e);
+    let c = make::empty(e);
+    let at = c.clock;
+    let k = e.flow;
     match call {
-        Call::NewData => of_answer(before.new_data(outstanding, marked, sizes, sent, evs, time, 1)),
-        _ => of_routed(before.path(outstanding, marked, sizes, sent, evs, time)),
+        Call::NewData => {
+            let a = entry::new_data(c, flows, outstanding, marked, sizes, sent, evs, at, k, 1);
+            of_answer(a)
+        }
+        _ => of_routed(entry::path(c, flows, outstanding, marked, sizes, sent, evs, at, k)),
     }
 }
 
-// Those that change marks and EV times, and those that only read.
-fn marking<'a, 'b, 'c>(
+// Those that change marks and EV times, and those before.
+fn marking<'a, 'b, 'c, 'd>(
     call: Call,
-    e: Evs,
-    outstanding: &'b [u64],
-    marked: &'a mut [u64],
-    sizes: &'b [u32],
-    sent: &'b [u64],
+    e: Given,
+    flows: &'a mut [u64],
+    outstanding: &'d [u64],
+    marked: &'b mut [u64],
+    sizes: &'d [u32],
+    sent: &'d [u64],
     evs: &'c mut [u64],
 ) -> Got {
-    let time = make::CLOCK;
-    let before = make::empty(e);
+    let c = make::empty(e);
+    let at = c.clock;
+    let k = e.flow;
+    let nack = a_nack(e.ev);
+    let loss = Loss { psn: 5, ev: e.ev };
     match call {
-        Call::Nack => of_heard(before.nack(
-            outstanding,
-            marked,
-            sizes,
-            sent,
-            evs,
-            time,
-            a_nack(e.ev),
-        )),
-        Call::Loss => of_answer(before.loss(
-            outstanding,
-            marked,
-            sizes,
-            sent,
-            evs,
-            time,
-            Loss { psn: 5, ev: e.ev },
-        )),
-        _ => reading(call, e, outstanding, marked, sizes, sent, evs),
+        Call::Nack => {
+            let a = entry::nack(c, flows, outstanding, marked, sizes, sent, evs, at, k, nack);
+            of_heard(a)
+        }
+        Call::Loss => {
+            let a = entry::loss(c, flows, outstanding, marked, sizes, sent, evs, at, k, loss);
+            of_answer(a)
+        }
+        _ => reading(call, e, flows, outstanding, marked, sizes, sent, evs),
     }
 }
 
 // All of them.
-pub(crate) fn answered<'a, 'b, 'c, 'd, 'e>(
+pub(crate) fn answered<'a, 'b, 'c, 'd, 'e, 'f>(
     call: Call,
-    e: Evs,
-    outstanding: &'a mut [u64],
-    marked: &'b mut [u64],
-    sizes: &'c mut [u32],
-    sent: &'d mut [u64],
-    evs: &'e mut [u64],
+    e: Given,
+    flows: &'a mut [u64],
+    outstanding: &'b mut [u64],
+    marked: &'c mut [u64],
+    sizes: &'d mut [u32],
+    sent: &'e mut [u64],
+    evs: &'f mut [u64],
 ) -> Got {
-    let time = make::CLOCK;
-    let before = make::empty(e);
+    let c = make::empty(e);
+    let at = c.clock;
+    let k = e.flow;
+    let send = a_send();
+    let ack = an_ack(e.ev);
     match call {
-        Call::SetUp(s) => of_answer(sender::start::set_up(
-            s,
-            outstanding,
-            marked,
-            sizes,
-            sent,
-            evs,
-        )),
-        Call::Send => of_answer(before.send(outstanding, marked, sizes, sent, evs, time, a_send())),
-        Call::Ack => of_heard(before.ack(
-            outstanding,
-            marked,
-            sizes,
-            sent,
-            evs,
-            time,
-            an_ack(e.ev),
-        )),
-        _ => marking(call, e, outstanding, marked, sizes, sent, evs),
+        Call::SetUp(s) => {
+            of_answer(start::set_up(s, flows, outstanding, marked, sizes, sent, evs))
+        }
+        Call::Send => {
+            let a = entry::send(c, flows, outstanding, marked, sizes, sent, evs, at, k, send);
+            of_answer(a)
+        }
+        Call::Ack => {
+            let a = entry::ack(c, flows, outstanding, marked, sizes, sent, evs, at, k, ack);
+            of_heard(a)
+        }
+        _ => marking(call, e, flows, outstanding, marked, sizes, sent, evs),
     }
 }
 
 // The two looks, at low.
 pub(crate) fn looked<'a>(
-    e: Evs,
+    e: Given,
+    flows: &'a [u64],
     outstanding: &'a [u64],
     marked: &'a [u64],
     sizes: &'a [u32],
     sent: &'a [u64],
     evs: &'a [u64],
 ) -> Looks {
-    let state = make::empty(e);
+    let c = make::empty(e);
+    let k = e.flow;
     let low = make::LOW;
     Looks {
-        status: sender::look::status(state, outstanding, marked, sizes, sent, evs, low),
-        next_marked: sender::look::next_marked(state, outstanding, marked, sizes, sent, evs, low),
+        status: look::status(c, flows, outstanding, marked, sizes, sent, evs, k, low),
+        next_marked: look::next_marked(c, flows, outstanding, marked, sizes, sent, evs, k, low),
     }
 }
 
+// The table that is lent to a call: to setting up, memory that held one number.
+pub(crate) fn table_before(call: Call, e: Given, fill: u32) -> [u64; TABLE] {
+    let Call::SetUp(_) = call else {
+        return make::empty_table(e);
+    };
+    [fill as u64; TABLE]
+}
+
+// The table that a call must leave: where an event is accepted any will do.
+pub(crate) fn table_after(call: Call, e: Given, fill: u32, number: u32) -> [u64; TABLE] {
+    let Call::SetUp(settings) = call else {
+        return make::empty_table(e);
+    };
+    if number == 0 {
+        return make::fresh_table(settings);
+    }
+    [fill as u64; TABLE]
+}
+
 // The state that a call must answer: where an event is accepted any will do.
-pub(crate) fn wanted(call: Call, e: Evs, number: u32) -> Controller {
+pub(crate) fn wanted(call: Call, e: Given, number: u32) -> Controller {
     let Call::SetUp(settings) = call else {
         return make::empty(e);
     };

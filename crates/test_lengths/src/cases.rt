@@ -1,86 +1,17 @@
-// Refusal 2 on lengths: each slice too short, too long, or no power of two, to setting up, to every event and to the looks.
-use crate::calls::Call;
+// Refusal 2 on lengths, with one flow: each slice too short, too long, or no power of two, to setting up, to every event and to the looks.
+use crate::lines::both;
+use crate::lines::counted;
+use crate::lines::events;
+use crate::lines::given;
+use crate::lines::set_up;
 use crate::make;
-use crate::make::Evs;
-use crate::room;
 use crate::room::Lengths;
-use crate::say;
-use window::Settings;
 
-// 256 EVs, as where nothing else is said.
-fn plain() -> Evs {
-    some_evs(256, 0, 0)
-}
-
-fn some_evs(count: u64, cursor: u32, ev: u32) -> Evs {
-    Evs { count, cursor, ev }
-}
-
-// Memory that held sevens is cleared, or where setting up is refused left alone.
-fn set_up(label: &[u8], settings: Settings, k: Lengths) {
-    let v = room::lend(Call::SetUp(settings), plain(), 7, k);
-    say::text(label);
-    say::text(b":");
-    say::also(v.number);
-    if v.as_wanted & (v.number == 0) {
-        say::text(b" fresh\n");
-        return;
-    }
-    say::verdict(v.as_wanted);
-    say::text(b"\n");
-}
-
-// The ring is empty: zeros.
-fn event(call: Call, e: Evs, k: Lengths) {
-    let v = room::lend(call, e, 0, k);
-    say::also(v.number);
-    if v.number != 0 {
-        say::verdict(v.as_wanted);
-    }
-}
-
-// Every event, to the end of the line.
-fn events(label: &[u8], e: Evs, k: Lengths) {
-    say::text(label);
-    say::text(b":");
-    event(Call::NewData, e, k);
-    event(Call::Send, e, k);
-    event(Call::Ack, e, k);
-    event(Call::Nack, e, k);
-    event(Call::Loss, e, k);
-    event(Call::Path, e, k);
-    say::text(b"\n");
-}
-
-// The two looks: the number that each answers, and what it finds.
-fn looks(label: &[u8], e: Evs, k: Lengths) {
-    let v = room::look(e, k);
-    say::text(label);
-    say::text(b":");
-    say::look(v.status);
-    say::look(v.next_marked);
-    say::text(b"\n");
-}
-
-// Setting up with a number of EVs, every event, and the looks: three lines.
-fn counted(label: &[u8], count: u64, k: Lengths) {
-    let evs = some_evs(count, 0, 0);
-    say::text(b"2 set up ");
-    set_up(label, make::settings(4096, count), k);
-    say::text(b"2 lengths ");
-    events(label, evs, k);
-    say::text(b"2 looks ");
-    looks(label, evs, k);
-}
-
-fn both(label: &[u8], k: Lengths) {
-    counted(label, 256, k);
-}
-
-// Slots for all four, as many as there are whole words of bits for, and a number of EV times.
+// One flow, slots for all four, as many as there are whole words of bits for, and a number of EV times.
 fn even(slots: usize, evs: usize) -> Lengths {
     let words = slots / 64;
     Lengths {
+        flows: 4,
         outstanding: words,
         marked: words,
         sizes: slots,
@@ -94,6 +25,7 @@ fn uneven(label: &[u8], outstanding: usize, marked: usize, sizes: usize, sent: u
     both(
         label,
         Lengths {
+            flows: 4,
             outstanding,
             marked,
             sizes,
@@ -180,20 +112,20 @@ fn counts() {
 
 // Feedback's EV and the cursor, at the chosen number.
 fn chosen() {
-    events(b"23 EV 511 of 512", some_evs(512, 0, 511), even(64, 512));
-    events(b"23 EV 512 of 512", some_evs(512, 0, 512), even(64, 512));
+    events(b"23 EV 511 of 512", given(512, 0, 511, 0), even(64, 512));
+    events(b"23 EV 512 of 512", given(512, 0, 512, 0), even(64, 512));
     events(
         b"23 EV 4095 of 4096",
-        some_evs(4096, 0, 4095),
+        given(4096, 0, 4095, 0),
         even(64, 4096),
     );
     events(
         b"23 EV 4096 of 4096",
-        some_evs(4096, 0, 4096),
+        given(4096, 0, 4096, 0),
         even(64, 4096),
     );
-    events(b"2 cursor 511 of 512", some_evs(512, 511, 0), even(64, 512));
-    events(b"2 cursor 512 of 512", some_evs(512, 512, 0), even(64, 512));
+    events(b"2 cursor 511 of 512", given(512, 511, 0, 0), even(64, 512));
+    events(b"2 cursor 512 of 512", given(512, 512, 0, 0), even(64, 512));
 }
 
 // Refusal 1 comes before 2: an MTU of 1023, and lengths that are refused.

@@ -1,24 +1,33 @@
-// Settings and states, each written out by hand and not made by calls.
+// Settings, states and tables, each written out by hand and not made by calls.
+use context::Controller;
 use ledger::Flow;
 use ledger::Totals;
-use sender::Controller;
 use window::Settings;
 use window::Window;
 
-// The clock of the empty ledger.
-pub const CLOCK: u64 = 1000;
+// The clock of the empty ledgers.
+const CLOCK: u64 = 1000;
 
-// Its low and next.
+// Their low and next.
 pub const LOW: u32 = 5;
 
-// What a case says of EVs: how many the settings have, where the cursor stands, and the EV of feedback.
-pub struct Evs {
+// The backlog of all flows, which one flow has alone.
+const BACKLOG: u64 = 8192;
+
+// The words that a table is lent of: sixteen flows, twice as many as are allowed.
+pub const TABLE: usize = 64;
+
+// What a case says but for lengths: how many EVs the settings have, where the cursor stands, the EV of feedback, the flow that is called
+// and the one that has the backlog.
+pub struct Given {
     pub count: u64,
     pub cursor: u32,
     pub ev: u32,
+    pub flow: usize,
+    pub owner: usize,
 }
 
-// Settings E of document 01, with an MTU and a number of EVs.
+// Settings E of document 01, with an MTU and a number of EVs; and a first PSN that no cleared memory shows.
 pub(crate) fn settings(mtu: u64, ev_count: u64) -> Settings {
     Settings {
         mtu,
@@ -33,7 +42,7 @@ pub(crate) fn settings(mtu: u64, ev_count: u64) -> Settings {
         adjust_period: 96,
         adjust_bytes: 32768,
         qa_threshold: 288,
-        first_psn: 0,
+        first_psn: 4294967290,
         quick_adapt_off: rules::OFF,
         ev_count,
     }
@@ -80,12 +89,10 @@ fn quiet_window(cwnd: u64, base: u64) -> Window {
 }
 
 // No packet flying or marked, and the window that settings start with.
-fn quiet(settings: Settings, flow: Flow, clock: u64, cursor: u32, phase: u32) -> Controller {
+fn quiet(settings: Settings, backlog: u64, clock: u64, cursor: u32, phase: u32) -> Controller {
     let window = quiet_window(settings.maxwnd, settings.config_base_rtt);
-    let backlog = flow.backlog;
     Controller {
         settings,
-        flow,
         totals: Totals {
             flying: 0,
             marked: 0,
@@ -102,13 +109,7 @@ fn quiet(settings: Settings, flow: Flow, clock: u64, cursor: u32, phase: u32) ->
 
 // What a fresh state is, by document 01.
 pub(crate) fn fresh(settings: Settings) -> Controller {
-    let flow = Flow {
-        low: settings.first_psn,
-        next: settings.first_psn,
-        held: 0,
-        backlog: 0,
-    };
-    quiet(settings, flow, 0, 0, sender::IDLE)
+    quiet(settings, 0, 0, 0, sender::IDLE)
 }
 
 // The state that a refused setting up answers.
@@ -116,19 +117,62 @@ pub(crate) fn no_state() -> Controller {
     fresh(no_settings())
 }
 
-// An empty ledger with a backlog, named READY; its ring is zeros of whatever length is lent.
-pub(crate) fn empty(e: Evs) -> Controller {
-    let flow = Flow {
-        low: LOW,
-        next: LOW,
-        held: 7,
-        backlog: 8192,
-    };
+// Empty ledgers with a backlog, named READY; their rings are zeros of whatever length is lent.
+pub(crate) fn empty(e: Given) -> Controller {
     quiet(
         settings(4096, e.count),
-        flow,
+        BACKLOG,
         CLOCK,
         e.cursor,
         sender::READY,
     )
+}
+
+// The k-th word of a table whose every flow has the same record, but that one flow alone has the backlog.
+fn word(f: Flow, owner: usize, k: usize) -> u64 {
+    let place = k % flow_table::FLOW_WORDS;
+    if place == flow_table::LOW {
+        return f.low as u64;
+    }
+    if place == flow_table::NEXT {
+        return f.next as u64;
+    }
+    if place == flow_table::HELD {
+        return f.held;
+    }
+    if k / flow_table::FLOW_WORDS == owner {
+        f.backlog
+    } else {
+        0
+    }
+}
+
+fn table(f: Flow, owner: usize) -> [u64; TABLE] {
+    let mut words = [0u64; TABLE];
+    for k in 0..64 {
+        words[k] = word(f, owner, k);
+    }
+    words
+}
+
+// Request M-107: "every flow starts at the settings' first PSN".
+pub(crate) fn fresh_table(settings: Settings) -> [u64; TABLE] {
+    let f = Flow {
+        low: settings.first_psn,
+        next: settings.first_psn,
+        held: 0,
+        backlog: 0,
+    };
+    table(f, 0)
+}
+
+// The flows of the empty ledgers.
+pub(crate) fn empty_table(e: Given) -> [u64; TABLE] {
+    let f = Flow {
+        low: LOW,
+        next: LOW,
+        held: 7,
+        backlog: BACKLOG,
+    };
+    table(f, e.owner)
 }

@@ -1,13 +1,14 @@
 // Whether states are the same, and whether lent memory holds one number.
-use sender::Controller;
+use crate::make::TABLE;
+use context::Controller;
 
 // Two states are the same where their words are: that words hold every field is proved in crates/c_state, for in-flight in its range.
 pub(crate) fn same_state(a: Controller, b: Controller) -> bool {
     same_words(c_state::pack(a), c_state::pack(b))
 }
 
-fn same_words(a: [u64; 40], b: [u64; 40]) -> bool {
-    for k in 0..40 {
+fn same_words(a: [u64; 37], b: [u64; 37]) -> bool {
+    for k in 0..37 {
         if a[k] != b[k] {
             return false;
         }
@@ -38,7 +39,19 @@ fn all_64(xs: &[u64], fill: u64) -> bool {
     true
 }
 
-// All that was lent.
+// Whether a lent table holds the first words of another.
+pub(crate) fn starts(flows: &[u64], table: [u64; TABLE]) -> bool {
+    for k in 0..64 {
+        if k < flows.len() {
+            if flows[k] != table[k] {
+                return false;
+            }
+        }
+    }
+    true
+}
+
+// All that was lent but the table.
 pub(crate) fn all<'a>(
     outstanding: &'a [u64],
     marked: &'a [u64],
