@@ -135,6 +135,12 @@ impl Memory {
         }
     }
 
+    /// Slots of each flow's ring.
+    pub fn capacity(&self) -> usize {
+        let flows = self.flows.len();
+        self.sizes.len().checked_div(flows).unwrap_or(0)
+    }
+
     pub fn lend(&mut self) -> Lent<'_> {
         Lent {
             flows: &mut self.flows,

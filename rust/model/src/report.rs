@@ -1,17 +1,16 @@
 //! The run report of a log (M-105): figures over its records and what each was answered.
 
 use crate::event::Outcome;
-use crate::lent::Memory;
 use crate::log::Record;
 use crate::refusal::Refusal;
-use crate::replay::{evs_lent, Replay, CAPACITY};
+use crate::replay::{evs_lent, program_memory, Replay};
 use crate::sampling::Sampling;
 use std::fmt;
 
 /// Room for every number of a refusal.
 const NUMBERS: usize = Refusal::TooLong as usize + 1;
 
-/// The figures. Its text has a line for each of them.
+/// The figures, over all flows. Its text has a line for each of them.
 #[derive(Clone, Debug, Default, PartialEq, Eq)]
 pub struct Report {
     /// Records accepted, the settings among them.
@@ -35,10 +34,11 @@ pub struct Report {
     pub again_bytes: u64,
 }
 
-/// The figures over a log, with the program's ring and as many EV times as it lends. Replay stops where the printed lines stop.
+/// The figures over a log, with the program's flows and as many EV times as it lends. Replay stops
+/// where the printed lines stop.
 pub fn report(log: &[u8]) -> Report {
     let mut report = Report::default();
-    let mut memory = Memory::with_evs(CAPACITY, evs_lent(log));
+    let mut memory = program_memory(evs_lent(log));
     let mut replay = Replay::new(log, memory.lend());
     loop {
         match replay.step_with_record() {

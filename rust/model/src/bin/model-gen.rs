@@ -1,10 +1,12 @@
-//! `model-gen traffic|lossy|marked|winding|wide|hostile|bulk SEED RECORDS`: writes a generated event log to standard output.
+//! `model-gen traffic|lossy|marked|winding|wide|flows|hostile|bulk SEED RECORDS`: writes a
+//! generated event log to standard output.
 
 use model::gen;
 use std::io::{self, Write};
 use std::process::ExitCode;
 
-const USAGE: &str = "usage: model-gen traffic|lossy|marked|winding|wide|hostile|bulk SEED RECORDS";
+const USAGE: &str =
+    "usage: model-gen traffic|lossy|marked|winding|wide|flows|hostile|bulk SEED RECORDS";
 
 fn main() -> ExitCode {
     let arguments: Vec<String> = std::env::args().skip(1).collect();
@@ -32,6 +34,7 @@ fn generate(arguments: &[String]) -> Option<Vec<u8>> {
         "marked" => Some(gen::marked(seed, records)),
         "winding" => Some(gen::winding(seed, records)),
         "wide" => Some(gen::wide(seed, records)),
+        "flows" => Some(gen::flows(seed, records)),
         "hostile" => Some(gen::hostile(seed, records)),
         "bulk" => Some(gen::bulk(seed, records)),
         _ => None,

@@ -2,19 +2,27 @@
 //! record that is malformed.
 
 use super::traffic::Sim;
-use super::{first_psn, settings_record, E};
+use super::{first_psn, near_wrap, past_table, settings_record, E};
 use crate::bounds::{BACKLOG_MAX, COUNT_END, EVS_USUAL, IN_FLIGHT_MIN, PSN_REACH, TIME_END};
 use crate::flow::Flow;
 use crate::log::{append, Record};
-use crate::replay::CAPACITY;
+use crate::replay::{CAPACITY, FLOWS};
 use crate::rng::Rng;
 use crate::settings::Settings;
 
+/// Half of the logs have old kinds only, the others records of all eight flows, and of flows past
+/// the table.
 pub fn hostile(seed: u64, records: usize) -> Vec<u8> {
     let mut rng = Rng::new(!seed);
-    let settings = settings(&mut rng);
+    let mut settings = settings(&mut rng);
+    let old_kinds = rng.one_in(2);
+    if !old_kinds && rng.one_in(2) {
+        settings.first_psn = near_wrap(&mut rng);
+    }
     if rng.one_in(16) {
-        return bad_start(&mut rng, settings);
+        let named = rng.pick(&[None, Some(0), Some(1), Some(255)]);
+        let named = named.filter(|_| !old_kinds);
+        return bad_start(&mut rng, settings, named);
     }
     let start = if rng.one_in(4) {
         TIME_END - 1 - rng.below(1 << 12)
@@ -22,9 +30,13 @@ pub fn hostile(seed: u64, records: usize) -> Vec<u8> {
         rng.below(1 << 12)
     };
     let mut sim = Sim::new(rng, settings, start, records);
+    if !old_kinds {
+        sim.spread();
+    }
     match sim.rng.below(16) {
         0 => flood(&mut sim),
         1 | 2 => fill(&mut sim),
+        3..=8 if !old_kinds => fill_some(&mut sim),
         _ => {}
     }
     let rate = sim.rng.between(1, 8);
@@ -61,8 +73,8 @@ fn settings(rng: &mut Rng) -> Settings {
     settings.with_evs(rng.pick(&[256, 256, 256, 512, 1_024, 2_048, 4_096]))
 }
 
-/// A log whose record 1 is refused, or that is empty.
-fn bad_start(rng: &mut Rng, settings: Settings) -> Vec<u8> {
+/// A log whose record 1 is refused, or that is empty. A path in its place names this flow.
+fn bad_start(rng: &mut Rng, settings: Settings, named: Option<u8>) -> Vec<u8> {
     let mut numbers = settings.numbers();
     let i = rng.below(12) as usize;
     let range = Settings::ranges(numbers[0])[i].clone();
@@ -73,15 +85,16 @@ fn bad_start(rng: &mut Rng, settings: Settings) -> Vec<u8> {
     };
     let out_of_range = Settings::from_numbers(numbers, 0, false);
     let evs = settings.ev_count;
+    let path = |time: u64, flow: Option<u8>| bytes_of(&Record::Path { time, flow });
     let first = match rng.below(6) {
         0 => return Vec::new(),
-        1 => bytes_of(&Record::Path { time: 0 }),
+        1 => path(0, named),
         2 => bytes_of(&settings_record(&settings.with_evs(odd_count(rng)))),
         3 => told_usual(&settings),
         4 => told_usual(&out_of_range),
         _ => bytes_of(&settings_record(&out_of_range.with_evs(evs))),
     };
-    [first, bytes_of(&Record::Path { time: 1 })].concat()
+    [first, path(1, None)].concat()
 }
 
 /// A number of EVs that is not allowed.
@@ -98,56 +111,124 @@ fn told_usual(settings: &Settings) -> Vec<u8> {
     bytes
 }
 
-/// New data until the backlog is near its bound.
-fn flood(sim: &mut Sim) {
-    let bytes = u64::from(u32::MAX);
-    while sim.state.backlog + bytes <= BACKLOG_MAX && !sim.full() {
-        let time = sim.now;
-        sim.emit(Record::NewData { time, bytes });
+/// A flow of the table; flow 0 where all records are of old kinds.
+fn any_flow(sim: &mut Sim) -> usize {
+    if sim.old_kinds {
+        0
+    } else {
+        sim.rng.below(FLOWS as u64) as usize
     }
 }
 
-/// The smallest packets until the ring is full or the window closed.
+/// New data of a flow until its backlog is near the bound.
+fn flood(sim: &mut Sim) {
+    let flow = any_flow(sim);
+    let bytes = u64::from(u32::MAX);
+    while sim.flow(flow).backlog + bytes <= BACKLOG_MAX && !sim.full() {
+        let (time, flow) = (sim.now, sim.named(flow));
+        sim.emit(Record::NewData { time, flow, bytes });
+    }
+}
+
+/// The smallest packets of a flow until its ring is full or the window closed.
 fn fill(sim: &mut Sim) {
+    let flow = any_flow(sim);
+    fill_with(sim, flow, usize::MAX);
+}
+
+/// Several flows one after another, each full or in part.
+fn fill_some(sim: &mut Sim) {
+    for _ in 0..sim.rng.between(2, 6) {
+        let flow = any_flow(sim);
+        let part = sim.rng.below(CAPACITY as u64) as usize;
+        let many = sim.rng.pick(&[usize::MAX, part, part / 8]);
+        fill_with(sim, flow, many);
+    }
+}
+
+/// Sends so many of the smallest packets, unless one is refused.
+fn fill_with(sim: &mut Sim, flow: usize, many: usize) {
     let time = sim.now;
     let bytes = 100 * CAPACITY as u64;
-    sim.emit(Record::NewData { time, bytes });
-    let mut answer = 0;
-    while answer == 0 && !sim.full() {
-        let psn = sim.flow().next;
+    let named = sim.named(flow);
+    sim.emit(Record::NewData {
+        time,
+        flow: named,
+        bytes,
+    });
+    let (mut answer, mut sent) = (0, 0);
+    while answer == 0 && sent < many && !sim.full() {
+        let (psn, named) = (sim.flow(flow).next, sim.named(flow));
         let send = Record::Send {
             time,
+            flow: named,
             size: 41,
             psn,
             resend: 0,
         };
         answer = sim.emit(send).number;
+        sent += 1;
+    }
+}
+
+/// The flow that a record is about: one of the table, mostly one that sends.
+fn edge_about(sim: &mut Sim) -> usize {
+    let sends = sim.talking() as u64;
+    let many = if sim.old_kinds || !sim.rng.one_in(4) {
+        sends
+    } else {
+        FLOWS as u64
+    };
+    if many == 1 {
+        0
+    } else {
+        sim.rng.below(many) as usize
+    }
+}
+
+/// The flow that a record names: mostly that which it is about; another; one past the table.
+fn edge_name(sim: &mut Sim, about: usize) -> Option<u8> {
+    if sim.old_kinds {
+        return None;
+    }
+    match sim.rng.below(16) {
+        0 => Some(past_table(&mut sim.rng)),
+        1 => {
+            let other = any_flow(sim);
+            sim.named(other)
+        }
+        _ => sim.named(about),
     }
 }
 
 /// A record of any kind with fields that mean something to the present state, or nearly.
 fn spoilt(sim: &mut Sim) -> Record {
     let time = edge_time(sim);
+    let about = edge_about(sim);
+    let flow = edge_name(sim, about);
     match sim.rng.below(12) {
         0 => Record::NewData {
             time,
-            bytes: edge_bytes(sim),
+            flow,
+            bytes: edge_bytes(sim, about),
         },
-        1..=3 => edge_send(sim, time),
-        4..=8 => edge_ack(sim, time),
+        1..=3 => edge_send(sim, time, flow, about),
+        4..=8 => edge_ack(sim, time, flow, about),
         9 => Record::Nack {
             time,
-            psn: edge_psn(sim),
+            flow,
+            psn: edge_psn(sim, about),
             ev: edge_ev(sim),
             reason: sim.rng.pick(&[0, 0, 1, 1, 2, 2, 3, 255]),
             flags: sim.rng.below(4) as u8,
         },
         10 => Record::Loss {
             time,
-            psn: edge_psn(sim),
+            flow,
+            psn: edge_psn(sim, about),
             ev: edge_ev(sim),
         },
-        _ => Record::Path { time },
+        _ => Record::Path { time, flow },
     }
 }
 
@@ -165,15 +246,15 @@ fn edge_time(sim: &mut Sim) -> u64 {
     }
 }
 
-fn edge_bytes(sim: &mut Sim) -> u64 {
+fn edge_bytes(sim: &mut Sim, about: usize) -> u64 {
     let widest = u64::from(u32::MAX);
-    let left = BACKLOG_MAX - sim.state.backlog;
+    let left = BACKLOG_MAX - sim.flow(about).backlog;
     let bytes = [0, 1, 41, widest, left, left + 1];
     sim.rng.pick(&bytes).min(widest)
 }
 
-fn edge_psn(sim: &mut Sim) -> u32 {
-    let Flow { low, next, .. } = *sim.flow();
+fn edge_psn(sim: &mut Sim, about: usize) -> u32 {
+    let Flow { low, next, .. } = *sim.flow(about);
     let inside = low.wrapping_add(sim.rng.below(CAPACITY as u64) as u32);
     sim.rng.pick(&[
         low.wrapping_sub(1),
@@ -198,14 +279,15 @@ fn edge_ev(sim: &mut Sim) -> u16 {
     sim.rng.pick(&[edge, any])
 }
 
-fn edge_send(sim: &mut Sim, time: u64) -> Record {
+fn edge_send(sim: &mut Sim, time: u64, flow: Option<u8>, about: usize) -> Record {
     let mtu = sim.state.settings.mtu as u32;
     let any = sim.rng.between(41, u64::from(mtu)) as u32;
-    let over_backlog = (sim.state.backlog as u32).saturating_add(1).min(mtu);
-    let psn = edge_psn(sim);
-    let next = sim.flow().next;
+    let Flow { next, backlog, .. } = *sim.flow(about);
+    let over_backlog = (backlog as u32).saturating_add(1).min(mtu);
+    let psn = edge_psn(sim, about);
     Record::Send {
         time,
+        flow,
         size: sim
             .rng
             .pick(&[40, 41, 41, 41, mtu, mtu, mtu + 1, any, over_backlog]),
@@ -214,13 +296,14 @@ fn edge_send(sim: &mut Sim, time: u64) -> Record {
     }
 }
 
-fn edge_ack(sim: &mut Sim, time: u64) -> Record {
-    let cum = edge_psn(sim);
-    let back = sim.flow().next.wrapping_sub(1).wrapping_sub(cum);
+fn edge_ack(sim: &mut Sim, time: u64, flow: Option<u8>, about: usize) -> Record {
+    let cum = edge_psn(sim, about);
+    let back = sim.flow(about).next.wrapping_sub(1).wrapping_sub(cum);
     let map = edge_map(sim, back);
-    let any = edge_psn(sim);
+    let any = edge_psn(sim, about);
     Record::Ack {
         time,
+        flow,
         cum,
         map,
         trigger: sim.rng.pick(&[
@@ -232,7 +315,7 @@ fn edge_ack(sim: &mut Sim, time: u64) -> Record {
             cum.wrapping_sub(PSN_REACH + 1),
             any,
         ]),
-        count: edge_count(sim),
+        count: edge_count(sim, about),
         service: sim.rng.pick(&[0, 0, 0, 1, 50, 100, u32::MAX]),
         ev: edge_ev(sim),
         flags: sim.rng.below(4) as u8,
@@ -252,8 +335,8 @@ fn edge_map(sim: &mut Sim, back: u32) -> u64 {
         .pick(&[0, 1, sent, thin & sent, thin & sent, furthest, beyond, thin])
 }
 
-fn edge_count(sim: &mut Sim) -> u32 {
-    let held = sim.flow().held;
+fn edge_count(sim: &mut Sim, about: usize) -> u32 {
+    let held = sim.flow(about).held;
     let to_bound = (sim.state.in_flight - IN_FLIGHT_MIN) as u32 / 256;
     let step = sim.rng.below(64) as u32;
     let ahead = sim.rng.pick(&[
@@ -278,8 +361,11 @@ fn edge_count(sim: &mut Sim) -> u32 {
 fn malformed(sim: &mut Sim) -> Vec<u8> {
     let record = spoilt(sim);
     let mut bytes = bytes_of(&record);
-    match sim.rng.below(7) {
-        0 => bytes[2..4].copy_from_slice(&sim.rng.pick(&[0u16, 7, 15, 17, u16::MAX]).to_le_bytes()),
+    match sim.rng.below(8) {
+        0 => {
+            let kind = sim.rng.pick(&[0u16, 7, 15, 17, 32, 39, 48, u16::MAX]);
+            bytes[2..4].copy_from_slice(&kind.to_le_bytes());
+        }
         1 => {
             // One byte too long.
             bytes[0] += 1;
@@ -296,6 +382,8 @@ fn malformed(sim: &mut Sim) -> Vec<u8> {
         }
         4 => bytes[..2].copy_from_slice(&sim.rng.pick(&[0u16, 1, u16::MAX]).to_le_bytes()),
         5 => bytes = bytes_of(&settings_record(&sim.state.settings)),
+        // The kind with a flow in place of the one without, or the other way round; not the length.
+        6 => bytes[2] ^= 32,
         _ => bytes = unknown_bits(sim),
     }
     bytes
@@ -304,10 +392,15 @@ fn malformed(sim: &mut Sim) -> Vec<u8> {
 /// A send with a resend byte, or an ACK with flags, that no record may have: its last byte.
 fn unknown_bits(sim: &mut Sim) -> Vec<u8> {
     let time = sim.now;
+    let about = edge_about(sim);
+    let flow = edge_name(sim, about);
     let (record, last) = if sim.rng.one_in(2) {
-        (edge_send(sim, time), sim.rng.pick(&[2, 3, 255]))
+        (
+            edge_send(sim, time, flow, about),
+            sim.rng.pick(&[2, 3, 255]),
+        )
     } else {
-        (edge_ack(sim, time), sim.rng.pick(&[4, 7, 128]))
+        (edge_ack(sim, time, flow, about), sim.rng.pick(&[4, 7, 128]))
     };
     let mut bytes = bytes_of(&record);
     bytes.pop();

@@ -4,10 +4,11 @@ mod hostile;
 mod traffic;
 
 pub use hostile::hostile;
-pub use traffic::{lossy, marked, narrow, traffic, wide, winding};
+pub use traffic::{flows, lossy, marked, narrow, traffic, wide, winding};
 
 use crate::bounds::{COUNT_END, UNIT};
 use crate::log::{append, Record, QUICK_ADAPT_OFF};
+use crate::replay::{CAPACITY, FLOWS};
 use crate::rng::Rng;
 use crate::settings::Settings;
 
@@ -34,15 +35,27 @@ fn first_psn(rng: &mut Rng) -> u32 {
     match rng.below(3) {
         0 => 0,
         1 => rng.next_u32(),
-        _ => u32::MAX - rng.below(200) as u32,
+        _ => near_wrap(rng),
     }
 }
 
-/// Large packets by the ring and one ACK for all of them: the shortest way to a received count that
-/// wraps, after some 270,000 records.
+/// A first PSN so near 2^32 that a flow comes to the wrap before its ring is full.
+fn near_wrap(rng: &mut Rng) -> u32 {
+    u32::MAX - rng.below(200) as u32
+}
+
+/// A flow that the program does not have: the first, the last that a record can name, or any.
+fn past_table(rng: &mut Rng) -> u8 {
+    let first = FLOWS as u8;
+    let any = rng.between(FLOWS as u64, 255) as u8;
+    rng.pick(&[first, first, first + 1, any, 255])
+}
+
+/// Large packets by the program's ring and one ACK for all of them: the shortest way to a received
+/// count that wraps, after some 270,000 records. They are of flow 0, by the old kinds.
 pub fn bulk(seed: u64, records: usize) -> Vec<u8> {
     const MTU: u32 = 16_384;
-    const RING: u32 = 1_024;
+    const RING: u32 = CAPACITY as u32;
     let mut rng = Rng::new(seed);
     let mut numbers = E;
     numbers[0] = u64::from(MTU);
@@ -57,11 +70,13 @@ pub fn bulk(seed: u64, records: usize) -> Vec<u8> {
     let mut written = 0;
     while written < records {
         let bytes = u64::from(RING * MTU);
-        batch.push(Record::NewData { time, bytes });
+        let flow = None;
+        batch.push(Record::NewData { time, flow, bytes });
         for _ in 0..RING {
             time += rng.below(3);
             batch.push(Record::Send {
                 time,
+                flow,
                 size: MTU,
                 psn: next,
                 resend: 0,
@@ -73,6 +88,7 @@ pub fn bulk(seed: u64, records: usize) -> Vec<u8> {
         let last = next.wrapping_sub(1);
         batch.push(Record::Ack {
             time,
+            flow,
             cum: last,
             map: 0,
             trigger: last,

@@ -22,12 +22,17 @@ pub(super) fn e_but(change: impl FnOnce(&mut Settings)) -> Record {
 
 pub(super) fn data(time: u64, bytes: u32) -> Record {
     let bytes = bytes.into();
-    Record::NewData { time, bytes }
+    Record::NewData {
+        time,
+        flow: None,
+        bytes,
+    }
 }
 
 pub(super) fn send(time: u64, psn: u32, size: u32) -> Record {
     Record::Send {
         time,
+        flow: None,
         size,
         psn,
         resend: 0,
@@ -37,6 +42,7 @@ pub(super) fn send(time: u64, psn: u32, size: u32) -> Record {
 pub(super) fn resend(time: u64, psn: u32, size: u32) -> Record {
     Record::Send {
         time,
+        flow: None,
         size,
         psn,
         resend: 1,
@@ -47,6 +53,7 @@ pub(super) fn resend(time: u64, psn: u32, size: u32) -> Record {
 pub(super) fn ack(time: u64, cum: u32, count: u32) -> Record {
     Record::Ack {
         time,
+        flow: None,
         cum,
         map: 0,
         trigger: cum,
@@ -65,6 +72,7 @@ pub(super) fn delayed(time: u32, cum: u32, delay: u32, count: u32) -> Record {
 pub(super) fn nack(time: u64, psn: u32, reason: u8) -> Record {
     Record::Nack {
         time,
+        flow: None,
         psn,
         ev: 0,
         reason,
@@ -73,11 +81,16 @@ pub(super) fn nack(time: u64, psn: u32, reason: u8) -> Record {
 }
 
 pub(super) fn loss(time: u64, psn: u32) -> Record {
-    Record::Loss { time, psn, ev: 0 }
+    Record::Loss {
+        time,
+        flow: None,
+        psn,
+        ev: 0,
+    }
 }
 
 pub(super) fn path(time: u64) -> Record {
-    Record::Path { time }
+    Record::Path { time, flow: None }
 }
 
 /// Packets of one size, all sent at `time`.
@@ -91,6 +104,21 @@ pub(super) fn sends(
 
 /// One field changed. A record without that field is a mistake in the list of logs.
 impl Record {
+    /// The same of the kind that names a flow.
+    pub(super) fn of(mut self, number: u8) -> Record {
+        let (Record::NewData { flow, .. }
+        | Record::Send { flow, .. }
+        | Record::Ack { flow, .. }
+        | Record::Nack { flow, .. }
+        | Record::Loss { flow, .. }
+        | Record::Path { flow, .. }) = &mut self
+        else {
+            panic!("no flow in {self:?}");
+        };
+        *flow = Some(number);
+        self
+    }
+
     pub(super) fn map(mut self, bits: u64) -> Record {
         let Record::Ack { map, .. } = &mut self else {
             panic!("no map in {self:?}");

@@ -28,8 +28,8 @@ fn paths() -> Vector {
     named("paths", log)
 }
 
-/// 7: a full ring, also by a done slot that low has not passed; 8 and 5 come before, 6 after. No ACK
-/// gives a sample, so the window stays wide enough.
+/// 7: a full ring, also by a done slot that low has not passed; 8 and 5 come before, 6 after.
+/// Another flow has a ring of its own. No ACK gives a sample, so the window stays wide enough.
 fn ring_full() -> Vector {
     let slots = CAPACITY as u32;
     let sent = 41 * slots;
@@ -48,6 +48,9 @@ fn ring_full() -> Vector {
         ack(9, NONE, 1).map(!1).trigger(64),
         ack(9, NONE, 1).map(!1).trigger(65),
         ack(9, NONE, 1).map(!1).trigger(63).service(9), // 1..63 are done
+        send(9, slots, 41),
+        data(9, 82).of(4),
+        send(9, 0, 41).of(4),
         send(9, slots, 41),
         ack(9, 0, 1).service(9), // low passes 64 packets
         send(9, slots, 41),

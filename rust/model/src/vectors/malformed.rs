@@ -28,6 +28,11 @@ fn events() -> [(&'static str, Record); 6] {
     ]
 }
 
+/// The same of the kinds that name a flow.
+fn events_of_flow() -> [(String, Record); 6] {
+    events().map(|(name, record)| (format!("flow-{name}"), record.of(1)))
+}
+
 /// Settings E, the malformed record and a good one.
 fn second(name: &str, malformed: Vec<u8>) -> Vector {
     raw(name, [bytes_of(e()), malformed, bytes_of(path(0))])
@@ -41,7 +46,8 @@ fn first(name: &str, malformed: Vec<u8>) -> Vector {
 /// One byte less and one more than the kind's length, and the length says so.
 fn wrong_lengths() -> Vec<Vector> {
     let mut logs = Vec::new();
-    for (name, record) in events() {
+    let plain = events().map(|(name, record)| (name.to_string(), record));
+    for (name, record) in plain.into_iter().chain(events_of_flow()) {
         logs.push(second(&format!("{name}-short"), shorter(record)));
         logs.push(second(&format!("{name}-long"), longer(record)));
     }
@@ -74,7 +80,7 @@ fn no_kind() -> Vec<Vector> {
 
 /// Kinds beside the known ones, and one whose first byte alone is known.
 fn unknown_kinds() -> Vec<Vector> {
-    [0, 15, 17, 0x106]
+    [0, 15, 17, 32, 39, 0x106]
         .map(|kind: u16| {
             let mut bytes = bytes_of(path(0));
             bytes[2..4].copy_from_slice(&kind.to_le_bytes());
@@ -90,6 +96,9 @@ fn unknown_bits() -> Vec<Vector> {
         second("nack-flags", with_last_byte(nack(0, 0, 2), 4)),
         first("settings-flags", with_last_byte(e(), 2)),
         second("resend-byte", with_last_byte(send(0, 0, 41), 2)),
+        second("flow-ack-flags", with_last_byte(ack(0, NONE, 0).of(1), 4)),
+        second("flow-nack-flags", with_last_byte(nack(0, 0, 2).of(1), 4)),
+        second("flow-resend-byte", with_last_byte(send(0, 0, 41).of(1), 2)),
     ]
 }
 
@@ -115,12 +124,13 @@ fn cut_ends() -> Vec<Vector> {
     ]
 }
 
-/// Settings twice, and each other kind as record 1.
+/// Settings twice, and each other kind of 01 as record 1, and one that names a flow.
 fn settings_place() -> Vec<Vector> {
     let mut logs = vec![second("settings-twice", bytes_of(e()))];
     for (name, record) in events() {
         logs.push(first(&format!("first-{name}"), bytes_of(record)));
     }
+    logs.push(first("first-flow-path", bytes_of(path(0).of(0))));
     logs
 }
 

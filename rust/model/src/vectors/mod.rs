@@ -6,6 +6,7 @@ mod build;
 mod ceiling;
 mod class;
 mod evs;
+mod flows;
 mod ledger;
 mod long;
 mod malformed;
@@ -41,6 +42,7 @@ pub fn bundled() -> Vec<Vector> {
         window::logs(),
         ceiling::logs(),
         evs::logs(),
+        flows::logs(),
         malformed::logs(),
         long::logs(),
     ]

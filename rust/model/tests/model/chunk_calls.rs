@@ -27,10 +27,10 @@ impl Side {
         }
     }
 
-    /// Lends as many EV times as the log asks for.
+    /// Lends three flows, and as many EV times as the log asks for.
     pub fn lending_to(log: &[u8]) -> Side {
         Side {
-            memory: Memory::with_evs(64, evs_lent(log)),
+            memory: Memory::with_flows(3, 64, evs_lent(log)),
             ..Side::new()
         }
     }

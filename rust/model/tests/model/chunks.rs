@@ -8,8 +8,8 @@ use model::replay::{Replay, HEADER};
 use model::vectors::bundled;
 use model::{gen, replay, Chunk, Outcome, Part, Rng};
 
-/// The lengths and kinds of 01 and M-110.
-const PAIRS: [(u8, u8); 8] = [
+/// The lengths and kinds of 01, M-107 and M-110.
+const PAIRS: [(u8, u8); 14] = [
     (14, 1),
     (19, 2),
     (37, 3),
@@ -18,6 +18,12 @@ const PAIRS: [(u8, u8); 8] = [
     (10, 6),
     (55, 16),
     (59, 16),
+    (15, 33),
+    (20, 34),
+    (38, 35),
+    (19, 36),
+    (17, 37),
+    (11, 38),
 ];
 
 /// An answer of the joined log.
@@ -217,11 +223,32 @@ fn one_of_each() -> Vec<u8> {
     .concat()
 }
 
+/// The same of flow 2, and one of a flow that is not lent: 233 bytes and 13.
+fn one_of_each_by_flow() -> Vec<u8> {
+    let psn = |psn: u32| psn.to_le_bytes();
+    let head = |time: u64, flow: u8| [&time.to_le_bytes()[..], &[flow]].concat();
+    let ack: [&[u8]; 5] = [&head(106, 2), &psn(0), &[0; 8], &psn(0), &[0; 11]];
+    [
+        settings_e(),
+        record(33, &[&head(0, 2), &psn(300)]),
+        record(34, &[&head(10, 2), &psn(100), &psn(0), &[0]]),
+        record(35, &ack),
+        record(34, &[&head(107, 2), &psn(100), &psn(1), &[0]]),
+        record(36, &[&head(110, 2), &psn(1), &[7, 0, 0, 1]]),
+        record(34, &[&head(111, 2), &psn(100), &psn(1), &[1]]),
+        record(37, &[&head(120, 2), &psn(1), &[8, 0]]),
+        record(38, &[&head(121, 2)]),
+        record(38, &[&head(121, 3)]),
+    ]
+    .concat()
+}
+
 /// The bundled logs that are short, every malformed one among them, and one of each kind.
 fn small_logs() -> Vec<Vec<u8>> {
     let bundled = bundled().into_iter().map(|vector| vector.log);
     let mut logs: Vec<Vec<u8>> = bundled.filter(|log| log.len() < 260).collect();
     logs.push(one_of_each());
+    logs.push(one_of_each_by_flow());
     logs
 }
 
@@ -231,6 +258,12 @@ fn one_of_each_is_accepted() {
     let told = joined(&Side::new(), &log).told;
     assert_eq!(log.len(), 225);
     assert!(told.len() == 9 && told.iter().all(|told| told.outcome.number == 0));
+
+    let log = one_of_each_by_flow();
+    let told = joined(&Side::lending_to(&log), &log).told;
+    assert_eq!(log.len(), 233 + 13);
+    let numbers: Vec<u8> = told.iter().map(|told| told.outcome.number).collect();
+    assert_eq!(numbers, [0, 0, 0, 0, 0, 0, 0, 0, 0, 25]);
 }
 
 #[test]
@@ -335,8 +368,9 @@ fn small_rooms() {
 fn any_log(rng: &mut Rng) -> Vec<u8> {
     let seed = rng.next_u64();
     let records = rng.pick(&[3, 20, 100]);
-    match rng.below(6) {
+    match rng.below(7) {
         0 => gen::narrow(seed, records, 64),
+        3 => gen::flows(seed, records),
         1 => gen::lossy(seed, records),
         2 => gen::wide(seed, records),
         _ => gen::hostile(seed, records),

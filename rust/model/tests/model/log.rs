@@ -7,9 +7,11 @@ use model::{gen, parse, replay, write, Reader, Record, Refusal, Rng};
 const HEADER: &str = "rec ans inflight cwnd flying waiting backlog state\n";
 const FIRST: &str = "1 0 0 614400 0 0 0 IDLE\n";
 
-/// One record of each kind, settings in both lengths, every byte of it different where that is allowed.
+/// One record of each kind of 01, settings in both lengths, every byte of it different where that
+/// is allowed. Kinds 33 to 38 have a page of their own.
 fn one_of_each() -> [Record; 8] {
     let time = 0x0807_0605_0403_0201;
+    let flow = None;
     let numbers = [
         0x0403_0201,
         0x0807_0605,
@@ -27,16 +29,19 @@ fn one_of_each() -> [Record; 8] {
     [
         Record::NewData {
             time,
+            flow,
             bytes: 0x0c0b_0a09,
         },
         Record::Send {
             time,
+            flow,
             size: 0x0c0b_0a09,
             psn: 0x100f_0e0d,
             resend: 1,
         },
         Record::Ack {
             time,
+            flow,
             cum: 0x0c0b_0a09,
             map: 0x1413_1211_100f_0e0d,
             trigger: 0x1817_1615,
@@ -47,6 +52,7 @@ fn one_of_each() -> [Record; 8] {
         },
         Record::Nack {
             time,
+            flow,
             psn: 0x0c0b_0a09,
             ev: 0x0e0d,
             reason: 0x0f,
@@ -54,10 +60,11 @@ fn one_of_each() -> [Record; 8] {
         },
         Record::Loss {
             time,
+            flow,
             psn: 0x0c0b_0a09,
             ev: 0x0e0d,
         },
-        Record::Path { time },
+        Record::Path { time, flow },
         Record::Settings {
             numbers,
             first_psn: 0x3433_3231,
@@ -160,9 +167,9 @@ fn other_lengths_are_malformed() {
 
 #[test]
 fn other_kinds_are_malformed() {
-    let good = [1u16, 2, 3, 4, 5, 6, 16];
+    let good = [1u16, 2, 3, 4, 5, 6, 16, 33, 34, 35, 36, 37, 38];
     for kind in 0..=u16::MAX {
-        let accepted = [12usize, 17, 35, 16, 14, 8, 53, 57]
+        let accepted = [12usize, 17, 35, 16, 14, 8, 53, 57, 13, 18, 36, 17, 15, 9]
             .iter()
             .any(|&fields| parse(&record(kind, &[&vec![0; fields]]), 0).is_ok());
         assert_eq!(accepted, good.contains(&kind), "kind {kind}");
@@ -184,7 +191,10 @@ fn a_front_is_read_when_it_is_whole() {
 /// A length and a kind that are no pair are told at four bytes; other faults with the last byte.
 #[test]
 fn a_malformed_front_is_told_at_once() {
-    let pairs = expected_bytes().map(|bytes| [bytes[0], 0, bytes[2], 0]);
+    let plain = expected_bytes().map(|bytes| [bytes[0], 0, bytes[2], 0]);
+    let of_flows = [(15, 33), (20, 34), (38, 35), (19, 36), (17, 37), (11, 38)];
+    let of_flows = of_flows.map(|(length, kind)| [length, 0, kind, 0]);
+    let pairs = [&plain[..], &of_flows].concat();
     for kind in 0..=u16::MAX {
         for length in (0..=70).chain([0x100 + 14, u16::MAX]) {
             let [a, b] = u16::to_le_bytes(length);
@@ -297,19 +307,24 @@ fn any_record(rng: &mut Rng) -> Record {
     let psn = rng.next_u32();
     let ev = rng.next_u32() as u16;
     let flags = rng.below(4) as u8;
+    let any = rng.next_u32() as u8;
+    let flow = rng.pick(&[None, Some(0), Some(7), Some(any)]);
     match rng.below(7) {
         0 => Record::NewData {
             time,
+            flow,
             bytes: rng.next_u32().into(),
         },
         1 => Record::Send {
             time,
+            flow,
             size: rng.next_u32(),
             psn,
             resend: flags & 1,
         },
         2 => Record::Ack {
             time,
+            flow,
             cum: psn,
             map: rng.next_u64(),
             trigger: rng.next_u32(),
@@ -320,13 +335,19 @@ fn any_record(rng: &mut Rng) -> Record {
         },
         3 => Record::Nack {
             time,
+            flow,
             psn,
             ev,
             reason: rng.next_u32() as u8,
             flags,
         },
-        4 => Record::Loss { time, psn, ev },
-        5 => Record::Path { time },
+        4 => Record::Loss {
+            time,
+            flow,
+            psn,
+            ev,
+        },
+        5 => Record::Path { time, flow },
         _ => Record::Settings {
             numbers: [0; 12].map(|_: u64| rng.next_u32().into()),
             first_psn: psn,
@@ -350,7 +371,8 @@ fn parse_after_write_gives_the_record() {
 #[test]
 fn write_after_parse_gives_the_bytes() {
     for seed in 0..40 {
-        for log in [gen::traffic(seed, 300), gen::hostile(seed, 300)] {
+        let made = [gen::traffic, gen::flows, gen::hostile].map(|make| make(seed, 300));
+        for log in made {
             let mut reader = Reader::new(&log);
             let mut again = Vec::new();
             while let Ok(Some(record)) = reader.next_record() {
@@ -445,17 +467,18 @@ fn a_refused_event_prints_the_unchanged_state_and_goes_on() {
     );
 }
 
+/// "so its refusal 7 comes at 512" (M-107).
 #[test]
-fn the_ring_of_the_program_has_1_024_slots() {
+fn a_ring_of_the_program_has_512_slots() {
     let mut log = [settings_e(), new_data(0, 100_000)].concat();
-    for psn in 0..1_025 {
+    for psn in 0..513 {
         log.extend(send(0, 41, psn));
     }
     let text = replay(&log);
     let mut last = text.lines().rev();
-    // 1,024 packets of 41 bytes.
-    let refused = "1027 7 41984 614400 1024 0 58016 READY";
+    // 512 packets of 41 bytes.
+    let refused = "515 7 20992 614400 512 0 79008 READY";
     assert_eq!(last.next(), Some(refused));
-    let accepted = "1026 0 41984 614400 1024 0 58016 READY";
+    let accepted = "514 0 20992 614400 512 0 79008 READY";
     assert_eq!(last.next(), Some(accepted));
 }

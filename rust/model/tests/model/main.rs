@@ -8,6 +8,7 @@ mod demand3;
 mod ev_logs;
 mod evs;
 mod example;
+mod flow_logs;
 mod flows;
 mod flows_refused;
 mod flows_together;

@@ -33,15 +33,28 @@ struct Seen {
     clamped: u32,
     wraps: u32,
     negative: u32,
+    /// Accepted events by flow, and accepted or refused ones of a flow whose ring was full.
+    flows: [u32; 8],
+    full: [u32; 8],
+    /// How often the low of each flow went around.
+    wraps_of: [u32; 8],
 }
 
 impl Seen {
     fn note(&mut self, event: &Event, outcome: Outcome, before: &Rig, after: &Rig) {
         self.answers[usize::from(outcome.number)] += 1;
+        let flow = flow_of(event) as usize;
+        let record = before.memory.flows.get(flow);
+        if record.is_some_and(|record| record.span() as usize == before.capacity()) {
+            self.full[flow] += 1;
+        }
         if outcome.number != 0 {
             return;
         }
-        self.wraps += u32::from(after.flow().low < before.flow().low);
+        let wrapped = after.memory.flows[flow].low < before.memory.flows[flow].low;
+        self.flows[flow] += 1;
+        self.wraps_of[flow] += u32::from(wrapped);
+        self.wraps += u32::from(wrapped);
         let (before, after) = (&before.state, &after.state);
         if let Some(sampling) = outcome.sampling {
             let of_ack = matches!(event, Event::Ack(_));
@@ -85,9 +98,10 @@ impl Seen {
     }
 }
 
-/// Goes through a log: what number 2 asks holds after every event, a refused event changes nothing,
-/// both forms of an event do the same, and the naive ledger agrees.
-fn follow(log: &[u8], seen: &mut Seen) {
+/// Goes through a log with so many flows of 512 slots: what number 2 asks holds after every event,
+/// a refused event changes nothing, an accepted one nothing of other flows, both forms of an event
+/// do the same, and the naive ledgers agree.
+fn follow(log: &[u8], flows: usize, seen: &mut Seen) {
     let mut reader = Reader::new(log);
     let Ok(Some(first)) = reader.next_record() else {
         return;
@@ -95,8 +109,9 @@ fn follow(log: &[u8], seen: &mut Seen) {
     let Some(settings) = first.settings().filter(Settings::in_range) else {
         return;
     };
-    let mut rig = Rig::with_capacity(settings, 1_024);
-    let mut naive = Naive::new(settings.first_psn);
+    let mut rig = Rig::with_flows(settings, flows, 512);
+    let naive = (0..flows).map(|_| Naive::new(settings.first_psn));
+    let mut naive: Vec<Naive> = naive.collect();
     while let Ok(Some(record)) = reader.next_record() {
         let Some(event) = record.event() else {
             return;
@@ -109,15 +124,22 @@ fn follow(log: &[u8], seen: &mut Seen) {
         assert_eq!(trusted, rig);
         assert!(rig.holds(), "{event:?} on {:?}", before.state);
         if outcome.number == 0 {
+            let flow = flow_of(&event) as usize;
             assert_eq!(rig.state.clock, time_of(&event));
-            naive.take(&event);
+            naive[flow].take(&event);
+            naive[flow].check(&rig, flow);
+            for other in (0..flows).filter(|&other| other != flow) {
+                assert_eq!(rig.own(other), before.own(other), "{event:?}");
+            }
         } else {
             assert_eq!(rig, before);
         }
-        naive.check(&rig, 0);
-        check_totals(&rig, std::slice::from_ref(&naive));
+        check_totals(&rig, &naive);
         check_window(&rig.state);
         seen.note(&event, outcome, &before, &rig);
+    }
+    for (flow, naive) in naive.iter().enumerate() {
+        naive.check(&rig, flow);
     }
 }
 
@@ -125,7 +147,7 @@ fn follow(log: &[u8], seen: &mut Seen) {
 fn realistic_logs() {
     let mut seen = Seen::default();
     for seed in 0..60 {
-        follow(&gen::traffic(seed, 2_500), &mut seen);
+        follow(&gen::traffic(seed, 2_500), 1, &mut seen);
     }
     assert!(
         seen.kinds.iter().all(|&times| times > 10),
@@ -152,21 +174,42 @@ fn shaped_logs() {
     for make in [gen::lossy, gen::marked, gen::winding, gen::wide, narrow] {
         let mut seen = Seen::default();
         for seed in 0..8 {
-            follow(&make(seed, 2_500), &mut seen);
+            follow(&make(seed, 2_500), 1, &mut seen);
         }
         let refused: u32 = seen.answers[1..].iter().sum();
         assert!(refused * 100 < seen.answers[0], "{:?}", seen.answers);
     }
 }
 
+/// Traffic of several flows is seldom refused, also with its records of flows that there are not;
+/// every flow sends, fills its ring and goes around.
+#[test]
+fn logs_of_flows() {
+    let mut seen = Seen::default();
+    for seed in 0..40 {
+        follow(&gen::flows(seed, 2_500), 8, &mut seen);
+    }
+    let refused: u32 = seen.answers[1..].iter().sum();
+    assert!(refused * 100 < seen.answers[0], "{:?}", seen.answers);
+    assert!(seen.answers[25] > 100, "{:?}", seen.answers);
+    for times in [seen.flows, seen.full, seen.wraps_of] {
+        assert!(times.iter().all(|&times| times > 3), "{times:?}");
+    }
+    let rules = [seen.cuts, seen.fired, seen.fast, seen.clamped];
+    assert!(rules.iter().all(|&times| times > 10), "{rules:?}");
+}
+
 #[test]
 fn hostile_logs() {
     let mut seen = Seen::default();
     for seed in 0..150 {
-        follow(&gen::hostile(seed, 1_500), &mut seen);
+        follow(&gen::hostile(seed, 1_500), 8, &mut seen);
+    }
+    for times in [seen.flows, seen.full, seen.wraps_of] {
+        assert!(times.iter().all(|&times| times > 0), "{times:?}");
     }
     // 1, 2, 12 and 13 are no answers to an event of a log.
-    for number in [0, 3, 4, 5, 6, 7, 8, 9, 10, 11, 20, 21, 22, 23, 24] {
+    for number in [0, 3, 4, 5, 6, 7, 8, 9, 10, 11, 20, 21, 22, 23, 24, 25] {
         assert!(seen.answers[number] > 10, "{number}: {:?}", seen.answers);
     }
     assert!(
@@ -186,7 +229,7 @@ fn hostile_logs() {
 
 #[test]
 fn generated_logs_are_the_same_for_the_same_seed() {
-    for make in [gen::traffic, gen::wide, gen::hostile, gen::bulk] {
+    for make in [gen::traffic, gen::wide, gen::flows, gen::hostile, gen::bulk] {
         assert_eq!(make(3, 200), make(3, 200));
         assert_ne!(make(3, 200), make(4, 200));
     }

@@ -370,27 +370,27 @@ fn refusals_by_number() {
     prints(&log, &[&lines[..], &["new 100", "again 0"]].concat());
 }
 
-/// The ring of the program has 1,024 slots.
+/// A ring of the program has 512 slots.
 #[test]
 fn the_ring_is_the_programs() {
-    let mut log = [settings_e(), new_data(0, 102_600)].concat();
-    log.extend((0..1_026).flat_map(|psn| send(10, 100, psn)));
+    let mut log = [settings_e(), new_data(0, 51_400)].concat();
+    log.extend((0..514).flat_map(|psn| send(10, 100, psn)));
     let figures = report(&log);
-    assert_eq!((figures.accepted, figures.refused[7]), (1_026, 1));
+    assert_eq!((figures.accepted, figures.refused[7]), (514, 1));
     assert_eq!(figures.refused[8], 1);
-    assert_eq!(figures.new_bytes, 102_400);
+    assert_eq!(figures.new_bytes, 51_200);
 }
 
-/// 292 times new data, 1,024 packets of 16,384 bytes and an ACK of the last; then new data and 406
-/// packets. An ACK comes 90 to 200 ticks after its packet.
+/// Settings; 583 times new data, 512 packets of 16,384 bytes and an ACK of the last, 514 records;
+/// then new data and 336 packets. An ACK comes 90 to 200 ticks after its packet.
 #[test]
 fn more_bytes_than_32_bits_hold() {
     let figures = report(&gen::bulk(0, 300_000));
     assert_eq!(figures.accepted, 300_000);
-    assert_eq!(figures.new_bytes, 4_905_598_976);
+    assert_eq!(figures.new_bytes, 4_896_063_488);
     assert_eq!(figures.again_bytes, 0);
-    assert_eq!(figures.taken, 292);
-    assert_eq!(figures.buckets[6] + figures.buckets[7], 292);
+    assert_eq!(figures.taken, 583);
+    assert_eq!(figures.buckets[6] + figures.buckets[7], 583);
     assert!(figures.least >= 90 && figures.greatest <= 200);
 }
 
@@ -468,31 +468,39 @@ impl Counted {
         counted
     }
 
-    /// `sent` has when each packet was last sent. A log is too short for a PSN to be used again.
-    fn accept(&mut self, record: &Record, line: &str, sent: &mut BTreeMap<u32, u64>) {
+    /// `sent` has when each packet of each flow was last sent. A log is too short for a PSN to be
+    /// used again.
+    fn accept(&mut self, record: &Record, line: &str, sent: &mut BTreeMap<(u8, u32), u64>) {
         self.accepted += 1;
         match *record {
             Record::Send {
                 time,
+                flow,
                 size,
                 psn,
                 resend,
             } => {
-                sent.insert(psn, time);
+                sent.insert((flow.unwrap_or(0), psn), time);
                 self.new += u64::from(size) * u64::from(1 - resend);
                 self.again += u64::from(size) * u64::from(resend);
             }
             Record::Ack {
                 time,
+                flow,
                 trigger,
                 service,
                 ..
             } => self.sample(
                 line,
                 |sent| time - sent - u64::from(service),
-                sent.get(&trigger),
+                sent.get(&(flow.unwrap_or(0), trigger)),
             ),
-            Record::Nack { time, psn, .. } => self.sample(line, |sent| time - sent, sent.get(&psn)),
+            Record::Nack {
+                time, flow, psn, ..
+            } => {
+                let sent = sent.get(&(flow.unwrap_or(0), psn));
+                self.sample(line, |sent| time - sent, sent);
+            }
             _ => {}
         }
     }
@@ -553,6 +561,7 @@ fn generated() -> Vec<Vec<u8>> {
             gen::lossy(seed, 2_000),
             gen::marked(seed, 2_000),
             gen::winding(seed, 500),
+            gen::flows(seed, 2_000),
             gen::bulk(seed, 2_500),
         ]);
     }
@@ -587,7 +596,7 @@ fn generated_logs_by_the_printed_lines() {
         bytes[1] += figures.again_bytes;
     }
     // The logs are worth something.
-    for number in [1, 3, 4, 5, 6, 7, 8, 9, 10, 11, 12, 20, 21, 22, 23, 24] {
+    for number in [1, 3, 4, 5, 6, 7, 8, 9, 10, 11, 12, 20, 21, 22, 23, 24, 25] {
         assert!(numbers[number] > 5, "{number}: {numbers:?}");
     }
     assert!(kinds.iter().all(|&times| times > 20), "{kinds:?}");

@@ -165,6 +165,20 @@ impl Rig {
         }
     }
 
+    /// All that is a flow's own: its record and its part of the buffers.
+    pub fn own(&self, flow: usize) -> (Flow, [&[u64]; 3], &[u32]) {
+        let slots = flow * self.capacity()..(flow + 1) * self.capacity();
+        let words = slots.start / 64..slots.end / 64;
+        let memory = &self.memory;
+        let (outstanding, marked) = (&memory.outstanding[words.clone()], &memory.marked[words]);
+        let sent = &memory.sent[slots.clone()];
+        (
+            memory.flows[flow],
+            [outstanding, marked, sent],
+            &memory.sizes[slots],
+        )
+    }
+
     /// What low..next-1 of a flow holds.
     fn packets(&self, flow: usize) -> impl Iterator<Item = Slot> + '_ {
         let Flow { low, next, .. } = self.memory.flows[flow];
@@ -258,6 +272,17 @@ pub fn time_of(event: &Event) -> u64 {
         Event::Nack(event) => event.time,
         Event::Loss(event) => event.time,
         Event::Path(event) => event.time,
+    }
+}
+
+pub fn flow_of(event: &Event) -> u64 {
+    match event {
+        Event::NewData(event) => event.flow,
+        Event::Send(event) => event.flow,
+        Event::Ack(event) => event.flow,
+        Event::Nack(event) => event.flow,
+        Event::Loss(event) => event.flow,
+        Event::Path(event) => event.flow,
     }
 }
 

@@ -53,7 +53,9 @@ fn every_number_that_a_log_can_meet_is_met() {
         .iter()
         .flat_map(|vector| answers(&replay(&vector.log)))
         .collect();
-    let expected = [0, 1, 3, 4, 5, 6, 7, 8, 9, 10, 11, 12, 20, 21, 22, 23, 24];
+    let expected = [
+        0, 1, 3, 4, 5, 6, 7, 8, 9, 10, 11, 12, 20, 21, 22, 23, 24, 25,
+    ];
     assert_eq!(numbers, BTreeSet::from(expected));
 }
 
@@ -194,6 +196,13 @@ fn bytes_written_back_worked_out_by_hand() {
         ("settings-cut-1", 0, 1),
         ("offset-73", 57 + 16, 73 + 13 + 12),
         ("kind-262", 57, 57 + 12 + 12),
+        ("kind-39", 57, 57 + 12 + 12),
+        ("flow-path-short", 57, 57 + 12 + 12),
+        ("flow-path-long", 57, 57 + 14 + 12),
+        ("first-flow-path", 13 + 12, 25),
+        // Sends of 21 or 22 bytes; flow 0 has an old kind for both new packets and the resend too.
+        ("flow-kinds", 57 + 17 + 3 * 22 + 40 + 21 + 19 + 13, 233),
+        ("flow-zero", 57 + 17 + 21 + 40 + 21 + 21 + 21 + 19 + 12, 229),
     ];
     let bundled = bundled();
     for (name, back, length) in expected {
@@ -324,9 +333,13 @@ fn lines_worked_out_by_hand() {
         ("paths", "132 0 0 614400 0 0 0 IDLE 129"),
         ("paths", "257 0 0 614400 0 0 0 IDLE 254"),
         ("paths", "260 0 0 614400 0 0 0 IDLE 1"),
-        ("ring-full", "1029 7 41984 46079 1024 0 100 ACTIVE"),
-        ("ring-full", "1037 7 41728 46079 961 0 100 READY"),
-        ("ring-full", "1039 0 41769 46079 961 0 59 READY"),
+        ("ring-full", "517 7 20992 25087 512 0 100 ACTIVE"),
+        ("ring-full", "525 7 20736 25087 449 0 100 READY"),
+        // Flow 4 sends between these.
+        ("ring-full", "527 0 20777 25087 450 0 141 READY"),
+        ("ring-full", "528 7 20777 25087 450 0 141 READY"),
+        ("ring-full", "530 0 20818 25087 450 0 100 READY"),
+        ("ring-full", "531 0 20859 25087 451 0 59 READY"),
     ];
     all_printed(&expected);
 }
@@ -462,6 +475,48 @@ fn evs_worked_out_by_hand() {
             "{name}"
         );
     }
+}
+
+/// All that the logs of M-107 print, behind the header. Flow 3 does what flow 0 does.
+#[test]
+fn flows_worked_out_by_hand() {
+    // A round trip of 96 keeps the window; one of 3 leaves 614,400 * 3 / 96, a loss 100 less. EV 0
+    // is avoided until 123.
+    let each = "1 0 0 614400 0 0 0 IDLE\n\
+                2 0 0 614400 0 0 300 READY\n\
+                3 0 100 614400 1 0 200 READY\n\
+                4 0 100 614400 0 0 200 READY s\n\
+                5 0 200 614400 1 0 100 READY\n\
+                6 0 100 19200 0 1 100 READY s\n\
+                7 0 200 19200 1 0 100 READY\n\
+                8 0 100 19100 0 1 100 READY\n\
+                9 0 100 19100 0 1 100 READY 1\n";
+    let own = "1 0 0 8192 0 0 0 IDLE\n\
+               2 0 0 8192 0 0 4096 READY\n\
+               3 5 0 8192 0 0 4096 READY\n\
+               4 0 4096 8192 1 0 0 PENDING\n\
+               5 0 4096 8192 1 0 8192 READY\n\
+               6 8 4096 8192 1 0 8192 READY\n\
+               7 0 8192 8192 2 0 4096 ACTIVE\n\
+               8 6 8192 8192 2 0 4096 ACTIVE\n\
+               9 10 8192 8192 2 0 4096 ACTIVE\n\
+               10 10 8192 8192 2 0 4096 ACTIVE\n\
+               11 9 8192 8192 2 0 4096 ACTIVE\n\
+               12 0 4096 8192 1 0 4096 READY s\n\
+               13 0 8192 8192 2 0 0 PENDING\n\
+               14 0 4096 8192 1 0 0 PENDING s\n\
+               15 0 0 4096 0 0 0 IDLE s\n"; // a base of 1 leaves the MTU
+    let bundled = bundled();
+    for (name, lines) in [("flow-kinds", each), ("flow-zero", each), ("flow-own", own)] {
+        let text = text(&bundled, name);
+        let behind = text.split_once('\n').expect("the header").1;
+        assert_eq!(behind, lines, "{name}");
+    }
+    assert_eq!(
+        answers(&text(&bundled, "flow-refused")),
+        [0, 0, 25, 25, 3, 25, 20, 25, 4, 25, 21, 25, 22, 25, 23, 3, 25, 25, 0]
+    );
+    all_printed(&[("flow-refused", "19 0 0 614400 0 0 300 READY 0")]);
 }
 
 #[test]
