@@ -1,5 +1,6 @@
 /*
- * A card's first steps with nscc.h: the requirements' worked example by calls, then a packet that is trimmed, sent again and acknowledged twice.
+ * A card's first steps with nscc.h: the requirements' worked example by calls, then a packet that is trimmed, sent again and acknowledged twice, all on flow
+ * 0; then a packet of flow 1 under the same window.
  *
  *     gcc -std=c99 -Wall -Wextra -Werror -Iinclude examples/card.c target/lib/libnscc.a
  *
@@ -11,12 +12,14 @@
 #include <stdlib.h>
 #include <string.h>
 
-/* Powers of two: 64..4096 slots, 256..4096 EVs. Two of the ring's arrays have a bit for each slot. */
-enum { SLOTS = 64, BIT_WORDS = SLOTS / 64, EVS = NSCC_EVS_MIN };
+/* One to eight flows. Powers of two: a ring of 64..4096 slots for each flow, 256..4096 EVs. Two of the ring buffer's arrays have a bit for each slot. */
+enum { FLOWS = 2, CAPACITY = 64, EVS = NSCC_EVS_MIN };
+enum { TABLE_WORDS = FLOWS * NSCC_FLOW_WORDS, SLOTS = FLOWS * CAPACITY, BIT_WORDS = SLOTS / 64 };
 
 /* All the memory of one context. It is the card's: the library keeps nothing between calls. */
 struct card {
     uint64_t state[NSCC_STATE_WORDS];
+    uint64_t flows[TABLE_WORDS];
     uint64_t outstanding[BIT_WORDS];
     uint64_t marked[BIT_WORDS];
     uint32_t sizes[SLOTS];
@@ -25,8 +28,9 @@ struct card {
 };
 
 /* What every call is lent: each array with its length. */
-#define LENT(card)                                                                                                                                           \
-    (card)->state, NSCC_STATE_WORDS, (card)->outstanding, BIT_WORDS, (card)->marked, BIT_WORDS, (card)->sizes, SLOTS, (card)->sent, SLOTS, (card)->evs, EVS
+#define LENT(card)                                                                                                                                   \
+    (card)->state, NSCC_STATE_WORDS, (card)->flows, TABLE_WORDS, (card)->outstanding, BIT_WORDS, (card)->marked, BIT_WORDS, (card)->sizes, SLOTS,    \
+        (card)->sent, SLOTS, (card)->evs, EVS
 
 /* Settings E of the requirements, in the order of enum nscc_setting. */
 static const uint64_t settings[NSCC_SETTING_WORDS] = {4096, 614400, 96, 72, 4096, 1024, 224, 819, 512, 96, 32768, 288};
@@ -65,15 +69,13 @@ static void show_sample(const char *call, uint64_t answer, const struct card *ca
     sampled[sample]++;
 }
 
-/* A send of a PSN that is not next. The refusal must leave the whole context as it was. */
-static void refused_send(struct card *card)
+/* A refusal must leave the whole context as it was. */
+static void unchanged(const struct card *before, const struct card *card)
 {
-    const struct card before = *card;
-    show("send-2", nscc_send(LENT(card), 20, 2, 4096, false), card);
-    bool same = memcmp(before.state, card->state, sizeof before.state) == 0 &&
-                memcmp(before.outstanding, card->outstanding, sizeof before.outstanding) == 0 &&
-                memcmp(before.marked, card->marked, sizeof before.marked) == 0 && memcmp(before.sizes, card->sizes, sizeof before.sizes) == 0 &&
-                memcmp(before.sent, card->sent, sizeof before.sent) == 0 && memcmp(before.evs, card->evs, sizeof before.evs) == 0;
+    bool same = memcmp(before->state, card->state, sizeof card->state) == 0 && memcmp(before->flows, card->flows, sizeof card->flows) == 0 &&
+                memcmp(before->outstanding, card->outstanding, sizeof card->outstanding) == 0 &&
+                memcmp(before->marked, card->marked, sizeof card->marked) == 0 && memcmp(before->sizes, card->sizes, sizeof card->sizes) == 0 &&
+                memcmp(before->sent, card->sent, sizeof card->sent) == 0 && memcmp(before->evs, card->evs, sizeof card->evs) == 0;
     if (!same) {
         puts("the refusal changed something");
         exit(EXIT_FAILURE);
@@ -81,10 +83,26 @@ static void refused_send(struct card *card)
     puts("refused, and nothing changed");
 }
 
-/* The EV to send the next packet with. */
-static uint32_t next_path(struct card *card, uint64_t time)
+/* A send of a PSN that is not next. */
+static void refused_send(struct card *card)
 {
-    uint64_t answer = nscc_path(LENT(card), time);
+    const struct card before = *card;
+    show("send-2", nscc_send(LENT(card), 20, 0, 2, 4096, false), card);
+    unchanged(&before, card);
+}
+
+/* New data of a flow that the table does not have: they are numbered from 0 on. */
+static void refused_flow(struct card *card)
+{
+    const struct card before = *card;
+    show("flow-2-new-data", nscc_new_data(LENT(card), 470, FLOWS, 4096), card);
+    unchanged(&before, card);
+}
+
+/* The EV to send the next packet with. */
+static uint32_t next_path(struct card *card, uint64_t time, size_t flow)
+{
+    uint64_t answer = nscc_path(LENT(card), time, flow);
     uint32_t ev = (uint32_t)(answer >> 32);
     show("path", (uint32_t)answer, card);
     printf("EV %u\n", (unsigned)ev);
@@ -92,15 +110,35 @@ static uint32_t next_path(struct card *card, uint64_t time)
 }
 
 /* What became of a packet, without a look into the ring. */
-static void show_status(const struct card *card, uint32_t psn)
+static void show_status(const struct card *card, size_t flow, uint32_t psn)
 {
-    printf("PSN %u: %s\n", (unsigned)psn, statuses[nscc_status(LENT(card), psn) >> 32]);
+    printf("flow %u, PSN %u: %s\n", (unsigned)flow, (unsigned)psn, statuses[nscc_status(LENT(card), flow, psn) >> 32]);
 }
 
-/* The oldest packet that waits to be sent again: next where none does. */
-static uint32_t oldest_marked(const struct card *card)
+/* A word of a flow. */
+static uint64_t flow_word(const struct card *card, size_t flow, enum nscc_flow word)
 {
-    return (uint32_t)(nscc_next_marked(LENT(card), (uint32_t)card->state[NSCC_STATE_LOW]) >> 32);
+    return card->flows[flow * NSCC_FLOW_WORDS + word];
+}
+
+/* A flow's oldest packet that waits to be sent again: next where none does. */
+static uint32_t oldest_marked(const struct card *card, size_t flow)
+{
+    return (uint32_t)(nscc_next_marked(LENT(card), flow, (uint32_t)flow_word(card, flow, NSCC_FLOW_LOW)) >> 32);
+}
+
+/* Flow 1 has PSNs, a ring and a received count of its own; the window, the next path and the clock go on from where flow 0 has brought them. */
+static void other_flow(struct card *card)
+{
+    show("flow-1-new-data", nscc_new_data(LENT(card), 350, 1, 4096), card);
+    uint32_t ev = next_path(card, 355, 1);
+    show("flow-1-send-0", nscc_send(LENT(card), 360, 1, 0, 4096, false), card);
+    show_status(card, 1, 0);
+    show_status(card, 0, 0);
+    show_sample("flow-1-ack-0", nscc_ack(LENT(card), 460, 1, 0, 0, 0, 16, 4, ev, false, false), card);
+    for (size_t flow = 0; flow < FLOWS; flow++)
+        printf("flow %u: next %llu, received %llu * 256\n", (unsigned)flow, (unsigned long long)flow_word(card, flow, NSCC_FLOW_NEXT),
+               (unsigned long long)flow_word(card, flow, NSCC_FLOW_HELD));
 }
 
 int main(void)
@@ -110,34 +148,36 @@ int main(void)
     show("set-up", nscc_set_up(settings, NSCC_SETTING_WORDS, 0, false, EVS, LENT(&card)), &card);
 
     /* The worked example. */
-    show("new-data", nscc_new_data(LENT(&card), 0, 8192), &card);
-    show("send-0", nscc_send(LENT(&card), 10, 0, 4096, false), &card);
+    show("new-data", nscc_new_data(LENT(&card), 0, 0, 8192), &card);
+    show("send-0", nscc_send(LENT(&card), 10, 0, 0, 4096, false), &card);
     refused_send(&card);
-    show_sample("ack-0", nscc_ack(LENT(&card), 110, 0, 0, 0, 16, 4, 0, false, false), &card);
+    show_sample("ack-0", nscc_ack(LENT(&card), 110, 0, 0, 0, 0, 16, 4, 0, false, false), &card);
 
     /* PSN 1 goes out on the next path, and is trimmed there: its EV is avoided for a while. */
-    uint32_t ev = next_path(&card, 120);
-    show("send-1", nscc_send(LENT(&card), 130, 1, 4096, false), &card);
-    show_sample("nack-1", nscc_nack(LENT(&card), 230, 1, ev, 0, false, false), &card);
+    uint32_t ev = next_path(&card, 120, 0);
+    show("send-1", nscc_send(LENT(&card), 130, 0, 1, 4096, false), &card);
+    show_sample("nack-1", nscc_nack(LENT(&card), 230, 0, 1, ev, 0, false, false), &card);
     printf("EV %u is avoided until %llu\n", (unsigned)ev, (unsigned long long)card.evs[ev]);
 
     /* The marked packet is sent again on another path. Its ACK has the retx flag, so it gives a sample; a copy of that ACK finds the packet gone and moves
        no average. */
-    uint32_t again = oldest_marked(&card);
-    show_status(&card, again);
-    ev = next_path(&card, 235);
-    show("resend-1", nscc_send(LENT(&card), 240, again, 4096, true), &card);
-    show_status(&card, again);
-    show_sample("ack-1", nscc_ack(LENT(&card), 340, 1, 0, 1, 32, 4, ev, false, true), &card);
-    show_status(&card, again);
-    show_sample("copy", nscc_ack(LENT(&card), 341, 1, 0, 1, 32, 4, ev, false, true), &card);
+    uint32_t again = oldest_marked(&card, 0);
+    show_status(&card, 0, again);
+    ev = next_path(&card, 235, 0);
+    show("resend-1", nscc_send(LENT(&card), 240, 0, again, 4096, true), &card);
+    show_status(&card, 0, again);
+    show_sample("ack-1", nscc_ack(LENT(&card), 340, 0, 1, 0, 1, 32, 4, ev, false, true), &card);
+    show_status(&card, 0, again);
+    show_sample("copy", nscc_ack(LENT(&card), 341, 0, 1, 0, 1, 32, 4, ev, false, true), &card);
     printf("base %llu, average %llu/1024 ticks\n", (unsigned long long)card.state[NSCC_STATE_BASE], (unsigned long long)card.state[NSCC_STATE_AVG]);
 
+    other_flow(&card);
     printf("samples %u, cut %u, gone %u, ambiguous %u, not positive %u\n", sampled[NSCC_SAMPLE_TAKEN], sampled[NSCC_SAMPLE_CUT], sampled[NSCC_SAMPLE_GONE],
            sampled[NSCC_SAMPLE_AMBIGUOUS], sampled[NSCC_SAMPLE_NOT_POSITIVE]);
 
     /* Firmware that hands in insane numbers is told so. */
+    refused_flow(&card);
     card.state[NSCC_STATE_CWND] = 0;
-    printf("a window of 0: %u\n", (unsigned)nscc_new_data(LENT(&card), 341, 1));
+    printf("a window of 0: %u\n", (unsigned)nscc_new_data(LENT(&card), 470, 0, 1));
     return EXIT_SUCCESS;
 }

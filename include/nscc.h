@@ -1,9 +1,11 @@
 /*
  * nscc.h: a proved sender-side NSCC congestion controller, for network card firmware.
  *
- * One context is a state of NSCC_STATE_WORDS words, a ring of four arrays and a time for each EV,
- * all of them the caller's memory. Nothing is allocated, nothing is kept between calls, no function
- * blocks; each may be called from any thread as long as no two calls share memory.
+ * One context is one window with one to eight flows under it: a state of NSCC_STATE_WORDS words, a
+ * table of the flows, of NSCC_FLOW_WORDS words each, a ring buffer of four arrays with a ring for
+ * each flow, and a time for each EV, all of them the caller's memory. Nothing is allocated, nothing
+ * is kept between calls, no function blocks; each may be called from any thread as long as no two
+ * calls share memory.
  *
  * Every function answers for every number that is handed in. The answer is 0, or the number of a
  * refusal (nscc_refusal); an answer of 64 bits has it in the low 32, and what else there is to say
@@ -16,7 +18,8 @@
  *   - a pointer is not null, also where its length is 0, and is aligned for its type.
  *
  * To use it: lend the memory of a context (examples/card.c has it in one struct), set it up once
- * with nscc_set_up, then tell it what happens, in the order in which it happens, with the time:
+ * with nscc_set_up, then tell it what happens, in the order in which it happens, with the time and
+ * the flow:
  *   - nscc_new_data   bytes that wait to be sent;
  *   - nscc_path       which EV the next packet takes;
  *   - nscc_send       a new packet, or a marked one once more; 6 says that the window is full;
@@ -26,13 +29,19 @@
  * what became of a packet and nscc_next_marked which one to send again, so that no firmware has to
  * read the ring itself.
  *
- * The ring's capacity is a power of two from 64 to 4096 slots, of 12.25 bytes a slot:
- *   - outstanding and marked have a bit for each slot, so capacity / 64 words: slot i is bit i % 64
- *     of word i / 64;
- *   - sizes and sent have a number for each slot, so capacity numbers.
- * PSN p lives in slot p % capacity. Its outstanding bit says that it flies or is marked, its marked
- * bit that it is marked; where neither is set, it is done. Its sizes number is its size + 2^16 * its
- * resend count, its sent number when it was last sent. A slot of no packet is all 0.
+ * Flows are numbered from 0 on. Each has its own PSNs, received count, backlog and ring; window,
+ * in-flight, the other totals, EVs and clock are the context's. No call for a flow changes another
+ * flow's words in the table, or its ring.
+ *
+ * The ring buffer is cut into equal rings, one for each flow, in the order of their numbers. A
+ * ring's capacity is a power of two from 64 to 4096 slots, of 12.25 bytes a slot; with n flows
+ *   - outstanding and marked have a bit for each slot, so n * capacity / 64 words: slot i is bit
+ *     i % 64 of word i / 64;
+ *   - sizes and sent have a number for each slot, so n * capacity numbers.
+ * PSN p of flow k lives in slot k * capacity + p % capacity. Its outstanding bit says that it flies
+ * or is marked, its marked bit that it is marked; where neither is set, it is done. Its sizes number
+ * is its size + 2^16 * its resend count, its sent number when it was last sent. A slot of no packet
+ * is all 0.
  *
  * The EVs are as many as setting up was told, a power of two from NSCC_EVS_MIN to NSCC_EVS_MAX, and
  * so many times are lent with every call. Time is in ticks of 128 ns.
@@ -55,22 +64,23 @@ extern "C" {
 enum nscc_refusal {
     NSCC_ACCEPTED = 0,
     NSCC_REFUSED_SETTING = 1,       /* a setting is outside its range */
-    NSCC_REFUSED_UNSOUND = 2,       /* state or buffers don't hold together, or a length is wrong */
+    NSCC_REFUSED_UNSOUND = 2,       /* state, flows or buffers don't hold together, or a length is wrong */
     NSCC_REFUSED_TIME = 3,          /* time before the held clock, or 2^48 or more */
     NSCC_REFUSED_SIZE = 4,          /* a packet's size is outside 41..MTU */
-    NSCC_REFUSED_BACKLOG = 5,       /* a new packet larger than the backlog */
+    NSCC_REFUSED_BACKLOG = 5,       /* a new packet larger than its flow's backlog */
     NSCC_REFUSED_WINDOW_FULL = 6,   /* in-flight + MTU is over the window */
-    NSCC_REFUSED_RING_FULL = 7,     /* no slot for a new packet */
+    NSCC_REFUSED_RING_FULL = 7,     /* no slot for a new packet in its flow's ring */
     NSCC_REFUSED_WRONG_PSN = 8,     /* a new packet's PSN is not next; a resend's is not marked, or its size differs */
     NSCC_REFUSED_UNSENT_OR_OLD = 9, /* an ACK that names an unsent packet, or is too old */
     NSCC_REFUSED_NOT_FLYING = 10,   /* a NACK or a loss of a packet that does not fly */
     NSCC_REFUSED_SINKS = 11,        /* in-flight would fall below -2^24 */
     NSCC_REFUSED_MALFORMED = 12,    /* nscc_replay, nscc_chunk: a log record is malformed */
-    NSCC_REFUSED_BYTES = 20,        /* new data of 0 bytes, or a backlog over 2^40 */
+    NSCC_REFUSED_BYTES = 20,        /* new data of 0 bytes, or a flow's backlog over 2^40 */
     NSCC_REFUSED_COUNT = 21,        /* a received count of 2^24 or more */
     NSCC_REFUSED_REASON = 22,       /* a NACK's reason over 2 */
     NSCC_REFUSED_EV = 23,           /* an EV that is not below the EV count */
     NSCC_REFUSED_TRIGGER = 24,      /* an ACK that does not cover its trigger */
+    NSCC_REFUSED_FLOW = 25,         /* a flow that the table does not have */
     NSCC_REFUSED_LOG_TOO_LONG = 28  /* nscc_chunk: with the chunk the log would have 2^48 bytes or more */
 };
 
@@ -106,15 +116,12 @@ enum nscc_setting {
     NSCC_SETTING_WORDS            /* how many there are */
 };
 
-/* The state's words, in this order. A word that no state has is refused with 2. */
+/* The state's words, in this order; totals are over all flows. A word that no state has is refused with 2. */
 enum nscc_state {
     /* 0..11: the twelve settings, as above */
     NSCC_STATE_FIRST_PSN = NSCC_SETTING_WORDS,
     NSCC_STATE_QUICK_ADAPT_OFF, /* 0 or 1 */
-    NSCC_STATE_LOW,             /* the oldest PSN that is not done */
-    NSCC_STATE_NEXT,            /* the PSN of the next new packet */
-    NSCC_STATE_HELD,            /* the received count, in units of 256 bytes */
-    NSCC_STATE_BACKLOG,
+    NSCC_STATE_BACKLOG,         /* the sum of the flows' backlogs */
     NSCC_STATE_FLYING,          /* packets */
     NSCC_STATE_MARKED,          /* packets that wait to be sent again */
     NSCC_STATE_MARKED_BYTES,
@@ -137,8 +144,23 @@ enum nscc_state {
     NSCC_STATE_CURSOR,          /* the EV from which the next path is looked for: below the EV count */
     NSCC_STATE_PHASE,           /* 0 IDLE, 1 PENDING, 2 READY, 3 ACTIVE */
     NSCC_STATE_EV_COUNT,        /* how many EVs there are, and EV times: 256, 512, 1024, 2048 or 4096 */
-    NSCC_STATE_WORDS            /* how many there are: 40 */
+    NSCC_STATE_WORDS            /* how many there are: 37 */
 };
+
+/*
+ * A flow's words, in this order: word w of flow k is flows[k * NSCC_FLOW_WORDS + w]. A word that no
+ * flow has is refused with 2.
+ */
+enum nscc_flow {
+    NSCC_FLOW_LOW,     /* the oldest PSN that is not done */
+    NSCC_FLOW_NEXT,    /* the PSN of the next new packet */
+    NSCC_FLOW_HELD,    /* the received count, in units of 256 bytes */
+    NSCC_FLOW_BACKLOG, /* at most 2^40 bytes */
+    NSCC_FLOW_WORDS    /* how many there are: 4 */
+};
+
+/* The table has one flow to so many: flows_len is NSCC_FLOW_WORDS times their number. */
+#define NSCC_FLOWS_MAX 8
 
 /* What is added to in-flight in its word. */
 #define NSCC_IN_FLIGHT_ADDED 16777216
@@ -150,53 +172,65 @@ enum nscc_state {
 /*
  * Sets a context up: 1, then 2 on lengths; settings that are not NSCC_SETTING_WORDS numbers can't be
  * read, and are 2 before all else. An EV count that is not allowed is 1 like a setting outside its
- * range. Clears the ring and the EV times and writes the state's words; a refusal changes nothing.
- * settings_len is NSCC_SETTING_WORDS, state_len NSCC_STATE_WORDS, evs_len the EV count.
+ * range. A table that is not of one to NSCC_FLOWS_MAX whole flows, and a ring buffer that is not as
+ * many equal rings, are 2. Clears the ring buffer and the EV times, starts every flow at the first
+ * PSN with a received count and a backlog of 0, and writes the state's words; a refusal changes
+ * nothing. settings_len is NSCC_SETTING_WORDS, state_len NSCC_STATE_WORDS, evs_len the EV count.
  */
 uint32_t nscc_set_up(const uint64_t *settings, size_t settings_len, uint32_t first_psn, bool quick_adapt_off, uint32_t ev_count,
-                     uint64_t *state, size_t state_len, uint64_t *outstanding, size_t outstanding_len, uint64_t *marked, size_t marked_len,
-                     uint32_t *sizes, size_t sizes_len, uint64_t *sent, size_t sent_len, uint64_t *evs, size_t evs_len);
+                     uint64_t *state, size_t state_len, uint64_t *flows, size_t flows_len, uint64_t *outstanding, size_t outstanding_len,
+                     uint64_t *marked, size_t marked_len, uint32_t *sizes, size_t sizes_len, uint64_t *sent, size_t sent_len,
+                     uint64_t *evs, size_t evs_len);
 
-/* New data in the backlog: 2, 3, 20. The ring and the EV times are only read. */
-uint32_t nscc_new_data(uint64_t *state, size_t state_len, const uint64_t *outstanding, size_t outstanding_len,
-                       const uint64_t *marked, size_t marked_len, const uint32_t *sizes, size_t sizes_len,
-                       const uint64_t *sent, size_t sent_len, const uint64_t *evs, size_t evs_len, uint64_t time, uint64_t bytes);
+/* New data in a flow's backlog: 2, 3, 25, 20. The ring buffer and the EV times are only read. */
+uint32_t nscc_new_data(uint64_t *state, size_t state_len, uint64_t *flows, size_t flows_len,
+                       const uint64_t *outstanding, size_t outstanding_len, const uint64_t *marked, size_t marked_len,
+                       const uint32_t *sizes, size_t sizes_len, const uint64_t *sent, size_t sent_len, const uint64_t *evs, size_t evs_len,
+                       uint64_t time, size_t flow, uint64_t bytes);
 
-/* A new packet of that PSN and size, or a resend: 2, 3, 4, 8, 5, 7, 6. The EV times are only read. */
-uint32_t nscc_send(uint64_t *state, size_t state_len, uint64_t *outstanding, size_t outstanding_len, uint64_t *marked, size_t marked_len,
-                   uint32_t *sizes, size_t sizes_len, uint64_t *sent, size_t sent_len, const uint64_t *evs, size_t evs_len, uint64_t time,
-                   uint32_t psn, uint32_t bytes, bool resend);
+/* A new packet of that PSN and size, or a resend: 2, 3, 25, 4, 8, 5, 7, 6. The EV times are only read. */
+uint32_t nscc_send(uint64_t *state, size_t state_len, uint64_t *flows, size_t flows_len, uint64_t *outstanding, size_t outstanding_len,
+                   uint64_t *marked, size_t marked_len, uint32_t *sizes, size_t sizes_len, uint64_t *sent, size_t sent_len,
+                   const uint64_t *evs, size_t evs_len, uint64_t time, size_t flow, uint32_t psn, uint32_t bytes, bool resend);
 
 /*
- * An ACK: the number (2, 3, 21, 23, 24, 9, 11) in the low 32 bits of the answer; above them what
+ * An ACK: the number (2, 3, 25, 21, 23, 24, 9, 11) in the low 32 bits of the answer; above them what
  * the trigger's sample is (nscc_sample), 0 where it is refused. cum covers every PSN up to itself,
  * bit i of map covers cum + 1 + i; m_flag is the M flag.
  */
-uint64_t nscc_ack(uint64_t *state, size_t state_len, uint64_t *outstanding, size_t outstanding_len, uint64_t *marked, size_t marked_len,
-                  uint32_t *sizes, size_t sizes_len, uint64_t *sent, size_t sent_len, uint64_t *evs, size_t evs_len, uint64_t time,
-                  uint32_t cum, uint64_t map, uint32_t trigger, uint32_t count, uint32_t service, uint32_t ev, bool m_flag, bool retx);
+uint64_t nscc_ack(uint64_t *state, size_t state_len, uint64_t *flows, size_t flows_len, uint64_t *outstanding, size_t outstanding_len,
+                  uint64_t *marked, size_t marked_len, uint32_t *sizes, size_t sizes_len, uint64_t *sent, size_t sent_len,
+                  uint64_t *evs, size_t evs_len, uint64_t time, size_t flow, uint32_t cum, uint64_t map, uint32_t trigger, uint32_t count,
+                  uint32_t service, uint32_t ev, bool m_flag, bool retx);
 
 /*
- * A NACK: the number (2, 3, 22, 23, 10, 11) in the low 32 bits of the answer; above them what its
- * packet's sample is (nscc_sample), 0 where it is refused; NSCC_SAMPLE_GONE is not among them,
+ * A NACK: the number (2, 3, 25, 22, 23, 10, 11) in the low 32 bits of the answer; above them what
+ * its packet's sample is (nscc_sample), 0 where it is refused; NSCC_SAMPLE_GONE is not among them,
  * since the packet flies. reason is 0 trimmed, 1 trimmed at the last hop, 2 other; m_flag is the M
- * flag. Of the ring only marked is written.
+ * flag. Of the ring buffer only marked is written.
  */
-uint64_t nscc_nack(uint64_t *state, size_t state_len, const uint64_t *outstanding, size_t outstanding_len,
-                   uint64_t *marked, size_t marked_len, const uint32_t *sizes, size_t sizes_len, const uint64_t *sent, size_t sent_len,
-                   uint64_t *evs, size_t evs_len, uint64_t time, uint32_t psn, uint32_t ev, uint32_t reason, bool m_flag, bool retx);
+uint64_t nscc_nack(uint64_t *state, size_t state_len, uint64_t *flows, size_t flows_len,
+                   const uint64_t *outstanding, size_t outstanding_len, uint64_t *marked, size_t marked_len,
+                   const uint32_t *sizes, size_t sizes_len, const uint64_t *sent, size_t sent_len, uint64_t *evs, size_t evs_len,
+                   uint64_t time, size_t flow, uint32_t psn, uint32_t ev, uint32_t reason, bool m_flag, bool retx);
 
-/* A packet taken for lost: 2, 3, 23, 10, 11. Of the ring only marked is written. */
-uint32_t nscc_loss(uint64_t *state, size_t state_len, const uint64_t *outstanding, size_t outstanding_len,
-                   uint64_t *marked, size_t marked_len, const uint32_t *sizes, size_t sizes_len, const uint64_t *sent, size_t sent_len,
-                   uint64_t *evs, size_t evs_len, uint64_t time, uint32_t psn, uint32_t ev);
+/* A packet taken for lost: 2, 3, 25, 23, 10, 11. Of the ring buffer only marked is written. */
+uint32_t nscc_loss(uint64_t *state, size_t state_len, uint64_t *flows, size_t flows_len,
+                   const uint64_t *outstanding, size_t outstanding_len, uint64_t *marked, size_t marked_len,
+                   const uint32_t *sizes, size_t sizes_len, const uint64_t *sent, size_t sent_len, uint64_t *evs, size_t evs_len,
+                   uint64_t time, size_t flow, uint32_t psn, uint32_t ev);
 
-/* The next path: the number (2, 3) in the low 32 bits of the answer; above them the EV, 0 where it is refused. The ring and the EV times are only read. */
-uint64_t nscc_path(uint64_t *state, size_t state_len, const uint64_t *outstanding, size_t outstanding_len,
-                   const uint64_t *marked, size_t marked_len, const uint32_t *sizes, size_t sizes_len,
-                   const uint64_t *sent, size_t sent_len, const uint64_t *evs, size_t evs_len, uint64_t time);
+/*
+ * The next path, which is the same for every flow: the number (2, 3, 25) in the low 32 bits of the
+ * answer; above them the EV, 0 where it is refused. The table, the ring buffer and the EV times are
+ * only read.
+ */
+uint64_t nscc_path(uint64_t *state, size_t state_len, const uint64_t *flows, size_t flows_len,
+                   const uint64_t *outstanding, size_t outstanding_len, const uint64_t *marked, size_t marked_len,
+                   const uint32_t *sizes, size_t sizes_len, const uint64_t *sent, size_t sent_len, const uint64_t *evs, size_t evs_len,
+                   uint64_t time, size_t flow);
 
-/* What the ring shows of a PSN. */
+/* What a flow's ring shows of a PSN. */
 enum nscc_status {
     NSCC_STATUS_NONE = 0,   /* it is not one of low..next-1 */
     NSCC_STATUS_FLYING = 1, /* sent, and neither acknowledged nor taken for lost */
@@ -205,22 +239,25 @@ enum nscc_status {
 };
 
 /*
- * What the ring shows of a PSN: the number (2) in the low 32 bits of the answer; above them its
- * status (nscc_status), 0 where it is refused. Nothing is written.
+ * What a flow's ring shows of a PSN: the number (2, 25) in the low 32 bits of the answer; above them
+ * its status (nscc_status), 0 where it is refused. Nothing is written.
  */
-uint64_t nscc_status(const uint64_t *state, size_t state_len, const uint64_t *outstanding, size_t outstanding_len,
-                     const uint64_t *marked, size_t marked_len, const uint32_t *sizes, size_t sizes_len,
-                     const uint64_t *sent, size_t sent_len, const uint64_t *evs, size_t evs_len, uint32_t psn);
+uint64_t nscc_status(const uint64_t *state, size_t state_len, const uint64_t *flows, size_t flows_len,
+                     const uint64_t *outstanding, size_t outstanding_len, const uint64_t *marked, size_t marked_len,
+                     const uint32_t *sizes, size_t sizes_len, const uint64_t *sent, size_t sent_len, const uint64_t *evs, size_t evs_len,
+                     size_t flow, uint32_t psn);
 
 /*
- * The first marked packet from a PSN on, that PSN included: the number (2) in the low 32 bits of the
- * answer; above them the packet's PSN, 0 where it is refused. Where no packet from there up to
- * next-1 is marked, or the PSN is not one of low..next-1, it is next. So the marked packets are met
- * one after the other from low on, each time from the PSN behind the last one. Nothing is written.
+ * A flow's first marked packet from a PSN on, that PSN included: the number (2, 25) in the low 32
+ * bits of the answer; above them the packet's PSN, 0 where it is refused. Where no packet from there
+ * up to next-1 is marked, or the PSN is not one of low..next-1, it is next. So the marked packets
+ * are met one after the other from low on, each time from the PSN behind the last one. Nothing is
+ * written.
  */
-uint64_t nscc_next_marked(const uint64_t *state, size_t state_len, const uint64_t *outstanding, size_t outstanding_len,
-                          const uint64_t *marked, size_t marked_len, const uint32_t *sizes, size_t sizes_len,
-                          const uint64_t *sent, size_t sent_len, const uint64_t *evs, size_t evs_len, uint32_t psn);
+uint64_t nscc_next_marked(const uint64_t *state, size_t state_len, const uint64_t *flows, size_t flows_len,
+                          const uint64_t *outstanding, size_t outstanding_len, const uint64_t *marked, size_t marked_len,
+                          const uint32_t *sizes, size_t sizes_len, const uint64_t *sent, size_t sent_len,
+                          const uint64_t *evs, size_t evs_len, size_t flow, uint32_t psn);
 
 /* The words of a place in a log, all 0 at its start. */
 enum nscc_place {
@@ -235,18 +272,20 @@ enum nscc_place {
  * Replays a log's bytes from a place on, until the answers' room is full, the log ends or replay
  * stops; call again, with room for at least one answer, until NSCC_PLACE_ANSWERED is 0. Answers 0,
  * or 2 with nothing changed: a wrong length of place or state, NSCC_PLACE_STOPPED over 1, more
- * records done than NSCC_PLACE_AT, or a state and buffers that don't hold together. An answer is
- * the record's number of refusal in its low 32 bits, and above them the EV of an accepted path
+ * records done than NSCC_PLACE_AT, or a state, flows and buffers that don't hold together. An answer
+ * is the record's number of refusal in its low 32 bits, and above them the EV of an accepted path
  * choice, or what the sample of an accepted ACK or NACK is (nscc_sample), and 0 for every other
- * record; the room behind the answers given is left as it was. The first record sets the context
- * up: the state's words are looked at only between an accepted settings record and a stop. Settings
- * whose EV count is not the number of times lent are refused with 2, which is that record's answer
- * and stops the replay. A first record that is refused with 1 or 2 leaves the words of a state of
- * zeros.
+ * record; the room behind the answers given is left as it was. A record that names no flow is of
+ * flow 0. The first record sets the context up: the words of state and table are looked at only
+ * between an accepted settings record and a stop. Settings whose EV count is not the number of times
+ * lent are refused with 2, and so are any where the lengths of table and ring buffer are wrong; that
+ * is the record's answer and stops the replay. A first record that is refused with 1 or 2 leaves the
+ * words of a state of zeros, and the table as it was.
  */
-uint32_t nscc_replay(uint64_t *place, size_t place_len, uint64_t *state, size_t state_len, uint64_t *outstanding, size_t outstanding_len,
-                     uint64_t *marked, size_t marked_len, uint32_t *sizes, size_t sizes_len, uint64_t *sent, size_t sent_len,
-                     uint64_t *evs, size_t evs_len, const uint8_t *log, size_t log_len, uint64_t *answers, size_t answers_len);
+uint32_t nscc_replay(uint64_t *place, size_t place_len, uint64_t *state, size_t state_len, uint64_t *flows, size_t flows_len,
+                     uint64_t *outstanding, size_t outstanding_len, uint64_t *marked, size_t marked_len, uint32_t *sizes, size_t sizes_len,
+                     uint64_t *sent, size_t sent_len, uint64_t *evs, size_t evs_len, const uint8_t *log, size_t log_len,
+                     uint64_t *answers, size_t answers_len);
 
 /* The words of a log that comes in chunks, all 0 at its start. */
 enum nscc_part {
@@ -267,8 +306,8 @@ enum nscc_part {
  * the piece's bytes, then the chunk's. ended says that the log has ended with this chunk; a chunk
  * of no bytes may say so by itself. The answers of all calls are those of nscc_replay on the joined
  * log. Answers 0, 2 or 28, the latter two with nothing changed:
- *   - 2: a wrong length of part, piece or state, a word of part that is not as above, or a state
- *     and buffers that don't hold together;
+ *   - 2: a wrong length of part, piece or state, a word of part that is not as above, or a state,
+ *     flows and buffers that don't hold together;
  *   - else 0 where replay has stopped: the whole chunk is taken, and nothing changes but
  *     NSCC_PART_ANSWERED and NSCC_PART_TAKEN;
  *   - else 28: NSCC_PART_AT, the piece and the chunk have 2^48 bytes or more. No byte is taken, and
@@ -279,13 +318,13 @@ enum nscc_part {
  * is full, no byte is taken that no answer needed: hand in the rest of the chunk again, with room
  * for at least one answer. Else the whole chunk is taken, and what is left of it stays in the
  * piece; nothing where replay has stopped. The piece's room behind what it holds is then zeros. The
- * room behind the answers given is left as it was. The state's words are looked at and written as
- * by nscc_replay.
+ * room behind the answers given is left as it was. The words of state and table are looked at and
+ * written as by nscc_replay.
  */
 uint32_t nscc_chunk(uint64_t *part, size_t part_len, uint8_t *piece, size_t piece_len, uint64_t *state, size_t state_len,
-                    uint64_t *outstanding, size_t outstanding_len, uint64_t *marked, size_t marked_len, uint32_t *sizes, size_t sizes_len,
-                    uint64_t *sent, size_t sent_len, uint64_t *evs, size_t evs_len, const uint8_t *chunk, size_t chunk_len, bool ended,
-                    uint64_t *answers, size_t answers_len);
+                    uint64_t *flows, size_t flows_len, uint64_t *outstanding, size_t outstanding_len, uint64_t *marked, size_t marked_len,
+                    uint32_t *sizes, size_t sizes_len, uint64_t *sent, size_t sent_len, uint64_t *evs, size_t evs_len,
+                    const uint8_t *chunk, size_t chunk_len, bool ended, uint64_t *answers, size_t answers_len);
 
 #ifdef __cplusplus
 }

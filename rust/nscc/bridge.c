@@ -1,7 +1,7 @@
 /*
  * Calls the library for a caller on another processor, under an emulator.
  *
- * A request on standard input: the function's number, nine arguments, the lengths of ten arrays, then the arrays. The answer on standard output: what the
+ * A request on standard input: the function's number, ten arguments, the lengths of eleven arrays, then the arrays. The answer on standard output: what the
  * function answered, whether memory beside the arrays is untouched, then the arrays again but for the log. Numbers have 64 bits, the least significant byte first.
  */
 #include "nscc.h"
@@ -13,11 +13,11 @@
 enum function { SET_UP, NEW_DATA, SEND, ACK, NACK, LOSS, PATH, REPLAY, CHUNK, STATUS, NEXT_MARKED };
 
 /* First are the settings of setting up, the place of a replay, or the part of a log in chunks; the log may be a chunk of one. */
-enum array { FIRST, STATE, OUTSTANDING, MARKED, SIZES, SENT, EVS, ANSWERS, PIECE, LOG, ARRAYS };
+enum array { FIRST, STATE, FLOWS, OUTSTANDING, MARKED, SIZES, SENT, EVS, ANSWERS, PIECE, LOG, ARRAYS };
 
-enum { ARGUMENTS = 9, FENCE = 64, ODD = 0xa5 };
+enum { ARGUMENTS = 10, FENCE = 64, ODD = 0xa5 };
 
-static const size_t width[ARRAYS] = {8, 8, 8, 8, 4, 8, 8, 8, 1, 1};
+static const size_t width[ARRAYS] = {8, 8, 8, 8, 8, 4, 8, 8, 8, 1, 1};
 
 struct request {
     uint64_t function;
@@ -64,7 +64,7 @@ static bool whole(size_t array, size_t bytes)
 }
 
 #define LENT(array) (void *)(fenced[array] + FENCE), n[array]
-#define CONTEXT LENT(STATE), LENT(OUTSTANDING), LENT(MARKED), LENT(SIZES), LENT(SENT), LENT(EVS)
+#define CONTEXT LENT(STATE), LENT(FLOWS), LENT(OUTSTANDING), LENT(MARKED), LENT(SIZES), LENT(SENT), LENT(EVS)
 
 static uint64_t call(const struct request *request)
 {
@@ -73,25 +73,25 @@ static uint64_t call(const struct request *request)
     case SET_UP:
         return nscc_set_up(LENT(FIRST), a[0], a[1], a[2], CONTEXT);
     case NEW_DATA:
-        return nscc_new_data(CONTEXT, a[0], a[1]);
+        return nscc_new_data(CONTEXT, a[0], a[1], a[2]);
     case SEND:
-        return nscc_send(CONTEXT, a[0], a[1], a[2], a[3]);
+        return nscc_send(CONTEXT, a[0], a[1], a[2], a[3], a[4]);
     case ACK:
-        return nscc_ack(CONTEXT, a[0], a[1], a[2], a[3], a[4], a[5], a[6], a[7], a[8]);
+        return nscc_ack(CONTEXT, a[0], a[1], a[2], a[3], a[4], a[5], a[6], a[7], a[8], a[9]);
     case NACK:
-        return nscc_nack(CONTEXT, a[0], a[1], a[2], a[3], a[4], a[5]);
+        return nscc_nack(CONTEXT, a[0], a[1], a[2], a[3], a[4], a[5], a[6]);
     case LOSS:
-        return nscc_loss(CONTEXT, a[0], a[1], a[2]);
+        return nscc_loss(CONTEXT, a[0], a[1], a[2], a[3]);
     case PATH:
-        return nscc_path(CONTEXT, a[0]);
+        return nscc_path(CONTEXT, a[0], a[1]);
     case REPLAY:
         return nscc_replay(LENT(FIRST), CONTEXT, LENT(LOG), LENT(ANSWERS));
     case CHUNK:
         return nscc_chunk(LENT(FIRST), LENT(PIECE), CONTEXT, LENT(LOG), a[0], LENT(ANSWERS));
     case STATUS:
-        return nscc_status(CONTEXT, a[0]);
+        return nscc_status(CONTEXT, a[0], a[1]);
     case NEXT_MARKED:
-        return nscc_next_marked(CONTEXT, a[0]);
+        return nscc_next_marked(CONTEXT, a[0], a[1]);
     default:
         exit(1);
     }

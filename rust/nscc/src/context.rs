@@ -4,16 +4,20 @@ use crate::refusal::{answer, Refusal};
 use crate::sample::{sampled, Sample};
 use crate::status::Status;
 use crate::word::{
-    PartWord, Phase, PlaceWord, Word, EVS_MAX, EVS_MIN, IN_FLIGHT_ADDED, PART, PIECE, PLACE, WORDS,
+    FlowWord, PartWord, Phase, PlaceWord, Word, EVS_MAX, EVS_MIN, FLOW_WORDS, IN_FLIGHT_ADDED,
+    PART, PIECE, PLACE, WORDS,
 };
 
-/// One congestion control context with its memory: the state's words, the ring and the EV times.
+/// One congestion control context with its memory: the state's words, the table of its flows, the
+/// ring buffer with a ring for each of them, and the EV times.
 ///
 /// The memory stands open: the library answers for whatever is put in it, with `Unsound` where it
 /// does not hold together.
 #[derive(Clone, Debug, PartialEq, Eq)]
 pub struct Context {
     pub words: Vec<u64>,
+    /// [`FLOW_WORDS`] for each flow.
+    pub flows: Vec<u64>,
     /// A bit a slot, bit i % 64 of word i / 64: the packet flies or is marked.
     pub outstanding: Vec<u64>,
     /// A bit a slot.
@@ -74,28 +78,31 @@ impl Part {
 }
 
 impl Context {
-    /// Memory of zeros, to be set up by a log's first record that asks for 256 EVs.
-    pub fn empty(capacity: usize) -> Context {
-        Context::with_evs(capacity, EVS_MIN as usize)
+    /// Memory of zeros for so many flows, each with a ring of so many slots, to be set up by a log's
+    /// first record that asks for 256 EVs.
+    pub fn empty(flows: usize, capacity: usize) -> Context {
+        Context::with_evs(flows, capacity, EVS_MIN as usize)
     }
 
     /// Memory of zeros for a log that asks for so many EVs.
-    pub fn with_evs(capacity: usize, evs: usize) -> Context {
+    pub fn with_evs(flows: usize, capacity: usize, evs: usize) -> Context {
+        let slots = flows * capacity;
         Context {
             words: vec![0; WORDS],
-            outstanding: vec![0; capacity / 64],
-            marked: vec![0; capacity / 64],
-            sizes: vec![0; capacity],
-            sent: vec![0; capacity],
+            flows: vec![0; flows * FLOW_WORDS],
+            outstanding: vec![0; slots / 64],
+            marked: vec![0; slots / 64],
+            sizes: vec![0; slots],
+            sent: vec![0; slots],
             evs: vec![0; evs],
         }
     }
 
-    /// The capacity of the ring is a power of two, 64..4,096.
-    pub fn set_up(settings: &Settings, capacity: usize) -> Result<Context, Refusal> {
+    /// One to eight flows. The capacity of each flow's ring is a power of two, 64..4,096.
+    pub fn set_up(settings: &Settings, flows: usize, capacity: usize) -> Result<Context, Refusal> {
         // A count that is not allowed is refused, whatever is lent.
         let evs = settings.ev_count.min(EVS_MAX) as usize;
-        let mut context = Context::with_evs(capacity, evs);
+        let mut context = Context::with_evs(flows, capacity, evs);
         let number = context.lend().set_up(
             &settings.numbers(),
             settings.first_psn,
@@ -109,6 +116,7 @@ impl Context {
     pub fn lend(&mut self) -> Lent<'_> {
         Lent {
             words: &mut self.words,
+            flows: &mut self.flows,
             outstanding: &mut self.outstanding,
             marked: &mut self.marked,
             sizes: &mut self.sizes,
@@ -121,6 +129,7 @@ impl Context {
     pub fn show(&self) -> Shown<'_> {
         Shown {
             words: &self.words,
+            flows: &self.flows,
             outstanding: &self.outstanding,
             marked: &self.marked,
             sizes: &self.sizes,
@@ -129,12 +138,19 @@ impl Context {
         }
     }
 
-    pub fn new_data(&mut self, time: u64, bytes: u64) -> Result<(), Refusal> {
-        accepted(self.lend().new_data(time, bytes))
+    pub fn new_data(&mut self, time: u64, flow: usize, bytes: u64) -> Result<(), Refusal> {
+        accepted(self.lend().new_data(time, flow, bytes))
     }
 
-    pub fn send(&mut self, time: u64, psn: u32, bytes: u32, resend: bool) -> Result<(), Refusal> {
-        accepted(self.lend().send(time, psn, bytes, resend))
+    pub fn send(
+        &mut self,
+        time: u64,
+        flow: usize,
+        psn: u32,
+        bytes: u32,
+        resend: bool,
+    ) -> Result<(), Refusal> {
+        accepted(self.lend().send(time, flow, psn, bytes, resend))
     }
 
     /// What the trigger's sample is.
@@ -147,26 +163,26 @@ impl Context {
         sampled(self.lend().nack(nack))
     }
 
-    pub fn loss(&mut self, time: u64, psn: u32, ev: u32) -> Result<(), Refusal> {
-        accepted(self.lend().loss(time, psn, ev))
+    pub fn loss(&mut self, time: u64, flow: usize, psn: u32, ev: u32) -> Result<(), Refusal> {
+        accepted(self.lend().loss(time, flow, psn, ev))
     }
 
-    /// The EV of the next path.
-    pub fn path(&mut self, time: u64) -> Result<u32, Refusal> {
-        answer(self.lend().path(time))
+    /// The EV of the next path, which is the same for every flow.
+    pub fn path(&mut self, time: u64, flow: usize) -> Result<u32, Refusal> {
+        answer(self.lend().path(time, flow))
     }
 
-    /// What the ring shows of a packet; `None` where its PSN is not one of low..next-1.
-    pub fn status(&self, psn: u32) -> Result<Option<Status>, Refusal> {
-        answer(self.show().status(psn)).map(Status::of)
+    /// What a flow's ring shows of a packet; `None` where its PSN is not one of low..next-1.
+    pub fn status(&self, flow: usize, psn: u32) -> Result<Option<Status>, Refusal> {
+        answer(self.show().status(flow, psn)).map(Status::of)
     }
 
-    /// The first marked packet from `psn` on; `None` where no packet from there up to next-1 is
+    /// A flow's first marked packet from `psn` on; `None` where no packet from there up to next-1 is
     /// marked, or `psn` is not one of low..next-1.
-    pub fn next_marked(&self, psn: u32) -> Result<Option<u32>, Refusal> {
-        let first = answer(self.show().next_marked(psn))?;
+    pub fn next_marked(&self, flow: usize, psn: u32) -> Result<Option<u32>, Refusal> {
+        let first = answer(self.show().next_marked(flow, psn))?;
         // The library then answers with next.
-        let none = u64::from(first) == self.word(Word::Next);
+        let none = u64::from(first) == self.flow_word(flow, FlowWord::Next);
         Ok((!none).then_some(first))
     }
 
@@ -200,6 +216,11 @@ impl Context {
     /// A word of the state, which must have all its words.
     pub fn word(&self, word: Word) -> u64 {
         self.words[word as usize]
+    }
+
+    /// A word of a flow, which the table must have.
+    pub fn flow_word(&self, flow: usize, word: FlowWord) -> u64 {
+        self.flows[flow * FLOW_WORDS + word as usize]
     }
 
     pub fn in_flight(&self) -> i64 {

@@ -43,6 +43,7 @@ impl Settings {
 #[derive(Clone, Copy, Debug, PartialEq, Eq)]
 pub struct Ack {
     pub time: u64,
+    pub flow: usize,
     /// Covers every PSN up to and including this one.
     pub cum: u32,
     /// Bit i covers cum + 1 + i.
@@ -59,6 +60,7 @@ pub struct Ack {
 #[derive(Clone, Copy, Debug, PartialEq, Eq)]
 pub struct Nack {
     pub time: u64,
+    pub flow: usize,
     pub psn: u32,
     pub ev: u32,
     /// 0 trimmed, 1 trimmed at the last hop, 2 other.

@@ -1,6 +1,6 @@
 //! A safe wrapper of the proved C library: see `include/nscc.h`.
 //!
-//! A [`Context`] owns one context's memory and answers every event. [`raw`] has the C functions over
+//! A [`Context`] owns one context's memory and answers every event of its flows. [`raw`] has the C functions over
 //! slices, for those who keep the memory themselves: any lengths and any contents may be handed in.
 
 mod context;
@@ -17,6 +17,6 @@ pub use refusal::{answer, Refusal};
 pub use sample::{sampled, Sample};
 pub use status::Status;
 pub use word::{
-    PartWord, Phase, PlaceWord, Word, EVS_MAX, EVS_MIN, IN_FLIGHT_ADDED, PART, PIECE, PLACE,
-    SETTINGS, WORDS,
+    FlowWord, PartWord, Phase, PlaceWord, Word, EVS_MAX, EVS_MIN, FLOWS_MAX, FLOW_WORDS,
+    IN_FLIGHT_ADDED, PART, PIECE, PLACE, SETTINGS, WORDS,
 };

@@ -21,6 +21,7 @@ pub enum Refusal {
     Reason = 22,
     Ev = 23,
     Trigger = 24,
+    Flow = 25,
     LogTooLong = 28,
 }
 
@@ -30,7 +31,7 @@ impl Refusal {
     }
 
     pub fn of(number: u32) -> Option<Refusal> {
-        const ALL: [Refusal; 18] = [
+        const ALL: [Refusal; 19] = [
             Refusal::Setting,
             Refusal::Unsound,
             Refusal::Time,
@@ -48,6 +49,7 @@ impl Refusal {
             Refusal::Reason,
             Refusal::Ev,
             Refusal::Trigger,
+            Refusal::Flow,
             Refusal::LogTooLong,
         ];
         ALL.into_iter().find(|refusal| refusal.number() == number)
@@ -58,22 +60,23 @@ impl fmt::Display for Refusal {
     fn fmt(&self, f: &mut fmt::Formatter) -> fmt::Result {
         let why = match self {
             Refusal::Setting => "a setting is outside its range",
-            Refusal::Unsound => "state or buffers don't hold together",
+            Refusal::Unsound => "state, flows or buffers don't hold together",
             Refusal::Time => "time before the held clock, or 2^48 or more",
             Refusal::Size => "a packet's size is outside 41..MTU",
-            Refusal::Backlog => "a new packet larger than the backlog",
+            Refusal::Backlog => "a new packet larger than its flow's backlog",
             Refusal::WindowFull => "in-flight + MTU is over the window",
-            Refusal::RingFull => "no slot for a new packet",
+            Refusal::RingFull => "no slot for a new packet in its flow's ring",
             Refusal::WrongPsn => "a PSN that is not next or not marked, or another size",
             Refusal::UnsentOrOld => "an ACK names an unsent packet, or is too old",
             Refusal::NotFlying => "the packet does not fly",
             Refusal::Sinks => "in-flight would fall below -2^24",
             Refusal::Malformed => "a log record is malformed",
-            Refusal::Bytes => "new data of 0 bytes, or a backlog over 2^40",
+            Refusal::Bytes => "new data of 0 bytes, or a flow's backlog over 2^40",
             Refusal::Count => "a received count of 2^24 or more",
             Refusal::Reason => "a NACK's reason over 2",
             Refusal::Ev => "an EV that is not below the EV count",
             Refusal::Trigger => "an ACK does not cover its trigger",
+            Refusal::Flow => "a flow that the table does not have",
             Refusal::LogTooLong => "a log would have 2^48 bytes or more",
         };
         write!(f, "{}: {why}", self.number())

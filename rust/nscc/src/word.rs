@@ -1,6 +1,6 @@
 //! The words of `include/nscc.h`, in its order.
 
-/// A word of the state. `word as usize` is its place.
+/// A word of the state, which is over all flows. `word as usize` is its place.
 #[derive(Clone, Copy, Debug, PartialEq, Eq)]
 pub enum Word {
     Mtu,
@@ -17,9 +17,7 @@ pub enum Word {
     QaThreshold,
     FirstPsn,
     QuickAdaptOff,
-    Low,
-    Next,
-    Held,
+    /// The sum of the flows' backlogs.
     Backlog,
     Flying,
     Marked,
@@ -66,9 +64,6 @@ impl Word {
         Word::QaThreshold,
         Word::FirstPsn,
         Word::QuickAdaptOff,
-        Word::Low,
-        Word::Next,
-        Word::Held,
         Word::Backlog,
         Word::Flying,
         Word::Marked,
@@ -92,6 +87,27 @@ impl Word {
         Word::Cursor,
         Word::Phase,
         Word::EvCount,
+    ];
+}
+
+/// A word of a flow. `word as usize` is its place among the flow's words.
+#[derive(Clone, Copy, Debug, PartialEq, Eq)]
+pub enum FlowWord {
+    /// The oldest PSN that is not done.
+    Low,
+    /// The PSN of the next new packet.
+    Next,
+    /// The received count.
+    Held,
+    Backlog,
+}
+
+impl FlowWord {
+    pub const ALL: [FlowWord; FLOW_WORDS] = [
+        FlowWord::Low,
+        FlowWord::Next,
+        FlowWord::Held,
+        FlowWord::Backlog,
     ];
 }
 
@@ -140,7 +156,11 @@ impl Phase {
 /// How many settings there are.
 pub const SETTINGS: usize = 12;
 /// How many words a state has.
-pub const WORDS: usize = 40;
+pub const WORDS: usize = 37;
+/// How many words a flow has in the table.
+pub const FLOW_WORDS: usize = 4;
+/// The greatest number of flows. The least is one.
+pub const FLOWS_MAX: usize = 8;
 /// How many words a place has.
 pub const PLACE: usize = 4;
 /// How many words a log that comes in chunks has.

@@ -1,8 +1,8 @@
 //! The names and numbers of the wrapper are those of `include/nscc.h`.
 
 use nscc::{
-    PartWord, PlaceWord, Refusal, Sample, Status, Word, EVS_MAX, EVS_MIN, IN_FLIGHT_ADDED, PART,
-    PIECE, PLACE, SETTINGS, WORDS,
+    FlowWord, PartWord, PlaceWord, Refusal, Sample, Status, Word, EVS_MAX, EVS_MIN, FLOWS_MAX,
+    FLOW_WORDS, IN_FLIGHT_ADDED, PART, PIECE, PLACE, SETTINGS, WORDS,
 };
 use std::fmt::Debug;
 
@@ -53,6 +53,17 @@ fn words() {
 }
 
 #[test]
+fn flow() {
+    let mut header = names("nscc_flow", "NSCC_FLOW_");
+    assert_eq!(header.pop().expect("the last").0, "WORDS");
+    assert_eq!(header.len(), FLOW_WORDS);
+    same_order(&header, &FlowWord::ALL);
+    for (i, word) in FlowWord::ALL.into_iter().enumerate() {
+        assert_eq!(word as usize, i);
+    }
+}
+
+#[test]
 fn place() {
     let mut header = names("nscc_place", "NSCC_PLACE_");
     assert_eq!(header.pop().expect("the last").0, "WORDS");
@@ -85,7 +96,7 @@ fn part() {
 #[test]
 fn refusals() {
     let header = names("nscc_refusal", "NSCC_");
-    assert_eq!(header.len(), 19);
+    assert_eq!(header.len(), 20);
     assert_eq!(header[0], ("ACCEPTED".to_string(), Some(0)));
     for (name, number) in &header[1..] {
         let refusal = number.and_then(Refusal::of).expect("a refusal");
@@ -129,6 +140,7 @@ fn version() {
 fn numbers() {
     assert!(HEADER.contains(&format!("#define NSCC_EVS_MIN {EVS_MIN}\n")));
     assert!(HEADER.contains(&format!("#define NSCC_EVS_MAX {EVS_MAX}\n")));
+    assert!(HEADER.contains(&format!("#define NSCC_FLOWS_MAX {FLOWS_MAX}\n")));
     assert!(HEADER.contains(&format!("#define NSCC_PIECE_BYTES {PIECE}\n")));
     let added = format!("#define NSCC_IN_FLIGHT_ADDED {IN_FLIGHT_ADDED}\n");
     assert!(HEADER.contains(&added));

@@ -23,7 +23,7 @@ enum Function {
     NextMarked,
 }
 
-const ARGUMENTS: usize = 9;
+const ARGUMENTS: usize = 10;
 
 /// What is lent beside a context: settings, a place or a part, a piece, a log or a chunk of one, room
 /// for answers.
@@ -51,12 +51,12 @@ impl Lent<'_> {
         self.ask(Function::SetUp, &arguments, beside) as u32
     }
 
-    pub fn new_data(&mut self, time: u64, bytes: u64) -> u32 {
-        self.event(Function::NewData, &[time, bytes]) as u32
+    pub fn new_data(&mut self, time: u64, flow: usize, bytes: u64) -> u32 {
+        self.event(Function::NewData, &[time, flow as u64, bytes]) as u32
     }
 
-    pub fn send(&mut self, time: u64, psn: u32, bytes: u32, resend: bool) -> u32 {
-        let arguments = [time, psn.into(), bytes.into(), resend.into()];
+    pub fn send(&mut self, time: u64, flow: usize, psn: u32, bytes: u32, resend: bool) -> u32 {
+        let arguments = [time, flow as u64, psn.into(), bytes.into(), resend.into()];
         self.event(Function::Send, &arguments) as u32
     }
 
@@ -64,6 +64,7 @@ impl Lent<'_> {
     pub fn ack(&mut self, ack: &Ack) -> u64 {
         let arguments = [
             ack.time,
+            ack.flow as u64,
             ack.cum.into(),
             ack.map,
             ack.trigger.into(),
@@ -80,6 +81,7 @@ impl Lent<'_> {
     pub fn nack(&mut self, nack: &Nack) -> u64 {
         let arguments = [
             nack.time,
+            nack.flow as u64,
             nack.psn.into(),
             nack.ev.into(),
             nack.reason.into(),
@@ -89,13 +91,14 @@ impl Lent<'_> {
         self.event(Function::Nack, &arguments)
     }
 
-    pub fn loss(&mut self, time: u64, psn: u32, ev: u32) -> u32 {
-        self.event(Function::Loss, &[time, psn.into(), ev.into()]) as u32
+    pub fn loss(&mut self, time: u64, flow: usize, psn: u32, ev: u32) -> u32 {
+        let arguments = [time, flow as u64, psn.into(), ev.into()];
+        self.event(Function::Loss, &arguments) as u32
     }
 
     /// The number in the low 32 bits, and where it is 0 the EV above them.
-    pub fn path(&mut self, time: u64) -> u64 {
-        self.event(Function::Path, &[time])
+    pub fn path(&mut self, time: u64, flow: usize) -> u64 {
+        self.event(Function::Path, &[time, flow as u64])
     }
 
     pub fn replay(&mut self, place: &mut [u64], log: &[u8], answers: &mut [u64]) -> u32 {
@@ -145,29 +148,31 @@ impl Lent<'_> {
 
 impl Shown<'_> {
     /// The number in the low 32 bits, and where it is 0 the status above them.
-    pub fn status(&self, psn: u32) -> u64 {
-        self.read(Function::Status, psn)
+    pub fn status(&self, flow: usize, psn: u32) -> u64 {
+        self.read(Function::Status, flow, psn)
     }
 
     /// The number in the low 32 bits, and where it is 0 the PSN above them.
-    pub fn next_marked(&self, psn: u32) -> u64 {
-        self.read(Function::NextMarked, psn)
+    pub fn next_marked(&self, flow: usize, psn: u32) -> u64 {
+        self.read(Function::NextMarked, flow, psn)
     }
 
     /// A copy goes over the bridge, and must come back as it was.
-    fn read(&self, function: Function, psn: u32) -> u64 {
+    fn read(&self, function: Function, flow: usize, psn: u32) -> u64 {
         let (words, evs) = (&mut self.words.to_vec(), &mut self.evs.to_vec());
+        let flows = &mut self.flows.to_vec();
         let (outstanding, marked) = (&mut self.outstanding.to_vec(), &mut self.marked.to_vec());
         let (sizes, sent) = (&mut self.sizes.to_vec(), &mut self.sent.to_vec());
         let mut lent = Lent {
             words,
+            flows,
             outstanding,
             marked,
             sizes,
             sent,
             evs,
         };
-        let answer = lent.event(function, &[psn.into()]);
+        let answer = lent.event(function, &[flow as u64, psn.into()]);
         assert_eq!(lent.show(), *self, "memory that is only read was written");
         answer
     }
@@ -217,6 +222,7 @@ impl Bridge {
         let lengths = [
             beside.first.len(),
             lent.words.len(),
+            lent.flows.len(),
             lent.outstanding.len(),
             lent.marked.len(),
             lent.sizes.len(),
@@ -229,6 +235,7 @@ impl Bridge {
         put_u64s(&mut self.to, &lengths.map(|length| length as u64))?;
         put_u64s(&mut self.to, beside.first)?;
         put_u64s(&mut self.to, lent.words)?;
+        put_u64s(&mut self.to, lent.flows)?;
         put_u64s(&mut self.to, lent.outstanding)?;
         put_u64s(&mut self.to, lent.marked)?;
         put_u32s(&mut self.to, lent.sizes)?;
@@ -245,6 +252,7 @@ impl Bridge {
         get_u64s(&mut self.from, &mut answer)?;
         get_u64s(&mut self.from, beside.first)?;
         get_u64s(&mut self.from, lent.words)?;
+        get_u64s(&mut self.from, lent.flows)?;
         get_u64s(&mut self.from, lent.outstanding)?;
         get_u64s(&mut self.from, lent.marked)?;
         get_u32s(&mut self.from, lent.sizes)?;

@@ -18,6 +18,8 @@ mod c {
             ev_count: u32,
             state: *mut u64,
             state_len: usize,
+            flows: *mut u64,
+            flows_len: usize,
             outstanding: *mut u64,
             outstanding_len: usize,
             marked: *mut u64,
@@ -33,6 +35,8 @@ mod c {
         pub fn nscc_new_data(
             state: *mut u64,
             state_len: usize,
+            flows: *mut u64,
+            flows_len: usize,
             outstanding: *const u64,
             outstanding_len: usize,
             marked: *const u64,
@@ -44,12 +48,15 @@ mod c {
             evs: *const u64,
             evs_len: usize,
             time: u64,
+            flow: usize,
             bytes: u64,
         ) -> u32;
 
         pub fn nscc_send(
             state: *mut u64,
             state_len: usize,
+            flows: *mut u64,
+            flows_len: usize,
             outstanding: *mut u64,
             outstanding_len: usize,
             marked: *mut u64,
@@ -61,6 +68,7 @@ mod c {
             evs: *const u64,
             evs_len: usize,
             time: u64,
+            flow: usize,
             psn: u32,
             bytes: u32,
             resend: bool,
@@ -69,6 +77,8 @@ mod c {
         pub fn nscc_ack(
             state: *mut u64,
             state_len: usize,
+            flows: *mut u64,
+            flows_len: usize,
             outstanding: *mut u64,
             outstanding_len: usize,
             marked: *mut u64,
@@ -80,6 +90,7 @@ mod c {
             evs: *mut u64,
             evs_len: usize,
             time: u64,
+            flow: usize,
             cum: u32,
             map: u64,
             trigger: u32,
@@ -93,6 +104,8 @@ mod c {
         pub fn nscc_nack(
             state: *mut u64,
             state_len: usize,
+            flows: *mut u64,
+            flows_len: usize,
             outstanding: *const u64,
             outstanding_len: usize,
             marked: *mut u64,
@@ -104,6 +117,7 @@ mod c {
             evs: *mut u64,
             evs_len: usize,
             time: u64,
+            flow: usize,
             psn: u32,
             ev: u32,
             reason: u32,
@@ -114,6 +128,8 @@ mod c {
         pub fn nscc_loss(
             state: *mut u64,
             state_len: usize,
+            flows: *mut u64,
+            flows_len: usize,
             outstanding: *const u64,
             outstanding_len: usize,
             marked: *mut u64,
@@ -125,6 +141,7 @@ mod c {
             evs: *mut u64,
             evs_len: usize,
             time: u64,
+            flow: usize,
             psn: u32,
             ev: u32,
         ) -> u32;
@@ -132,6 +149,8 @@ mod c {
         pub fn nscc_path(
             state: *mut u64,
             state_len: usize,
+            flows: *const u64,
+            flows_len: usize,
             outstanding: *const u64,
             outstanding_len: usize,
             marked: *const u64,
@@ -143,6 +162,7 @@ mod c {
             evs: *const u64,
             evs_len: usize,
             time: u64,
+            flow: usize,
         ) -> u64;
 
         pub fn nscc_replay(
@@ -150,6 +170,8 @@ mod c {
             place_len: usize,
             state: *mut u64,
             state_len: usize,
+            flows: *mut u64,
+            flows_len: usize,
             outstanding: *mut u64,
             outstanding_len: usize,
             marked: *mut u64,
@@ -173,6 +195,8 @@ mod c {
             piece_len: usize,
             state: *mut u64,
             state_len: usize,
+            flows: *mut u64,
+            flows_len: usize,
             outstanding: *mut u64,
             outstanding_len: usize,
             marked: *mut u64,
@@ -193,6 +217,8 @@ mod c {
         pub fn nscc_status(
             state: *const u64,
             state_len: usize,
+            flows: *const u64,
+            flows_len: usize,
             outstanding: *const u64,
             outstanding_len: usize,
             marked: *const u64,
@@ -203,12 +229,15 @@ mod c {
             sent_len: usize,
             evs: *const u64,
             evs_len: usize,
+            flow: usize,
             psn: u32,
         ) -> u64;
 
         pub fn nscc_next_marked(
             state: *const u64,
             state_len: usize,
+            flows: *const u64,
+            flows_len: usize,
             outstanding: *const u64,
             outstanding_len: usize,
             marked: *const u64,
@@ -219,6 +248,7 @@ mod c {
             sent_len: usize,
             evs: *const u64,
             evs_len: usize,
+            flow: usize,
             psn: u32,
         ) -> u64;
     }
@@ -233,6 +263,8 @@ macro_rules! call {
                 $($before,)*
                 $lent.words.as_mut_ptr(),
                 $lent.words.len(),
+                $lent.flows.as_mut_ptr(),
+                $lent.flows.len(),
                 $lent.outstanding.as_mut_ptr(),
                 $lent.outstanding.len(),
                 $lent.marked.as_mut_ptr(),
@@ -249,14 +281,16 @@ macro_rules! call {
     };
 }
 
-/// Calls a C function that only reads, of a PSN.
+/// Calls a C function that only reads, of a flow's PSN.
 macro_rules! read {
-    ($function:ident, $shown:expr, $psn:expr) => {
+    ($function:ident, $shown:expr, $flow:expr, $psn:expr) => {
         // SAFETY: the pointers and lengths are those of slices, and nothing is written.
         unsafe {
             c::$function(
                 $shown.words.as_ptr(),
                 $shown.words.len(),
+                $shown.flows.as_ptr(),
+                $shown.flows.len(),
                 $shown.outstanding.as_ptr(),
                 $shown.outstanding.len(),
                 $shown.marked.as_ptr(),
@@ -267,6 +301,7 @@ macro_rules! read {
                 $shown.sent.len(),
                 $shown.evs.as_ptr(),
                 $shown.evs.len(),
+                $flow,
                 $psn,
             )
         }
@@ -275,13 +310,13 @@ macro_rules! read {
 
 impl Shown<'_> {
     /// The number in the low 32 bits, and where it is 0 the status above them.
-    pub fn status(&self, psn: u32) -> u64 {
-        read!(nscc_status, self, psn)
+    pub fn status(&self, flow: usize, psn: u32) -> u64 {
+        read!(nscc_status, self, flow, psn)
     }
 
     /// The number in the low 32 bits, and where it is 0 the PSN above them.
-    pub fn next_marked(&self, psn: u32) -> u64 {
-        read!(nscc_next_marked, self, psn)
+    pub fn next_marked(&self, flow: usize, psn: u32) -> u64 {
+        read!(nscc_next_marked, self, flow, psn)
     }
 }
 
@@ -302,12 +337,12 @@ impl Lent<'_> {
         )
     }
 
-    pub fn new_data(&mut self, time: u64, bytes: u64) -> u32 {
-        call!(nscc_new_data, [], self, [time, bytes])
+    pub fn new_data(&mut self, time: u64, flow: usize, bytes: u64) -> u32 {
+        call!(nscc_new_data, [], self, [time, flow, bytes])
     }
 
-    pub fn send(&mut self, time: u64, psn: u32, bytes: u32, resend: bool) -> u32 {
-        call!(nscc_send, [], self, [time, psn, bytes, resend])
+    pub fn send(&mut self, time: u64, flow: usize, psn: u32, bytes: u32, resend: bool) -> u32 {
+        call!(nscc_send, [], self, [time, flow, psn, bytes, resend])
     }
 
     /// The number in the low 32 bits, and where it is 0 the sample's above them.
@@ -318,6 +353,7 @@ impl Lent<'_> {
             self,
             [
                 ack.time,
+                ack.flow,
                 ack.cum,
                 ack.map,
                 ack.trigger,
@@ -338,6 +374,7 @@ impl Lent<'_> {
             self,
             [
                 nack.time,
+                nack.flow,
                 nack.psn,
                 nack.ev,
                 nack.reason,
@@ -347,13 +384,13 @@ impl Lent<'_> {
         )
     }
 
-    pub fn loss(&mut self, time: u64, psn: u32, ev: u32) -> u32 {
-        call!(nscc_loss, [], self, [time, psn, ev])
+    pub fn loss(&mut self, time: u64, flow: usize, psn: u32, ev: u32) -> u32 {
+        call!(nscc_loss, [], self, [time, flow, psn, ev])
     }
 
     /// The number in the low 32 bits, and where it is 0 the EV above them.
-    pub fn path(&mut self, time: u64) -> u64 {
-        call!(nscc_path, [], self, [time])
+    pub fn path(&mut self, time: u64, flow: usize) -> u64 {
+        call!(nscc_path, [], self, [time, flow])
     }
 
     pub fn replay(&mut self, place: &mut [u64], log: &[u8], answers: &mut [u64]) -> u32 {

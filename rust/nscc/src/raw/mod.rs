@@ -9,6 +9,7 @@ mod linked;
 #[derive(Debug)]
 pub struct Lent<'a> {
     pub words: &'a mut [u64],
+    pub flows: &'a mut [u64],
     pub outstanding: &'a mut [u64],
     pub marked: &'a mut [u64],
     pub sizes: &'a mut [u32],
@@ -20,6 +21,7 @@ pub struct Lent<'a> {
 #[derive(Clone, Copy, Debug, PartialEq, Eq)]
 pub struct Shown<'a> {
     pub words: &'a [u64],
+    pub flows: &'a [u64],
     pub outstanding: &'a [u64],
     pub marked: &'a [u64],
     pub sizes: &'a [u32],
@@ -31,6 +33,7 @@ impl Lent<'_> {
     pub fn show(&self) -> Shown<'_> {
         Shown {
             words: self.words,
+            flows: self.flows,
             outstanding: self.outstanding,
             marked: self.marked,
             sizes: self.sizes,
