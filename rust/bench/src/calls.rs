@@ -1,4 +1,4 @@
-//! Calls from outside, which test number 2 in full.
+//! Calls from outside, which test number 2 in full. There is one flow.
 
 use crate::logs;
 use crate::sides::{assert_alike, set_up, set_up_model, set_up_ours, Model};
@@ -38,7 +38,7 @@ pub fn acks(table: &mut Table) {
 /// The time of a call.
 fn calls(settings: &Settings, events: &[Event], capacity: usize) -> Times {
     let calls: Vec<Call> = events.iter().map(Call::of).collect();
-    let (mut context, mut model) = (Context::empty(capacity), Model::empty(capacity));
+    let (mut context, mut model) = (Context::empty(1, capacity), Model::empty(1, capacity));
     set_up(&mut context, &mut model, settings);
     take(&mut context, &mut model, events);
     assert_alike(&context, &model);
@@ -107,7 +107,7 @@ fn test_of(capacity: usize, packets: usize) -> Times {
     race(
         TEST_ROUNDS,
         many,
-        |clock| clock.lap(|| (0..many).all(|_| lent.path(black_box(0)) == TIME)),
+        |clock| clock.lap(|| (0..many).all(|_| lent.path(black_box(0), 0) == TIME)),
         |clock| clock.lap(|| (0..many).all(|_| number_two(black_box(state), black_box(&models)))),
     )
 }
@@ -117,7 +117,7 @@ fn filled(capacity: usize, packets: usize) -> (Context, Model) {
     let mut numbers = model::gen::E;
     numbers[1] = 1 << 26;
     let settings = Settings::from_numbers(numbers, 0, false);
-    let (mut context, mut model) = (Context::empty(capacity), Model::empty(capacity));
+    let (mut context, mut model) = (Context::empty(1, capacity), Model::empty(1, capacity));
     set_up(&mut context, &mut model, &settings);
     let (time, flow, size) = (1, 0, 1024);
     let bytes = 1 + u64::from(size) * packets as u64;

@@ -1,11 +1,10 @@
 //! Replays of a log that comes in chunks. Both sides test number 2 once a chunk.
 
 use crate::logs;
-use crate::sides::{assert_alike, Model};
+use crate::sides::{assert_alike, Model, CAPACITY};
 use crate::table::Table;
 use crate::timing::{race, Clock, Times};
 use differential::answer_of;
-use model::replay::CAPACITY;
 use model::{Chunk, Outcome};
 use nscc::{Context, Part};
 
@@ -28,8 +27,8 @@ pub fn lengths(table: &mut Table) {
 
 /// The time of a record.
 fn replay(log: &[u8], length: usize) -> Times {
-    let mut context = Context::empty(CAPACITY);
-    let mut model = Model::empty(CAPACITY);
+    let mut context = Context::empty(1, CAPACITY);
+    let mut model = Model::empty(1, CAPACITY);
     let mut ours = vec![0; logs::count(log)];
     let mut models = vec![Outcome::default(); ours.len()];
     let records = ours.len();

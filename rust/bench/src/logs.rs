@@ -1,6 +1,7 @@
 //! The logs that are replayed.
 
-use model::log::{append, M};
+use model::log::{append, M, QUICK_ADAPT_OFF};
+use model::replay::CAPACITY;
 use model::{gen, Event, Reader, Record, Settings};
 
 /// Makes a log of so many records.
@@ -22,9 +23,70 @@ pub fn traffic(records: usize) -> Vec<u8> {
     gen::traffic(SEED, records)
 }
 
-/// Traffic that a ring of so many slots has room for.
+/// Traffic that a ring of so many slots has room for. The generator's are at most the program's.
 pub fn traffic_for(capacity: usize, records: usize) -> (Settings, Vec<Event>) {
-    apart(&gen::narrow(SEED, records, capacity))
+    apart(&gen::narrow(SEED, records, capacity.min(CAPACITY)))
+}
+
+/// ACKs of a round of bulk, as many as the greatest number of flows, and packets of each.
+const EIGHTHS: u32 = 8;
+const EIGHTH: u32 = 128;
+const LARGE: u32 = 16_384;
+
+/// Rounds of large packets, dealt to so many flows by turns, and of ACKs for them, each for an eighth
+/// of the round. All but flows and PSNs is the same for one flow and for eight.
+pub fn dealt(records: usize, flows: usize) -> Vec<u8> {
+    let flows = flows as u32;
+    let mut numbers = gen::E;
+    (numbers[0], numbers[1]) = (LARGE.into(), 1 << 26);
+    let mut all = vec![Record::Settings {
+        numbers,
+        first_psn: 0,
+        flags: QUICK_ADAPT_OFF,
+        ev_count: 256,
+    }];
+    for round in 0.. {
+        if all.len() >= records {
+            break;
+        }
+        deal(round, flows, &mut all);
+    }
+    all.truncate(records);
+    bytes_of(&all)
+}
+
+/// New data, packets and ACKs of a round.
+fn deal(round: u32, flows: u32, records: &mut Vec<Record>) {
+    let packets = EIGHTHS * EIGHTH;
+    let time = u64::from(round) * 200;
+    let first = round * packets / flows;
+    let named = |i: u32| Some((i % flows) as u8);
+    records.extend((0..EIGHTHS).map(|i| Record::NewData {
+        time,
+        flow: named(i),
+        bytes: u64::from(EIGHTH * LARGE),
+    }));
+    records.extend((0..packets).map(|i| Record::Send {
+        time,
+        flow: named(i),
+        size: LARGE,
+        psn: first + i / flows,
+        resend: 0,
+    }));
+    records.extend((0..EIGHTHS).map(|i| {
+        let cum = first + (i / flows + 1) * EIGHTH - 1;
+        Record::Ack {
+            time: time + 100,
+            flow: named(i),
+            cum,
+            map: 0,
+            trigger: cum,
+            count: (cum + 1) * (LARGE / 256) % (1 << 24),
+            service: 0,
+            ev: 0,
+            flags: 0,
+        }
+    }));
 }
 
 /// How many records a log has.
@@ -79,7 +141,8 @@ pub fn path_choices(paths: usize, avoided: bool) -> Vec<u8> {
         }
         records.push(marked);
     }
-    records.resize(records.len() + paths, Record::Path { time: 0 });
+    let (time, flow) = (0, None);
+    records.resize(records.len() + paths, Record::Path { time, flow });
     bytes_of(&records)
 }
 
@@ -94,7 +157,11 @@ fn start(more: u32) -> Vec<Record> {
             flags: 0,
             ev_count: 256,
         },
-        Record::NewData { time: 0, bytes },
+        Record::NewData {
+            time: 0,
+            flow: None,
+            bytes,
+        },
     ];
     records.extend((0..UNDER_WAY).map(|psn| send(0, psn)));
     records
@@ -103,6 +170,7 @@ fn start(more: u32) -> Vec<Record> {
 fn send(time: u32, psn: u32) -> Record {
     Record::Send {
         time: time.into(),
+        flow: None,
         size: SIZE,
         psn,
         resend: 0,
@@ -113,6 +181,7 @@ fn send(time: u32, psn: u32) -> Record {
 fn ack(time: u32, cum: u32, packets: u32) -> Record {
     Record::Ack {
         time: time.into(),
+        flow: None,
         cum,
         map: 0,
         trigger: cum,
@@ -129,4 +198,32 @@ fn bytes_of(records: &[Record]) -> Vec<u8> {
         append(record, &mut log).expect("every field fits");
     }
     log
+}
+
+#[cfg(test)]
+mod tests {
+    use super::dealt;
+    use model::replay::Replay;
+    use model::{Memory, State};
+
+    /// The shared state after each record, all of which must be accepted.
+    fn states(flows: usize) -> Vec<State> {
+        let log = dealt(5_000, flows);
+        let mut memory = Memory::with_flows(flows, 4_096 / flows, 256);
+        let mut replay = Replay::new(&log, memory.lend());
+        let mut states = Vec::new();
+        while let Some(outcome) = replay.step().expect("a sound log") {
+            assert_eq!(outcome.number, 0, "record {}", states.len() + 1);
+            states.push(replay.state);
+        }
+        states
+    }
+
+    /// What one flow does to the window, eight flows do with the same events.
+    #[test]
+    fn dealt_logs_have_the_same_events() {
+        let one = states(1);
+        assert_eq!(one.len(), 5_000);
+        assert!(one == states(8), "the shared states differ");
+    }
 }

@@ -31,6 +31,7 @@ fn main() {
     println!("{HOW}");
     let mut table = Table::default();
     replays::kinds(&mut table);
+    replays::flows(&mut table);
     replays::paths(&mut table);
     replays::rooms(&mut table);
     chunks::lengths(&mut table);

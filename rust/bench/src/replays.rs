@@ -1,11 +1,11 @@
 //! Replays without text. The model's never tests number 2: setting up gives what it asks.
 
 use crate::logs;
-use crate::sides::{assert_alike, Model};
+use crate::sides::{assert_alike, Model, CAPACITY};
 use crate::table::Table;
 use crate::timing::{race, Clock, Times};
 use differential::answer_of;
-use model::replay::{Replay, CAPACITY};
+use model::replay::{self, Replay};
 use nscc::{Context, Place};
 
 const RECORDS: usize = 1_000_000;
@@ -14,11 +14,30 @@ const ROUNDS: usize = 15;
 /// said. It tests number 2 once a call.
 const LAP: usize = 10_000;
 
+/// The flows of a context, and the slots of each.
+type Shape = (usize, usize);
+
+/// One flow.
+const ONE: Shape = (1, CAPACITY);
+
 /// (a) Logs of several kinds.
 pub fn kinds(table: &mut Table) {
     for (kind, make) in logs::KINDS {
-        let times = replay(ROUNDS, &make(RECORDS), CAPACITY, LAP);
+        let times = replay(ROUNDS, &make(RECORDS), ONE, LAP);
         table.add(format!("(a) a record replayed, {kind}"), times);
+    }
+}
+
+/// (a) The program's eight flows, and one flow with as many slots in all and the same events.
+pub fn flows(table: &mut Table) {
+    let program = (replay::FLOWS, replay::CAPACITY);
+    let slots = program.0 * program.1;
+    for (name, shape) in [("one flow", (1, slots)), ("eight flows", program)] {
+        let times = replay(ROUNDS, &logs::dealt(RECORDS, shape.0), shape, LAP);
+        table.add(
+            format!("(a) a record replayed, bulk dealt to {name}, {slots} slots in all"),
+            times,
+        );
     }
 }
 
@@ -26,7 +45,7 @@ pub fn kinds(table: &mut Table) {
 pub fn paths(table: &mut Table) {
     for (which, avoided) in [("no", false), ("every second", true)] {
         let log = logs::path_choices(RECORDS / 4, avoided);
-        let times = replay(ROUNDS, &log, CAPACITY, LAP);
+        let times = replay(ROUNDS, &log, ONE, LAP);
         table.add(
             format!("(a) a path choice replayed, {which} EV avoided"),
             times,
@@ -38,7 +57,7 @@ pub fn paths(table: &mut Table) {
 pub fn rooms(table: &mut Table) {
     let log = logs::traffic(RECORDS / 4);
     for room in [1_000, 50] {
-        let times = replay(ROUNDS, &log, CAPACITY, room);
+        let times = replay(ROUNDS, &log, ONE, room);
         table.add(
             format!("(a) a record replayed, traffic, {room} answers a call"),
             times,
@@ -49,7 +68,7 @@ pub fn rooms(table: &mut Table) {
 /// (d) The length of a log.
 pub fn lengths(table: &mut Table) {
     for (name, records, rounds) in [("10^4", 10_000, 200), ("10^6", RECORDS, ROUNDS)] {
-        let times = replay(rounds, &logs::traffic(records), CAPACITY, LAP);
+        let times = replay(rounds, &logs::traffic(records), ONE, LAP);
         table.add(
             format!("(d) a record replayed, log of {name} records"),
             times,
@@ -63,12 +82,12 @@ pub fn acks(table: &mut Table) {
     let repeated = logs::repeated_ack(2 * MANY);
     let pairs = logs::ack_and_send(MANY);
     for capacity in [64, 4_096] {
-        let times = replay(ROUNDS, &repeated, capacity, LAP);
+        let times = replay(ROUNDS, &repeated, (1, capacity), LAP);
         table.add(
             format!("(e) an ACK replayed that delivers nothing new, {capacity} slots"),
             times,
         );
-        let times = replay(ROUNDS, &pairs, capacity, LAP);
+        let times = replay(ROUNDS, &pairs, (1, capacity), LAP);
         table.add(
             format!("(e) an ACK replayed that delivers a packet, or a send, {capacity} slots"),
             times,
@@ -77,9 +96,9 @@ pub fn acks(table: &mut Table) {
 }
 
 /// The time of a record. `room` is how many answers a call of the library has room for.
-fn replay(rounds: usize, log: &[u8], capacity: usize, room: usize) -> Times {
-    let mut context = Context::empty(capacity);
-    let mut model = Model::empty(capacity);
+fn replay(rounds: usize, log: &[u8], (flows, capacity): Shape, room: usize) -> Times {
+    let mut context = Context::empty(flows, capacity);
+    let mut model = Model::empty(flows, capacity);
     let mut ours = vec![0; logs::count(log)];
     let mut models = ours.clone();
     let records = ours.len();

@@ -1,8 +1,12 @@
 //! What both sides do and leave.
 
-use differential::words_of;
+use differential::{table_of, words_of};
+use model::bounds::EVS_USUAL;
 use model::{Memory, Settings, State};
 use nscc::Context;
+
+/// One flow, with so many slots where nothing else is said.
+pub const CAPACITY: usize = 1_024;
 
 /// The model's context with its memory.
 pub struct Model {
@@ -11,10 +15,11 @@ pub struct Model {
 }
 
 impl Model {
-    pub fn empty(capacity: usize) -> Model {
+    /// So many flows, each with a ring of so many slots.
+    pub fn empty(flows: usize, capacity: usize) -> Model {
         Model {
             state: State::default(),
-            memory: Memory::new(capacity),
+            memory: Memory::with_flows(flows, capacity, EVS_USUAL as usize),
         }
     }
 }
@@ -44,7 +49,8 @@ pub fn set_up_model(model: &mut Model, settings: &Settings) {
 /// Fails unless both sides are left alike.
 pub fn assert_alike(context: &Context, model: &Model) {
     let memory = &model.memory;
-    assert_eq!(context.words, words_of(&model.state, &memory.flows[0]));
+    assert_eq!(context.words, words_of(&model.state));
+    assert_eq!(context.flows, table_of(&memory.flows));
     assert_eq!(context.outstanding, memory.outstanding);
     assert_eq!(context.marked, memory.marked);
     assert_eq!(context.sizes, memory.sizes);

@@ -2,9 +2,6 @@ use model::{Event, Loss, NewData, Outcome, Path, Sampling, Send};
 use nscc::raw::Lent;
 use nscc::{Ack, Nack, Sample};
 
-/// The model's number of the library's one flow.
-pub const FLOW: u64 = 0;
-
 /// A call of a C function, with fields as wide as the function takes them.
 #[derive(Clone, Debug, PartialEq, Eq)]
 pub enum Call {
@@ -16,10 +13,12 @@ pub enum Call {
     },
     NewData {
         time: u64,
+        flow: usize,
         bytes: u64,
     },
     Send {
         time: u64,
+        flow: usize,
         psn: u32,
         bytes: u32,
         resend: bool,
@@ -28,18 +27,22 @@ pub enum Call {
     Nack(Nack),
     Loss {
         time: u64,
+        flow: usize,
         psn: u32,
         ev: u32,
     },
     Path {
         time: u64,
+        flow: usize,
     },
-    /// What the ring shows of a PSN.
+    /// What a flow's ring shows of a PSN.
     Status {
+        flow: usize,
         psn: u32,
     },
-    /// The first marked PSN from this one on.
+    /// A flow's first marked PSN from this one on.
     NextMarked {
+        flow: usize,
         psn: u32,
     },
 }
@@ -54,6 +57,35 @@ impl Call {
         }
     }
 
+    /// The flow that the call is for; `None` for setting up.
+    pub fn flow(&self) -> Option<usize> {
+        match *self {
+            Call::SetUp { .. } => None,
+            Call::Ack(Ack { flow, .. }) | Call::Nack(Nack { flow, .. }) => Some(flow),
+            Call::NewData { flow, .. }
+            | Call::Send { flow, .. }
+            | Call::Loss { flow, .. }
+            | Call::Path { flow, .. }
+            | Call::Status { flow, .. }
+            | Call::NextMarked { flow, .. } => Some(flow),
+        }
+    }
+
+    /// The same call for another flow.
+    pub fn for_flow(mut self, other: usize) -> Call {
+        match &mut self {
+            Call::SetUp { .. } => {}
+            Call::Ack(Ack { flow, .. }) | Call::Nack(Nack { flow, .. }) => *flow = other,
+            Call::NewData { flow, .. }
+            | Call::Send { flow, .. }
+            | Call::Loss { flow, .. }
+            | Call::Path { flow, .. }
+            | Call::Status { flow, .. }
+            | Call::NextMarked { flow, .. } => *flow = other,
+        }
+        self
+    }
+
     /// Calls the C function: the number in the low 32 bits, an EV, a sample's number or what the ring
     /// shows above them.
     pub fn ask(&self, lent: &mut Lent) -> u64 {
@@ -64,36 +96,42 @@ impl Call {
                 quick_adapt_off,
                 ev_count,
             } => lent.set_up(settings, *first_psn, *quick_adapt_off, *ev_count),
-            Call::NewData { time, bytes } => lent.new_data(*time, *bytes),
+            Call::NewData { time, flow, bytes } => lent.new_data(*time, *flow, *bytes),
             Call::Send {
                 time,
+                flow,
                 psn,
                 bytes,
                 resend,
-            } => lent.send(*time, *psn, *bytes, *resend),
+            } => lent.send(*time, *flow, *psn, *bytes, *resend),
             Call::Ack(ack) => return lent.ack(ack),
             Call::Nack(nack) => return lent.nack(nack),
-            Call::Loss { time, psn, ev } => lent.loss(*time, *psn, *ev),
-            Call::Path { time } => return lent.path(*time),
-            Call::Status { psn } => return lent.show().status(*psn),
-            Call::NextMarked { psn } => return lent.show().next_marked(*psn),
+            Call::Loss {
+                time,
+                flow,
+                psn,
+                ev,
+            } => lent.loss(*time, *flow, *psn, *ev),
+            Call::Path { time, flow } => return lent.path(*time, *flow),
+            Call::Status { flow, psn } => return lent.show().status(*flow, *psn),
+            Call::NextMarked { flow, psn } => return lent.show().next_marked(*flow, *psn),
         };
         number.into()
     }
 
     /// The model's event; `None` for setting up and for readings. The model's EVs and reasons are
-    /// narrower: a wider one is handed to it as its widest, which it refuses alike. The library has
-    /// one flow, so every event is of flow 0.
+    /// narrower: a wider one is handed to it as its widest, which it refuses alike.
     pub fn event(&self) -> Option<Event> {
-        let flow = FLOW;
+        let flow = self.flow()? as u64;
         let event = match *self {
             Call::SetUp { .. } | Call::Status { .. } | Call::NextMarked { .. } => return None,
-            Call::NewData { time, bytes } => NewData { time, flow, bytes }.into(),
+            Call::NewData { time, bytes, .. } => NewData { time, flow, bytes }.into(),
             Call::Send {
                 time,
                 psn,
                 bytes,
                 resend,
+                ..
             } => Event::Send(Send {
                 time,
                 flow,
@@ -103,29 +141,35 @@ impl Call {
             }),
             Call::Ack(ack) => Event::Ack(model_ack(&ack)),
             Call::Nack(nack) => Event::Nack(model_nack(&nack)),
-            Call::Loss { time, psn, ev } => Event::Loss(Loss {
+            Call::Loss { time, psn, ev, .. } => Event::Loss(Loss {
                 time,
                 flow,
                 psn,
                 ev: narrow_ev(ev),
             }),
-            Call::Path { time } => Event::Path(Path { time, flow }),
+            Call::Path { time, .. } => Event::Path(Path { time, flow }),
         };
         Some(event)
     }
 
-    /// The call of an event of flow 0.
+    /// The call of an event.
     pub fn of(event: &Event) -> Call {
         match *event {
-            Event::NewData(NewData { time, bytes, .. }) => Call::NewData { time, bytes },
+            Event::NewData(NewData { time, flow, bytes }) => Call::NewData {
+                time,
+                flow: flow_number(flow),
+                bytes,
+            },
             Event::Send(send) => Call::Send {
                 time: send.time,
+                flow: flow_number(send.flow),
                 psn: send.psn,
                 bytes: send.size,
                 resend: send.resend,
             },
             Event::Ack(ack) => Call::Ack(Ack {
                 time: ack.time,
+                flow: flow_number(ack.flow),
                 cum: ack.cum,
                 map: ack.map,
                 trigger: ack.trigger,
@@ -137,26 +181,36 @@ impl Call {
             }),
             Event::Nack(nack) => Call::Nack(Nack {
                 time: nack.time,
+                flow: flow_number(nack.flow),
                 psn: nack.psn,
                 ev: nack.ev.into(),
                 reason: nack.reason.into(),
                 marked: nack.marked,
                 retx: nack.retx,
             }),
-            Event::Loss(Loss { time, psn, ev, .. }) => Call::Loss {
-                time,
-                psn,
-                ev: ev.into(),
+            Event::Loss(loss) => Call::Loss {
+                time: loss.time,
+                flow: flow_number(loss.flow),
+                psn: loss.psn,
+                ev: loss.ev.into(),
             },
-            Event::Path(Path { time, .. }) => Call::Path { time },
+            Event::Path(Path { time, flow }) => Call::Path {
+                time,
+                flow: flow_number(flow),
+            },
         }
     }
+}
+
+/// A flow as the C functions take it. One that is wider is refused alike as the widest.
+fn flow_number(flow: u64) -> usize {
+    flow.try_into().unwrap_or(usize::MAX)
 }
 
 fn model_ack(ack: &Ack) -> model::Ack {
     model::Ack {
         time: ack.time,
-        flow: FLOW,
+        flow: ack.flow as u64,
         cum: ack.cum,
         map: ack.map,
         trigger: ack.trigger,
@@ -171,7 +225,7 @@ fn model_ack(ack: &Ack) -> model::Ack {
 fn model_nack(nack: &Nack) -> model::Nack {
     model::Nack {
         time: nack.time,
-        flow: FLOW,
+        flow: nack.flow as u64,
         psn: nack.psn,
         ev: narrow_ev(nack.ev),
         reason: nack.reason.try_into().unwrap_or(u8::MAX),

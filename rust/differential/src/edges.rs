@@ -9,10 +9,11 @@ use nscc::{Ack, Nack};
 
 impl Source {
     pub(crate) fn edge_call(&mut self, view: &View) -> Call {
-        let time = self.edge_time(view);
+        let (time, flow) = (self.edge_time(view), view.at);
         match self.rng.below(12) {
             0 => Call::NewData {
                 time,
+                flow,
                 bytes: self.edge_bytes(view),
             },
             1..=3 => self.edge_send(view, time),
@@ -20,6 +21,7 @@ impl Source {
             7 => Call::Ack(self.spoilt_ack(view, time)),
             8 | 9 => Call::Nack(Nack {
                 time,
+                flow,
                 psn: self.edge_psn(view),
                 ev: self.edge_ev(view),
                 reason: self.rng.pick(&[0, 1, 2, 2, 3, 256, 1 << 16, u32::MAX]),
@@ -28,11 +30,33 @@ impl Source {
             }),
             10 => Call::Loss {
                 time,
+                flow,
                 psn: self.edge_psn(view),
                 ev: self.edge_ev(view),
             },
-            _ => Call::Path { time },
+            _ => Call::Path { time, flow },
         }
+    }
+
+    /// Now and then the call is for another flow than the one that its fields were chosen by.
+    pub(crate) fn astray(&mut self, view: &View, call: Call) -> Call {
+        if self.rng.one_in(8) {
+            call.for_flow(self.edge_flow(view))
+        } else {
+            call
+        }
+    }
+
+    /// Another flow, one past the table or far past it; also such that a narrower number would take
+    /// for one of the table.
+    fn edge_flow(&mut self, view: &View) -> usize {
+        let (flows, at) = (view.flows as u64, view.at as u64);
+        let wider = 1 << self.rng.pick(&[8, 16, 32, 48, 63]);
+        let far = self.rng.pick(&[8, 9, 255, 256, 1 << 32, u64::MAX]);
+        let any = edge(&mut self.rng);
+        let other = self.rng.below(flows);
+        let choices = [other, flows, flows, flows + 1, far, at + wider, any];
+        self.rng.pick(&choices) as usize
     }
 
     fn edge_time(&mut self, view: &View) -> u64 {
@@ -113,6 +137,7 @@ impl Source {
         ];
         Call::Send {
             time,
+            flow: view.at,
             psn,
             bytes: self.rng.pick(&sizes),
             resend: self.rng.one_in(2),
@@ -137,6 +162,7 @@ impl Source {
         ]);
         Ack {
             time,
+            flow: view.at,
             cum,
             map,
             trigger,

@@ -4,18 +4,16 @@ use crate::numbers::{any_ev_count, edge, lent_evs};
 use model::replay::evs_lent;
 use model::{gen, parse, Rng};
 
-/// The capacity for which logs are generated: the program's.
-pub const CAPACITY: usize = model::replay::CAPACITY;
-
-/// A log of any generator.
+/// A log of any generator, for the program's flows.
 pub fn generated(rng: &mut Rng, records: usize) -> Vec<u8> {
     let seed = rng.next_u64();
-    match rng.below(10) {
+    match rng.below(14) {
         0 => gen::traffic(seed, records),
         1 => gen::lossy(seed, records),
         2 => gen::marked(seed, records),
         3 => gen::bulk(seed, records),
         4 | 5 => gen::wide(seed, records),
+        6..=9 => gen::flows(seed, records),
         _ => gen::hostile(seed, records),
     }
 }
@@ -67,6 +65,7 @@ pub fn damage(rng: &mut Rng, log: &[u8]) -> Vec<u8> {
             2 => {
                 pieces.remove(i);
             }
+            3..=5 => change_flow(rng, &mut pieces[i]),
             _ => damage_piece(rng, &mut pieces[i]),
         }
     }
@@ -97,6 +96,39 @@ fn recount(rng: &mut Rng, piece: &mut Vec<u8>) {
     }
     let told = piece.len() as u8 - 2;
     piece[0] = rng.pick(&[told, told, told, told, told, told, 55, 59]);
+}
+
+/// What a kind of record with a flow has above that of the same record without one.
+const WITH_FLOW: u8 = 32;
+/// Where the flow stands: behind length, kind and time.
+const FLOW_AT: usize = 12;
+
+/// The record of an event names a flow, another one, or none; or its kind says so, and its length
+/// does not.
+fn change_flow(rng: &mut Rng, piece: &mut Vec<u8>) {
+    // A path choice without a flow ends where the flow would stand.
+    let Some(&kind) = piece.get(2).filter(|_| piece.len() >= FLOW_AT) else {
+        return;
+    };
+    let old = (1..=6).contains(&kind);
+    let named = kind > WITH_FLOW && kind <= WITH_FLOW + 6 && piece.len() > FLOW_AT;
+    let any = edge(rng) as u8;
+    let flow = rng.pick(&[0, 1, 2, 7, 8, 255, any]);
+    match rng.below(8) {
+        0 => piece[2] ^= WITH_FLOW,
+        1..=3 if named => {
+            piece.remove(FLOW_AT);
+            piece[0] = piece[0].wrapping_sub(1);
+            piece[2] -= WITH_FLOW;
+        }
+        _ if named => piece[FLOW_AT] = flow,
+        _ if old => {
+            piece.insert(FLOW_AT, flow);
+            piece[0] = piece[0].wrapping_add(1);
+            piece[2] += WITH_FLOW;
+        }
+        _ => {}
+    }
 }
 
 /// Fields change more often than lengths and kinds, since replay stops at those. The last byte often

@@ -44,7 +44,7 @@ impl Session {
         let before = Tally::before(call, &self.model);
         match compare_call(&mut self.ours, &mut self.model, call) {
             Ok(answer) => {
-                tally.note(call, answer, &before, &self.model);
+                tally.note(call, answer, before, &self.model);
                 Ok(answer)
             }
             Err(difference) => Err(self.report(&difference)),
@@ -91,8 +91,8 @@ fn describe(start: &Model, report: &mut String) {
     ];
     let _ = writeln!(
         report,
-        "start: words {:?}\nlengths {lengths:?}",
-        start.words
+        "start: words {:?}\ntable {:?}\nlengths {lengths:?}",
+        start.words, start.table
     );
     list_slots("outstanding", &memory.outstanding, report);
     list_slots("marked", &memory.marked, report);

@@ -1,64 +1,80 @@
 //! The two sides of a comparison: the model's, and the memory that the C functions are lent.
 
-use crate::call::{Answer, Call, FLOW};
-use crate::words::{state_of, words_of};
+use crate::call::{Answer, Call};
+use crate::words::{flows_of, state_of, table_of, words_of};
 use model::{Flow, Memory, Outcome, Refusal, Settings, State};
 use nscc::raw::Lent;
-use nscc::{Word, EVS_MIN, WORDS};
+use nscc::{FlowWord, Word, EVS_MIN, FLOW_WORDS, WORDS};
 
 const UNSOUND: u8 = Refusal::NotTogether as u8;
 
-/// A context as the model has it, with the state in words, so that any words can be handed in. The
-/// one flow's record is among the words too: that in `memory` is written from them by
-/// [`Model::lend`].
+/// A context as the model has it, with state and table in words, so that any words can be handed in.
+/// The flows in `memory` are written from the table by [`Model::lend`].
 #[derive(Clone, Debug, PartialEq, Eq)]
 pub struct Model {
     pub words: Vec<u64>,
+    /// The table of flows.
+    pub table: Vec<u64>,
     pub memory: Memory,
 }
 
 impl Model {
-    /// A ring of so many slots, and 256 EV times.
-    pub fn empty(capacity: usize) -> Model {
-        Model::with_evs(capacity, EVS_MIN as usize)
+    /// So many flows, each with a ring of so many slots, and 256 EV times.
+    pub fn empty(flows: usize, capacity: usize) -> Model {
+        Model::with_evs(flows, capacity, EVS_MIN as usize)
     }
 
-    pub fn with_evs(capacity: usize, evs: usize) -> Model {
+    pub fn with_evs(flows: usize, capacity: usize, evs: usize) -> Model {
         Model {
             words: vec![0; WORDS],
-            memory: Memory::with_evs(capacity, evs),
+            table: vec![0; flows * FLOW_WORDS],
+            memory: Memory::with_flows(flows, capacity, evs),
         }
     }
 
     /// `None` for words that no state has.
-    pub fn state(&self) -> Option<(State, Flow)> {
+    pub fn state(&self) -> Option<State> {
         state_of(&self.words)
     }
 
-    /// The state with all that is lent, a table of one flow included; `None` for words that no state
-    /// has.
+    /// `None` for words that no table has.
+    pub fn flows(&self) -> Option<Vec<Flow>> {
+        flows_of(&self.table)
+    }
+
+    /// The state with all that is lent, the flows included; `None` for words that no state or no
+    /// table has.
     pub fn lend(&mut self) -> Option<(State, model::Lent<'_>)> {
-        let (state, flow) = self.state()?;
-        self.memory.flows.fill(flow);
+        let state = self.state()?;
+        self.memory.flows = self.flows()?;
         Some((state, self.memory.lend()))
     }
 
-    /// The same for a log of which nothing is done: a state and a flow of zeros, which a refused
-    /// setting up leaves.
+    /// The same where no word is looked at, as when setting up: a state and flows of zeros. A table
+    /// of a flow that is not whole is lent as one of none, which setting up refuses alike.
     pub fn lend_new(&mut self) -> (State, model::Lent<'_>) {
-        self.memory.flows.fill(Flow::default());
+        let (flows, rest) = self.table.as_chunks::<FLOW_WORDS>();
+        let many = if rest.is_empty() { flows.len() } else { 0 };
+        self.memory.flows = vec![Flow::default(); many];
         (State::default(), self.memory.lend())
     }
 
-    pub fn set_state(&mut self, state: &State, flow: &Flow) {
+    pub fn set_state(&mut self, state: &State) {
         self.words.clear();
-        self.words.extend(words_of(state, flow));
+        self.words.extend(words_of(state));
     }
 
-    /// Writes the words of this state and of the flow that was lent.
+    pub fn set_flows(&mut self, flows: &[Flow]) {
+        self.table = table_of(flows);
+    }
+
+    /// Writes the words of this state and of the flows that were lent. A refused setting up gives a
+    /// state of zeros, and leaves the table as it was.
     pub fn store(&mut self, state: &State) {
-        let flow = self.memory.flows[0];
-        self.set_state(state, &flow);
+        self.set_state(state);
+        if *state != State::default() {
+            self.table = table_of(&self.memory.flows);
+        }
     }
 
     pub fn sound(&mut self) -> bool {
@@ -68,11 +84,13 @@ impl Model {
 
     pub fn answer(&mut self, call: &Call) -> Answer {
         match *call {
-            Call::Status { psn } => self.read(|state, lent| {
-                let status = state.status(lent, FLOW, psn)?;
+            Call::Status { flow, psn } => self.read(|state, lent| {
+                let status = state.status(lent, flow as u64, psn)?;
                 Ok(status.map_or(0, |status| status.number().into()))
             }),
-            Call::NextMarked { psn } => self.read(|state, lent| state.next_marked(lent, FLOW, psn)),
+            Call::NextMarked { flow, psn } => {
+                self.read(|state, lent| state.next_marked(lent, flow as u64, psn))
+            }
             _ => self.take(call).into(),
         }
     }
@@ -100,8 +118,8 @@ impl Model {
         outcome
     }
 
-    /// The state's words are written, not read. A refusal leaves them as they were: the state of
-    /// zeros that 01 speaks of is what the model answers beside the number.
+    /// The words of state and table are written, not read. A refusal leaves them as they were: the
+    /// state of zeros that 01 speaks of is what the model answers beside the number.
     fn set_up(&mut self, call: &Call) -> u8 {
         let Call::SetUp {
             settings,
@@ -123,7 +141,7 @@ impl Model {
         if self.words.len() != WORDS {
             return UNSOUND;
         }
-        let (number, state) = State::set_up(&settings, &mut self.memory.lend());
+        let (number, state) = State::set_up(&settings, &mut self.lend_new().1);
         if number == 0 {
             self.store(&state);
         }
@@ -175,6 +193,7 @@ impl<T: Copy + PartialEq> Fenced<T> {
 /// The memory that the C functions are lent.
 pub struct Ours {
     words: Fenced<u64>,
+    flows: Fenced<u64>,
     outstanding: Fenced<u64>,
     marked: Fenced<u64>,
     sizes: Fenced<u32>,
@@ -187,6 +206,7 @@ impl Ours {
         let memory = &model.memory;
         Ours {
             words: Fenced::new(&model.words, ODD),
+            flows: Fenced::new(&model.table, ODD),
             outstanding: Fenced::new(&memory.outstanding, ODD),
             marked: Fenced::new(&memory.marked, ODD),
             sizes: Fenced::new(&memory.sizes, ODD as u32),
@@ -198,6 +218,7 @@ impl Ours {
     pub fn lend(&mut self) -> Lent<'_> {
         Lent {
             words: self.words.inner_mut(),
+            flows: self.flows.inner_mut(),
             outstanding: self.outstanding.inner_mut(),
             marked: self.marked.inner_mut(),
             sizes: self.sizes.inner_mut(),
@@ -209,6 +230,7 @@ impl Ours {
     /// What differs from the model's side, if anything does.
     pub fn compare(&self, model: &Model) -> Result<(), String> {
         self.compare_words(&model.words)?;
+        self.compare_flows(&model.table)?;
         self.compare_memory(&model.memory)
     }
 
@@ -223,6 +245,16 @@ impl Ours {
         ))
     }
 
+    fn compare_flows(&self, table: &[u64]) -> Result<(), String> {
+        let Some((i, ours, model)) = difference(self.flows.inner(), table) else {
+            return Ok(());
+        };
+        let (flow, word) = (i / FLOW_WORDS, FlowWord::ALL[i % FLOW_WORDS]);
+        Err(format!(
+            "flow {flow}, {word:?}: {ours}, the model's {model}"
+        ))
+    }
+
     fn compare_memory(&self, memory: &Memory) -> Result<(), String> {
         same_bits("outstanding", self.outstanding.inner(), &memory.outstanding)?;
         same_bits("marked", self.marked.inner(), &memory.marked)?;
@@ -230,6 +262,7 @@ impl Ours {
         same("sent", self.sent.inner(), &memory.sent)?;
         same("EV time", self.evs.inner(), &memory.ev_times)?;
         let whole = self.words.whole()
+            && self.flows.whole()
             && self.outstanding.whole()
             && self.marked.whole()
             && self.sizes.whole()

@@ -2,6 +2,7 @@
 //! lead to it.
 
 use crate::numbers::{beside, first_psn, settings, within};
+use crate::shape::Shape;
 use crate::sides::Model;
 use model::bounds::{
     AVG_MAX, BACKLOG_MAX, COUNT_END, INC_BYTES_MAX, IN_FLIGHT_MIN, LATER_END, SIZE_MIN, TALLY_MAX,
@@ -9,9 +10,10 @@ use model::bounds::{
 };
 use model::ring::{bit, number_of, set_bit, size_of, WORD};
 use model::{Flow, Memory, Name, Rng, State, Status};
+use std::ops::Range;
 
-/// A state with a ring of this capacity.
-pub fn sound(rng: &mut Rng, capacity: usize) -> Model {
+/// A state with so many flows and slots. Each flow is made up by itself.
+pub fn sound(rng: &mut Rng, shape: Shape) -> Model {
     let mut state = State {
         settings: settings(rng, true),
         ..State::default()
@@ -23,16 +25,20 @@ pub fn sound(rng: &mut Rng, capacity: usize) -> Model {
     };
     set_window(rng, &mut state);
     set_times(rng, &mut state);
-    let mut flow = flow(rng);
-    let mut memory = Memory::with_evs(capacity, state.settings.ev_count as usize);
-    set_ring(rng, &state, &mut flow, &mut memory);
+    let mut model = shape.model(state.settings.ev_count as usize);
+    let memory = &mut model.memory;
+    let flows: Vec<Flow> = (0..shape.flows)
+        .map(|at| {
+            let mut flow = flow(rng);
+            set_ring(rng, &state, &mut flow, memory, shape.slots_of(at));
+            flow
+        })
+        .collect();
     set_in_flight(rng, &mut state);
-    set_ev_times(rng, &state, &mut memory);
-    state.backlog = flow.backlog;
-    settle(&mut state, &memory);
-    let mut model = Model::empty(capacity);
-    model.set_state(&state, &flow);
-    model.memory = memory;
+    set_ev_times(rng, &state, memory);
+    settle(&mut state, &flows, memory);
+    model.set_state(&state);
+    model.set_flows(&flows);
     model
 }
 
@@ -84,7 +90,7 @@ fn set_times(rng: &mut Rng, state: &mut State) {
     state.qa_end = rng.pick(&[0, clock, clock + 1, soon, passed, LATER_END - 1]);
 }
 
-/// The one flow, before anything is in its ring.
+/// A flow, before anything is in its ring.
 fn flow(rng: &mut Rng) -> Flow {
     let backlog = match rng.below(4) {
         0 => 0,
@@ -104,10 +110,16 @@ fn flow(rng: &mut Rng) -> Flow {
     }
 }
 
-/// Fills the ring: often all of it, or all but a few slots.
-fn set_ring(rng: &mut Rng, state: &State, flow: &mut Flow, memory: &mut Memory) {
+/// Fills the flow's ring, which has these slots: often all of it, or all but a few.
+fn set_ring(
+    rng: &mut Rng,
+    state: &State,
+    flow: &mut Flow,
+    memory: &mut Memory,
+    slots: Range<usize>,
+) {
     use Status::{Done, Flying, Marked};
-    let capacity = memory.sizes.len() as u64;
+    let capacity = slots.len() as u64;
     let many = match rng.below(6) {
         0 => rng.below(4),
         1 => within(rng, 0, capacity),
@@ -127,7 +139,7 @@ fn set_ring(rng: &mut Rng, state: &State, flow: &mut Flow, memory: &mut Memory) 
     // Where a mix is seldom, low passes whole words, and the next marked packet is words away.
     let (seldom, mostly) = (rng.pick(&[1, 1, 8, 100]), rng.pick(&[Flying, Done]));
     for i in 0..many {
-        let slot = (u64::from(flow.low) + i) as usize % memory.sizes.len();
+        let slot = slots.start + (u64::from(flow.low) + i) as usize % slots.len();
         let mixed = rng.pick(mix);
         let status = if rng.one_in(seldom) { mixed } else { mostly };
         // Low is not done.
@@ -229,7 +241,10 @@ fn set_ev_times(rng: &mut Rng, state: &State, memory: &mut Memory) {
 }
 
 /// Makes totals and name those that number 2 asks for.
-pub fn settle(state: &mut State, memory: &Memory) {
+pub fn settle(state: &mut State, flows: &[Flow], memory: &Memory) {
+    // A backlog may be spoilt.
+    let backlogs = flows.iter().map(|flow| flow.backlog);
+    state.backlog = backlogs.fold(0, u64::wrapping_add);
     let words = memory.outstanding.iter().zip(&memory.marked);
     let flying = words.map(|(outstanding, marked)| (outstanding & !marked).count_ones());
     state.flying = flying.map(u64::from).sum();
@@ -241,6 +256,11 @@ pub fn settle(state: &mut State, memory: &Memory) {
     state.marked_bytes = marked
         .map(|slot| u64::from(size_of(memory.sizes[slot])))
         .sum();
+    set_name(state);
+}
+
+/// Makes the name that of the totals.
+pub fn set_name(state: &mut State) {
     let nothing_to_send = state.backlog == 0 && state.marked == 0;
     let needed = i128::from(state.in_flight) + i128::from(state.settings.mtu);
     state.name = match state.flying {

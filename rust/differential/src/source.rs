@@ -5,20 +5,24 @@ use crate::numbers::{beside, least_base};
 use crate::profile::Profile;
 use crate::sides::Model;
 use model::bounds::{COUNT_END, SIZE_MIN, TIME_END, UNIT};
-use model::ring::{bit, resends_of, size_of};
-use model::{Flow, Memory, Rng, State, Status};
+use model::ring::{bit, resends_of, size_of, WORD};
+use model::{Flow, Memory, Name, Rng, State, Status};
 use nscc::{Ack, Nack};
 
-/// A sound state, its one flow and the ring, to choose fields by.
+/// A sound state, one of its flows and that flow's ring, to choose fields by.
 pub struct View<'a> {
     pub state: State,
+    /// How many flows there are, and which of them this is.
+    pub flows: usize,
+    pub at: usize,
     pub flow: Flow,
     pub memory: &'a Memory,
 }
 
 impl View<'_> {
+    /// Slots of the flow's ring.
     pub fn capacity(&self) -> usize {
-        self.memory.sizes.len()
+        self.memory.sizes.len() / self.flows
     }
 
     /// How many PSNs low..next-1 has.
@@ -30,8 +34,9 @@ impl View<'_> {
         self.state.settings.ev_count
     }
 
+    /// The slot of the ring buffer where a PSN of the flow lives.
     pub fn slot(&self, psn: u32) -> usize {
-        psn as usize % self.capacity()
+        self.at * self.capacity() + psn as usize % self.capacity()
     }
 
     /// The status of a PSN of low..next-1.
@@ -66,6 +71,26 @@ impl View<'_> {
         flying.map(|psn| i64::from(self.size(psn))).sum()
     }
 
+    /// Bytes of the flying packets of all other flows.
+    fn flying_elsewhere(&self) -> i64 {
+        let own = self.slot(0)..self.slot(0) + self.capacity();
+        let marks = self.memory.outstanding.iter().zip(&self.memory.marked);
+        let mut bytes = 0;
+        for (word, (outstanding, marked)) in marks.enumerate() {
+            let mut flying = outstanding & !marked;
+            // A ring has whole words of bits.
+            if own.contains(&(word * WORD)) {
+                flying = 0;
+            }
+            while flying != 0 {
+                let slot = word * WORD + flying.trailing_zeros() as usize;
+                bytes += i64::from(size_of(self.memory.sizes[slot]));
+                flying &= flying - 1;
+            }
+        }
+        bytes
+    }
+
     /// A packet of one of these statuses, from a random one on.
     fn packet(&self, rng: &mut Rng, statuses: &[Status]) -> Option<u32> {
         let many = self.span();
@@ -80,30 +105,63 @@ impl View<'_> {
 pub struct Source {
     pub rng: Rng,
     pub profile: Profile,
+    /// The flow of the last call, and that one call in so many turns to any other.
+    at: u64,
+    turns: u64,
 }
 
 impl Source {
+    /// Calls of the flows by turns, or mostly of one, whose ring is full before the others'.
+    pub fn new(mut rng: Rng, profile: Profile) -> Source {
+        let turns: &[u64] = match profile.small {
+            true => &[40, 1_000],
+            false => &[1, 4, 40, 1_000],
+        };
+        Source {
+            at: rng.next_u64(),
+            turns: rng.pick(turns),
+            rng,
+            profile,
+        }
+    }
+
     /// The next call; the model must be sound.
     pub fn next(&mut self, model: &Model) -> Call {
-        let Some((state, flow)) = model.state() else {
-            return Call::Path { time: 0 };
+        let state = model.state().unwrap_or_default();
+        let flows = model.flows().unwrap_or_default();
+        let at = self.turn(&state, flows.len());
+        let Some(&flow) = flows.get(at) else {
+            return Call::Path { time: 0, flow: at };
         };
         let view = View {
             state,
+            flows: flows.len(),
+            at,
             flow,
             memory: &model.memory,
         };
         if self.profile.reads > 0 && self.rng.one_in(self.profile.reads) {
-            self.reading(&view)
+            let call = self.reading(&view);
+            self.astray(&view, call)
         } else if self.profile.edges > 0 && self.rng.one_in(self.profile.edges) {
-            self.edge_call(&view)
+            let call = self.edge_call(&view);
+            self.astray(&view, call)
         } else {
             self.good_call(&view)
         }
     }
 
+    /// The flow that the next call is for, of so many. What closes the window may fly on another one.
+    fn turn(&mut self, state: &State, flows: usize) -> usize {
+        let closed = state.name == Name::Active && self.rng.one_in(8);
+        if closed || self.rng.one_in(self.turns) {
+            self.at = self.rng.next_u64();
+        }
+        self.at.checked_rem(flows as u64).unwrap_or(0) as usize
+    }
+
     fn good_call(&mut self, view: &View) -> Call {
-        let time = self.time(view);
+        let (time, flow) = (self.time(view), view.at);
         match self.kind() {
             0 => self.new_data(view, time),
             1 => self.new_packet(view, time),
@@ -111,7 +169,7 @@ impl Source {
             3 => Call::Ack(self.ack(view, time)),
             4 => self.nack(view, time),
             5 => self.loss(view, time),
-            _ => Call::Path { time },
+            _ => Call::Path { time, flow },
         }
     }
 
@@ -121,10 +179,11 @@ impl Source {
         let inside = self.rng.below(view.span().into()) as u32;
         let inside = view.flow.low.wrapping_add(inside);
         let psn = self.rng.pick(&[edge, inside, inside]);
+        let flow = view.at;
         if self.rng.one_in(2) {
-            Call::Status { psn }
+            Call::Status { flow, psn }
         } else {
-            Call::NextMarked { psn }
+            Call::NextMarked { flow, psn }
         }
     }
 
@@ -163,6 +222,7 @@ impl Source {
         let most = self.rng.pick(&[100, mtu, 4 * mtu, 32 * mtu]);
         Call::NewData {
             time,
+            flow: view.at,
             bytes: self.rng.between(1, most),
         }
     }
@@ -184,6 +244,7 @@ impl Source {
         };
         Call::Send {
             time,
+            flow: view.at,
             psn: view.flow.next,
             bytes: size as u32,
             resend: false,
@@ -196,6 +257,7 @@ impl Source {
         };
         Call::Send {
             time,
+            flow: view.at,
             psn,
             bytes: view.size(psn),
             resend: true,
@@ -211,6 +273,7 @@ impl Source {
         let due = view.memory.sent[view.slot(psn)] + if soon { 0 } else { self.trip(view) };
         Call::Nack(Nack {
             time: time.max(due).min(TIME_END - 1),
+            flow: view.at,
             psn,
             ev: self.ev(view),
             reason: self.rng.below(3) as u32,
@@ -223,8 +286,12 @@ impl Source {
         let Some(psn) = view.packet(&mut self.rng, &[Status::Flying]) else {
             return self.new_packet(view, time);
         };
-        let ev = self.ev(view);
-        Call::Loss { time, psn, ev }
+        Call::Loss {
+            time,
+            flow: view.at,
+            psn,
+            ev: self.ev(view),
+        }
     }
 
     pub fn ev(&mut self, view: &View) -> u32 {
@@ -242,6 +309,7 @@ impl Source {
         let (cum, map) = self.cover(view, trigger);
         Ack {
             time,
+            flow: view.at,
             cum,
             map,
             trigger,
@@ -314,7 +382,7 @@ impl Source {
     /// All has arrived that is in flight and does not fly after this ACK; or a part of it, or more;
     /// or the count is old.
     fn count(&mut self, view: &View, cum: u32, map: u64) -> u32 {
-        let flying = view.flying_behind(cum, map);
+        let flying = view.flying_behind(cum, map) + view.flying_elsewhere();
         let units = (view.state.in_flight - flying).max(0) as u64 / UNIT;
         let more = view.state.in_flight.max(0) as u64 / UNIT;
         let behind = u64::from(COUNT_END) - self.rng.between(1, 1 << 10);

@@ -3,12 +3,15 @@
 use crate::call::{Answer, Call};
 use crate::sides::Model;
 use crate::words::state_of;
-use model::{Outcome, Sampling};
-use nscc::{Refusal, Word, IN_FLIGHT_ADDED, WORDS};
+use model::{Flow, Outcome, Sampling};
+use nscc::{Refusal, Word, FLOWS_MAX, IN_FLIGHT_ADDED, WORDS};
 use std::fmt;
 
 /// Room for every number of an answer.
 const NUMBERS: usize = Refusal::LogTooLong as usize + 1;
+
+/// PSNs so far from 2^32 are near it.
+const NEAR: u32 = 1 << 13;
 
 /// The letters of M-103.
 pub const LETTERS: [char; 5] = ['s', 'c', 'g', 'a', 'n'];
@@ -43,38 +46,54 @@ pub struct Seen {
     pub cursor_wraps: u64,
     /// inc_bytes or a tally has come to its stop.
     pub stops: u64,
-    /// Calls on a full ring.
+    /// Calls for a flow whose ring is full.
     pub full_rings: u64,
+    /// Calls for a flow whose ring is not full, while that of another is.
+    pub full_beside: u64,
+    /// Calls while the PSNs of one flow are before 2^32, and those of another behind it.
+    pub half_wrapped: u64,
+    /// Calls by their flow.
+    pub flows: [u64; FLOWS_MAX],
     /// The next marked packet was another one than was asked about.
     pub marked_ahead: u64,
 }
 
-/// The words before a call other than setting up, if they are as many as a state has.
-pub type Before = Option<[u64; WORDS]>;
+/// What there was before a call.
+pub struct Before {
+    words: [u64; WORDS],
+    flows: Vec<Flow>,
+    /// The flow that the call is for.
+    at: usize,
+}
 
 impl Tally {
-    pub fn before(call: &Call, model: &Model) -> Before {
-        match call {
-            Call::SetUp { .. } => None,
-            _ => model.words.as_slice().try_into().ok(),
-        }
+    /// `None` for setting up, and for words that no state or no table has.
+    pub fn before(call: &Call, model: &Model) -> Option<Before> {
+        Some(Before {
+            at: call.flow()?,
+            words: model.words.as_slice().try_into().ok()?,
+            flows: model.flows()?,
+        })
     }
 
-    pub fn note(&mut self, call: &Call, answer: Answer, before: &Before, after: &Model) {
+    pub fn note(&mut self, call: &Call, answer: Answer, before: Option<Before>, after: &Model) {
         self.count(answer.outcome);
-        let Some(before) = before.filter(|_| answer.outcome.number == 0) else {
+        let before = before.filter(|_| answer.outcome.number == 0);
+        let (Some(before), Some(flows)) = (before, after.flows()) else {
             return;
         };
-        let [low, next] = [Word::Low, Word::Next].map(|word| before[word as usize] as u32);
-        let full = next.wrapping_sub(low) as usize == after.memory.sizes.len();
-        self.seen.full_rings += u64::from(full);
+        let was = before.flows[before.at];
+        self.seen.note_flow(&before, after.memory.sizes.len());
         match (call, answer.shown) {
             (Call::Status { .. }, Some(status)) => self.statuses[status as usize] += 1,
-            (Call::NextMarked { psn }, Some(marked)) => {
-                let ahead = marked != *psn && marked != next;
+            (Call::NextMarked { psn, .. }, Some(marked)) => {
+                let ahead = marked != *psn && marked != was.next;
                 self.seen.marked_ahead += u64::from(ahead);
             }
-            _ => self.seen.note(&before, &after.words),
+            _ => {
+                self.seen.note(&before.words, &after.words);
+                self.seen.note_wraps(&was, &flows[before.at]);
+            }
         }
     }
 
@@ -97,6 +116,26 @@ impl Tally {
 }
 
 impl Seen {
+    /// Which flow the call is for, and what its ring and the others' are like, in so many slots.
+    fn note_flow(&mut self, before: &Before, slots: usize) {
+        let capacity = slots / before.flows.len();
+        let full = |flow: &Flow| flow.span() as usize == capacity;
+        let own = full(&before.flows[before.at]);
+        let beside = !own && before.flows.iter().any(full);
+        self.full_rings += u64::from(own);
+        self.full_beside += u64::from(beside);
+        let mut nexts = before.flows.iter().map(|flow| flow.next);
+        let half = nexts.clone().any(|next| next < NEAR) && nexts.any(|next| next >= !NEAR);
+        self.half_wrapped += u64::from(half);
+        self.flows[before.at] += 1;
+    }
+
+    /// An event changes no flow but its own.
+    fn note_wraps(&mut self, was: &Flow, is: &Flow) {
+        self.psn_wraps += u64::from(is.next < was.next);
+        self.count_wraps += u64::from(is.held < was.held);
+    }
+
     fn note(&mut self, before: &[u64], after: &[u64]) {
         let was = |word: Word| before[word as usize];
         let is = |word: Word| after[word as usize];
@@ -108,10 +147,7 @@ impl Seen {
         self.cuts += u64::from(changed(Word::LastDec));
         self.quick_adapts += u64::from(changed(Word::BytesToIgnore));
         self.fast_modes += u64::from(is(Word::Fast) > was(Word::Fast));
-        self.clamps +=
-            u64::from(state_of(after).is_some_and(|(s, _)| was(Word::Cwnd) > s.max_wnd()));
-        self.psn_wraps += u64::from(is(Word::Next) < was(Word::Next));
-        self.count_wraps += u64::from(is(Word::Held) < was(Word::Held));
+        self.clamps += u64::from(state_of(after).is_some_and(|s| was(Word::Cwnd) > s.max_wnd()));
         self.below_zero += u64::from(is(Word::InFlight) < IN_FLIGHT_ADDED as u64);
         let behind = changed(Word::Cursor).then_some(is(Word::Cursor));
         self.far_paths += u64::from(behind.is_some_and(|cursor| cursor > 256));
@@ -142,7 +178,7 @@ impl fmt::Display for Tally {
                 f,
                 "; cuts {}, quick adapts {}, fast modes {}, clamps {}, PSN wraps {}, \
                  count wraps {}, below zero {}, EVs over 255 {}, cursor wraps {}, stops {}, \
-                 full rings {}, marked ahead {}",
+                 full rings {}, full beside {}, half wrapped {}, marked ahead {}, flows {:?}",
                 seen.cuts,
                 seen.quick_adapts,
                 seen.fast_modes,
@@ -154,7 +190,10 @@ impl fmt::Display for Tally {
                 seen.cursor_wraps,
                 seen.stops,
                 seen.full_rings,
-                seen.marked_ahead
+                seen.full_beside,
+                seen.half_wrapped,
+                seen.marked_ahead,
+                seen.flows
             )?;
         }
         Ok(())

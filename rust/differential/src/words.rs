@@ -1,19 +1,14 @@
-//! The one place where the model's state meets the header's words. The library has one flow, whose
-//! record is among the words; the model has it in a table of one.
+//! The one place where the model's state and flows meet the header's words.
 
 use model::{Flow, Name, Settings, State};
-use nscc::{Word, IN_FLIGHT_ADDED, SETTINGS, WORDS};
+use nscc::{FlowWord, Word, FLOW_WORDS, IN_FLIGHT_ADDED, SETTINGS, WORDS};
 
-/// The backlog is the state's, which is that of the one flow.
-pub fn words_of(state: &State, flow: &Flow) -> [u64; WORDS] {
+pub fn words_of(state: &State) -> [u64; WORDS] {
     let mut words = [0; WORDS];
     words[..SETTINGS].copy_from_slice(&state.settings.numbers());
     let others = [
         (Word::FirstPsn, state.settings.first_psn.into()),
         (Word::QuickAdaptOff, state.settings.quick_adapt_off.into()),
-        (Word::Low, flow.low.into()),
-        (Word::Next, flow.next.into()),
-        (Word::Held, flow.held.into()),
         (Word::Backlog, state.backlog),
         (Word::Flying, state.flying),
         (Word::Marked, state.marked),
@@ -45,16 +40,10 @@ pub fn words_of(state: &State, flow: &Flow) -> [u64; WORDS] {
 }
 
 /// `None` for words that no state has: too few or too many, or a number wider than its kind.
-pub fn state_of(words: &[u64]) -> Option<(State, Flow)> {
+pub fn state_of(words: &[u64]) -> Option<State> {
     let words = Words(words.try_into().ok()?);
     let number = |word| words.number(word);
-    let flow = Flow {
-        low: words.narrow(Word::Low)?,
-        next: words.narrow(Word::Next)?,
-        held: words.narrow(Word::Held)?,
-        backlog: number(Word::Backlog),
-    };
-    let state = State {
+    Some(State {
         settings: words.settings()?,
         clock: number(Word::Clock),
         flying: number(Word::Flying),
@@ -78,8 +67,40 @@ pub fn state_of(words: &[u64]) -> Option<(State, Flow)> {
         last_dec: number(Word::LastDec),
         cursor: number(Word::Cursor),
         name: name_of(number(Word::Phase))?,
-    };
-    Some((state, flow))
+    })
+}
+
+/// The words of the table.
+pub fn table_of(flows: &[Flow]) -> Vec<u64> {
+    flows.iter().flat_map(flow_words).collect()
+}
+
+fn flow_words(flow: &Flow) -> [u64; FLOW_WORDS] {
+    FlowWord::ALL.map(|word| match word {
+        FlowWord::Low => flow.low.into(),
+        FlowWord::Next => flow.next.into(),
+        FlowWord::Held => flow.held.into(),
+        FlowWord::Backlog => flow.backlog,
+    })
+}
+
+/// `None` for words that no table has: a flow's are not whole, or a number is wider than its kind.
+/// There may be any number of flows.
+pub fn flows_of(table: &[u64]) -> Option<Vec<Flow>> {
+    let (flows, rest) = table.as_chunks();
+    let flows: Option<Vec<Flow>> = flows.iter().map(flow_of).collect();
+    flows.filter(|_| rest.is_empty())
+}
+
+fn flow_of(words: &[u64; FLOW_WORDS]) -> Option<Flow> {
+    let number = |word: FlowWord| words[word as usize];
+    let narrow = |word| number(word).try_into().ok();
+    Some(Flow {
+        low: narrow(FlowWord::Low)?,
+        next: narrow(FlowWord::Next)?,
+        held: narrow(FlowWord::Held)?,
+        backlog: number(FlowWord::Backlog),
+    })
 }
 
 struct Words<'a>(&'a [u64; WORDS]);

@@ -2,8 +2,8 @@
 
 use differential::{answer_of, Call, Model};
 use model::gen::E;
-use model::{Outcome, Settings};
-use nscc::{sampled, Ack, Nack, Sample, Status};
+use model::{Flow, Outcome, Settings};
+use nscc::{sampled, Ack, Nack, Sample, Status, Word};
 use std::fmt::Write;
 
 struct Card {
@@ -15,7 +15,7 @@ struct Card {
 impl Card {
     fn show(&mut self, name: &str, call: Call) -> Outcome {
         let outcome = self.model.answer(&call).outcome;
-        let (state, _) = self.model.state().expect("words of a state");
+        let state = self.model.state().expect("words of a state");
         self.line(&format!(
             "{name} {} {} {} {} {} {} {}",
             outcome.number,
@@ -41,12 +41,13 @@ impl Card {
         writeln!(self.text, "{line}").expect("a String takes it");
     }
 
-    fn send(&mut self, name: &str, time: u64, psn: u32, resend: bool) {
+    fn send(&mut self, name: &str, time: u64, flow: usize, psn: u32, resend: bool) {
         let bytes = 4096;
         self.show(
             name,
             Call::Send {
                 time,
+                flow,
                 psn,
                 bytes,
                 resend,
@@ -54,9 +55,11 @@ impl Card {
         );
     }
 
+    /// An ACK of flow 0.
     fn ack(&mut self, name: &str, time: u64, psn: u32, count: u32, ev: u32, retx: bool) {
         let ack = Ack {
             time,
+            flow: 0,
             cum: psn,
             map: 0,
             trigger: psn,
@@ -69,23 +72,26 @@ impl Card {
         self.show_sample(name, Call::Ack(ack));
     }
 
-    /// What the ring shows of a packet.
-    fn status(&mut self, psn: u32) {
-        let shown = self.model.answer(&Call::Status { psn }).shown;
+    /// What a flow's ring shows of a packet.
+    fn status(&mut self, flow: usize, psn: u32) {
+        let shown = self.model.answer(&Call::Status { flow, psn }).shown;
         let status = Status::of(shown.expect("a sound state"));
         let status = status.map_or("none".to_string(), |status| status.to_string());
-        self.line(&format!("PSN {psn}: {status}"));
+        self.line(&format!("flow {flow}, PSN {psn}: {status}"));
     }
 
-    fn oldest_marked(&mut self) -> u32 {
-        let (_, flow) = self.model.state().expect("words of a state");
-        let psn = flow.low;
-        let shown = self.model.answer(&Call::NextMarked { psn }).shown;
+    fn flows(&self) -> Vec<Flow> {
+        self.model.flows().expect("words of a table")
+    }
+
+    fn oldest_marked(&mut self, flow: usize) -> u32 {
+        let psn = self.flows()[flow].low;
+        let shown = self.model.answer(&Call::NextMarked { flow, psn }).shown;
         shown.expect("a sound state")
     }
 
-    fn path(&mut self, time: u64) -> u32 {
-        let outcome = self.show("path", Call::Path { time });
+    fn path(&mut self, time: u64, flow: usize) -> u32 {
+        let outcome = self.show("path", Call::Path { time, flow });
         let ev = outcome.ev.expect("accepted");
         self.line(&format!("EV {ev}"));
         ev.into()
@@ -96,11 +102,11 @@ impl Card {
 fn worked(card: &mut Card) {
     let settings = Settings::from_numbers(E, 0, false);
     card.show("set-up", Call::set_up(&settings));
-    let (time, bytes) = (0, 8192);
-    card.show("new-data", Call::NewData { time, bytes });
-    card.send("send-0", 10, 0, false);
+    let (time, flow, bytes) = (0, 0, 8192);
+    card.show("new-data", Call::NewData { time, flow, bytes });
+    card.send("send-0", 10, 0, 0, false);
     let before = card.model.clone();
-    card.send("send-2", 20, 2, false);
+    card.send("send-2", 20, 0, 2, false);
     assert_eq!(card.model, before);
     card.line("refused, and nothing changed");
     card.ack("ack-0", 110, 0, 16, 0, false);
@@ -108,10 +114,11 @@ fn worked(card: &mut Card) {
 
 /// A packet that is trimmed, sent again and acknowledged twice.
 fn trimmed(card: &mut Card) {
-    let ev = card.path(120);
-    card.send("send-1", 130, 1, false);
+    let ev = card.path(120, 0);
+    card.send("send-1", 130, 0, 1, false);
     let nack = Nack {
         time: 230,
+        flow: 0,
         psn: 1,
         ev,
         reason: 0,
@@ -121,14 +128,49 @@ fn trimmed(card: &mut Card) {
     card.show_sample("nack-1", Call::Nack(nack));
     let until = card.model.memory.ev_times[ev as usize];
     card.line(&format!("EV {ev} is avoided until {until}"));
-    let again = card.oldest_marked();
-    card.status(again);
-    let ev = card.path(235);
-    card.send("resend-1", 240, again, true);
-    card.status(again);
+    let again = card.oldest_marked(0);
+    card.status(0, again);
+    let ev = card.path(235, 0);
+    card.send("resend-1", 240, 0, again, true);
+    card.status(0, again);
     card.ack("ack-1", 340, 1, 32, ev, true);
-    card.status(again);
+    card.status(0, again);
     card.ack("copy", 341, 1, 32, ev, true);
+}
+
+/// A packet of flow 1.
+fn other(card: &mut Card) {
+    let (time, flow, bytes) = (350, 1, 4096);
+    card.show("flow-1-new-data", Call::NewData { time, flow, bytes });
+    let ev = card.path(355, flow);
+    card.send("flow-1-send-0", 360, flow, 0, false);
+    card.status(flow, 0);
+    card.status(0, 0);
+    let ack = Ack {
+        time: 460,
+        flow,
+        cum: 0,
+        map: 0,
+        trigger: 0,
+        count: 16,
+        service: 4,
+        ev,
+        marked: false,
+        retx: false,
+    };
+    card.show_sample("flow-1-ack-0", Call::Ack(ack));
+    for (at, Flow { next, held, .. }) in card.flows().into_iter().enumerate() {
+        card.line(&format!("flow {at}: next {next}, received {held} * 256"));
+    }
+}
+
+/// New data of a flow that there is not.
+fn no_flow(card: &mut Card) {
+    let before = card.model.clone();
+    let (time, flow, bytes) = (470, 2, 4096);
+    card.show("flow-2-new-data", Call::NewData { time, flow, bytes });
+    assert_eq!(card.model, before);
+    card.line("refused, and nothing changed");
 }
 
 /// How often each came.
@@ -143,21 +185,22 @@ fn count(card: &mut Card) {
 #[test]
 fn card() {
     let mut card = Card {
-        model: Model::empty(64),
+        model: Model::empty(2, 64),
         samples: Vec::new(),
         text: String::new(),
     };
     card.line("call ans inflight cwnd flying waiting backlog state");
     worked(&mut card);
     trimmed(&mut card);
-    let (mut state, flow) = card.model.state().expect("words of a state");
+    let state = card.model.state().expect("words of a state");
     let (base, avg) = (state.base, state.avg);
     card.line(&format!("base {base}, average {avg}/1024 ticks"));
+    other(&mut card);
     count(&mut card);
-    state.cwnd = 0;
-    card.model.set_state(&state, &flow);
-    let (time, bytes) = (341, 1);
-    let refused = card.model.answer(&Call::NewData { time, bytes });
+    no_flow(&mut card);
+    card.model.words[Word::Cwnd as usize] = 0;
+    let (time, flow, bytes) = (470, 0, 1);
+    let refused = card.model.answer(&Call::NewData { time, flow, bytes });
     card.line(&format!("a window of 0: {}", refused.outcome.number));
 
     let file = concat!(env!("CARGO_MANIFEST_DIR"), "/../../examples/card.out");

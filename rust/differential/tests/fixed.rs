@@ -7,8 +7,8 @@ use std::time::Instant;
 /// Under an emulator one seed in so many.
 const SHARE: u64 = if EMULATED { 20 } else { 1 };
 
-/// The numbers of a field that is refused.
-const FIELDS: [usize; 6] = [4, 20, 21, 22, 23, 24];
+/// The numbers of a field that is refused, the flow's among them.
+const FIELDS: [usize; 7] = [4, 20, 21, 22, 23, 24, 25];
 
 fn run(kind: Kind, seeds: u64) -> Tally {
     let start = Instant::now();
@@ -38,7 +38,7 @@ fn often(tally: &Tally, times: &[u64], least: u64) {
 #[test]
 fn set_up() {
     let tally = run(Kind::SetUp, 800);
-    all_met(&tally, &[0, 1, 2], 100);
+    all_met(&tally, &[0, 1, 2, 25], 100);
 }
 
 #[test]
@@ -51,17 +51,24 @@ fn streams() {
     often(&tally, &rules, 100);
     let rare = [seen.psn_wraps, seen.below_zero, seen.far_paths];
     often(&tally, &rare, 10);
+    often(&tally, &seen.flows, 1_000);
+    often(&tally, &[seen.half_wrapped], 1_000);
     often(&tally, &tally.samples, 100);
     often(&tally, &tally.statuses, 300);
-    often(&tally, &[seen.full_rings, seen.marked_ahead], 300);
+    let rings = [seen.full_rings, seen.full_beside, seen.marked_ahead];
+    often(&tally, &rings, 300);
 }
 
 #[test]
 fn logs() {
     let tally = run(Kind::Logs, 800);
-    all_met(&tally, &[0, 3, 5, 6, 8, 9, 10, 11], 20);
+    all_met(&tally, &[0, 3, 5, 6, 7, 8, 9, 10, 11], 20);
     all_met(&tally, &FIELDS, 20);
     often(&tally, &tally.samples, 100);
+    let seen = &tally.seen;
+    often(&tally, &seen.flows, 1_000);
+    let rings = [seen.full_rings, seen.full_beside, seen.half_wrapped];
+    often(&tally, &rings, 1_000);
 }
 
 #[test]
@@ -76,7 +83,9 @@ fn states() {
     often(&tally, &paths, 100);
     often(&tally, &tally.samples, 100);
     often(&tally, &tally.statuses, 1_000);
-    often(&tally, &[seen.full_rings, seen.marked_ahead], 1_000);
+    let rings = [seen.full_rings, seen.full_beside, seen.marked_ahead];
+    often(&tally, &rings, 1_000);
+    often(&tally, &seen.flows, 1_000);
 }
 
 #[test]
@@ -90,7 +99,7 @@ fn spoilt() {
 #[test]
 fn replay() {
     let tally = run(Kind::Replay, 2_400);
-    all_met(&tally, &[0, 1, 2, 3, 5, 6, 8, 9, 10, 11, 12], 5);
+    all_met(&tally, &[0, 1, 2, 3, 5, 6, 7, 8, 9, 10, 11, 12], 5);
     all_met(&tally, &FIELDS, 5);
     often(&tally, &tally.samples, 100);
 }
@@ -98,7 +107,7 @@ fn replay() {
 #[test]
 fn chunks() {
     let tally = run(Kind::Chunks, 2_000);
-    all_met(&tally, &[0, 1, 2, 3, 5, 6, 8, 9, 10, 11, 12, 28], 5);
+    all_met(&tally, &[0, 1, 2, 3, 5, 6, 7, 8, 9, 10, 11, 12, 28], 5);
     all_met(&tally, &FIELDS, 5);
     often(&tally, &tally.samples, 20);
 }
@@ -106,7 +115,7 @@ fn chunks() {
 #[test]
 fn text() {
     let tally = run(Kind::Text, 2_400);
-    all_met(&tally, &[0, 1, 3, 5, 6, 8, 9, 10, 11, 12], 5);
+    all_met(&tally, &[0, 1, 3, 5, 6, 7, 8, 9, 10, 11, 12], 5);
     all_met(&tally, &FIELDS, 5);
     often(&tally, &tally.samples, 100);
 }
@@ -120,7 +129,7 @@ fn pieces() {
 #[test]
 fn report() {
     let tally = run(Kind::Report, 1_200);
-    all_met(&tally, &[0, 1, 3, 5, 6, 8, 9, 10, 11, 12], 5);
+    all_met(&tally, &[0, 1, 3, 5, 6, 7, 8, 9, 10, 11, 12], 5);
     all_met(&tally, &FIELDS, 5);
     often(&tally, &tally.samples, 100);
 }

@@ -28,7 +28,7 @@ const HEADER: &str = "rec ans inflight cwnd flying waiting backlog state\n";
 
 /// Settings of 512 EVs, a record of 59 bytes and its length, and three records behind it.
 fn log() -> Vec<u8> {
-    let (size, psn, resend) = (4096, 0, 0);
+    let (flow, size, psn, resend) = (None, 4096, 0, 0);
     let records = [
         Record::Settings {
             numbers: E,
@@ -38,15 +38,20 @@ fn log() -> Vec<u8> {
         },
         Record::NewData {
             time: 0,
+            flow,
             bytes: 8192,
         },
         Record::Send {
             time: 10,
+            flow,
             size,
             psn,
             resend,
         },
-        Record::Path { time: 20 },
+        Record::Path {
+            time: 20,
+            flow: Some(1),
+        },
     ];
     let mut log = Vec::new();
     for record in &records {

@@ -1,8 +1,8 @@
-//! The words of the header and the model's state, there and back.
+//! The words of the header and the model's state and flows, there and back.
 
-use differential::{state_of, words_of};
+use differential::{flows_of, state_of, table_of, words_of};
 use model::{Flow, Name, Rng, Settings, State};
-use nscc::{Word, WORDS};
+use nscc::{FlowWord, Word, FLOWS_MAX, FLOW_WORDS, WORDS};
 
 #[test]
 fn every_word_is_named_in_its_place() {
@@ -22,23 +22,41 @@ fn words_and_state_are_inverse() {
             words[flag as usize] = rng.below(2);
         }
         words[Word::Phase as usize] = rng.below(4);
-        let (state, flow) = state_of(&words).expect("words of a state");
-        assert_eq!(words_of(&state, &flow), words);
-        assert_eq!(state.backlog, flow.backlog);
+        let state = state_of(&words).expect("words of a state");
+        assert_eq!(words_of(&state), words);
+    }
+}
+
+/// The same of tables, with any number of flows.
+#[test]
+fn tables_and_flows_are_inverse() {
+    let mut rng = Rng::new(1);
+    for many in 0..=FLOWS_MAX + 1 {
+        let mut table = vec![0; many * FLOW_WORDS];
+        table.fill_with(|| rng.below(1 << 32));
+        let flows = flows_of(&table).expect("words of a table");
+        assert_eq!((flows.len(), table_of(&flows)), (many, table));
+    }
+}
+
+#[test]
+fn words_that_no_table_has() {
+    let table = table_of(&[Flow::default(); 2]);
+    for length in [1, 3, 5, 7] {
+        assert_eq!(flows_of(&table[..length]), None);
+    }
+    for word in [FlowWord::Low, FlowWord::Next, FlowWord::Held] {
+        let mut table = table.clone();
+        table[FLOW_WORDS + word as usize] = 1 << 32;
+        assert_eq!(flows_of(&table), None);
     }
 }
 
 #[test]
 fn words_that_no_state_has() {
-    let words = words_of(&State::default(), &Flow::default());
+    let words = words_of(&State::default());
     assert_eq!(state_of(&words[1..]), None);
-    let narrow = [
-        Word::FirstPsn,
-        Word::Low,
-        Word::Next,
-        Word::Held,
-        Word::EvCount,
-    ];
+    let narrow = [Word::FirstPsn, Word::EvCount];
     let flags = [Word::QuickAdaptOff, Word::Fast, Word::Trigger];
     let wide = narrow.map(|word| (word, 1 << 32));
     let strange = flags.map(|word| (word, 2));
@@ -53,27 +71,31 @@ fn words_that_no_state_has() {
 /// Written out against include/nscc.h by hand.
 #[test]
 fn some_words_by_number() {
-    let settings = Settings::default().with_evs(39);
-    let flow = Flow {
-        low: 14,
-        next: 15,
-        held: 16,
-        backlog: 17,
-    };
+    let settings = Settings::default().with_evs(36);
     let state = State {
         settings,
-        backlog: 17,
-        flying: 18,
+        backlog: 14,
+        flying: 15,
+        marked: 16,
+        marked_bytes: 17,
         in_flight: -5,
-        cwnd: 22,
-        clock: 36,
-        cursor: 37,
+        cwnd: 19,
+        clock: 33,
+        cursor: 34,
         name: Name::Active,
         ..State::default()
     };
-    let words = words_of(&state, &flow);
-    for i in [14, 15, 16, 17, 18, 22, 36, 37, 39] {
+    let words = words_of(&state);
+    for i in [14, 15, 16, 17, 19, 33, 34, 36] {
         assert_eq!(words[i], i as u64);
     }
-    assert_eq!((words[21], words[38]), (16_777_211, 3));
+    assert_eq!((words[18], words[35]), (16_777_211, 3));
+    let flow = Flow {
+        low: 4,
+        next: 5,
+        held: 6,
+        backlog: 7,
+    };
+    let table = table_of(&[Flow::default(), flow]);
+    assert_eq!(table, [0, 0, 0, 0, 4, 5, 6, 7]);
 }

@@ -1,9 +1,8 @@
-use super::capacity;
-use super::replay::report;
-use super::streams::used;
+use super::replay::{report, used_or_spoilt};
 use crate::call::answer_of;
-use crate::logs::{damage, evs_for, generated, long, CAPACITY, LONG_EVERY};
+use crate::logs::{damage, evs_for, generated, long, LONG_EVERY};
 use crate::numbers::edge;
+use crate::shape::Shape;
 use crate::sides::{same, Fenced, Model, Ours, ODD};
 use crate::spoil::{spoil, spoil_length};
 use crate::tally::Tally;
@@ -18,19 +17,19 @@ const UNSOUND: u8 = Refusal::NotTogether as u8;
 
 pub fn run(seed: u64, tally: &mut Tally) -> Result<(), String> {
     let mut rng = Rng::new(seed);
-    let (log, capacity) = if seed.is_multiple_of(LONG_EVERY) {
-        (long(seed), CAPACITY)
+    let (log, shape) = if seed.is_multiple_of(LONG_EVERY) {
+        (long(seed), Shape::PROGRAM)
     } else {
         let records = rng.pick(&[5, 40, 600, 1_000]);
         let log = generated(&mut rng, records);
         let damaged = damage(&mut rng, &log);
         (
             if rng.one_in(3) { log } else { damaged },
-            capacity(&mut rng),
+            Shape::for_log(&mut rng),
         )
     };
     let evs = evs_for(&mut rng, &log);
-    let start = used(&mut rng, capacity, evs);
+    let start = used_or_spoilt(&mut rng, shape, evs);
     let cuts = rng.next_u64();
     tally.cases += 1;
     compare(&log, &start, cuts, tally).map_err(|difference| {
@@ -205,7 +204,7 @@ impl Chunks {
         let any = edge(rng) as u8;
         let i = rng.below(self.piece.len() as u64) as usize;
         if let Some(byte) = self.piece.get_mut(i) {
-            *byte = rng.pick(&[0, 1, 6, 10, 16, 55, 59, any]);
+            *byte = rng.pick(&[0, 1, 6, 10, 11, 16, 33, 38, 55, 59, any]);
         }
     }
 

@@ -1,7 +1,7 @@
 use crate::call::Call;
-use crate::logs::{generated, CAPACITY};
+use crate::logs::generated;
 use crate::session::Session;
-use crate::sides::Model;
+use crate::shape::Shape;
 use crate::tally::Tally;
 use model::replay::evs_lent;
 use model::{Reader, Rng};
@@ -11,7 +11,9 @@ pub fn run(seed: u64, tally: &mut Tally) -> Result<(), String> {
     let mut rng = Rng::new(seed);
     let log = generated(&mut rng, 1_500);
     let mut reader = Reader::new(&log);
-    let mut session = Session::new(Model::with_evs(CAPACITY, evs_lent(&log)));
+    let other = Shape::for_log(&mut rng);
+    let shape = rng.pick(&[Shape::PROGRAM, Shape::PROGRAM, other]);
+    let mut session = Session::new(shape.model(evs_lent(&log)));
     tally.cases += 1;
     while let Ok(Some(record)) = reader.next_record() {
         let settings = record.settings().map(|settings| Call::set_up(&settings));

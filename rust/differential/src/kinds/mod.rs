@@ -11,7 +11,6 @@ mod streams;
 pub mod text;
 
 use crate::tally::Tally;
-use model::Rng;
 
 #[derive(Clone, Copy, Debug, PartialEq, Eq)]
 pub enum Kind {
@@ -82,10 +81,4 @@ impl Kind {
             Kind::Report => text::run_report(seed, tally),
         }
     }
-}
-
-/// The smallest rings are the fastest to compare and the first to wrap: those of one and of two words
-/// of bits.
-fn capacity(rng: &mut Rng) -> usize {
-    rng.pick(&[64, 64, 64, 128, 128, 256, 1_024, 4_096])
 }

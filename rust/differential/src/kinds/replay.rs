@@ -1,11 +1,11 @@
-use super::capacity;
 use super::streams::used;
 use crate::call::answer_of;
-use crate::logs::{damage, evs_for, generated, long, pieces, CAPACITY, LONG_EVERY};
+use crate::logs::{damage, evs_for, generated, long, pieces, LONG_EVERY};
 use crate::numbers::edge;
+use crate::shape::Shape;
 use crate::shorten::{prefix, thin};
 use crate::sides::{Model, Ours};
-use crate::spoil::spoil;
+use crate::spoil::{spoil, spoil_length};
 use crate::tally::Tally;
 use model::replay::Replay;
 use model::{Outcome, Record, Rng};
@@ -19,18 +19,18 @@ const MALFORMED: u8 = 12;
 
 pub fn run(seed: u64, tally: &mut Tally) -> Result<(), String> {
     let mut rng = Rng::new(seed);
-    let (log, capacity) = if seed.is_multiple_of(LONG_EVERY) {
-        (long(seed), CAPACITY)
+    let (log, shape) = if seed.is_multiple_of(LONG_EVERY) {
+        (long(seed), Shape::PROGRAM)
     } else {
         let log = generated(&mut rng, 1_000);
         let damaged = damage(&mut rng, &log);
         (
             if rng.one_in(3) { log } else { damaged },
-            capacity(&mut rng),
+            Shape::for_log(&mut rng),
         )
     };
     let evs = evs_for(&mut rng, &log);
-    let start = used(&mut rng, capacity, evs);
+    let start = used_or_spoilt(&mut rng, shape, evs);
     let rooms = rng.next_u64();
     tally.cases += 1;
     compare(&log, &start, rooms, tally).map_err(|difference| {
@@ -40,6 +40,17 @@ pub fn run(seed: u64, tally: &mut Tally) -> Result<(), String> {
         };
         report(&log, &difference, fails)
     })
+}
+
+/// Memory that was used, seldom with lengths that the first record has to refuse.
+pub fn used_or_spoilt(rng: &mut Rng, shape: Shape, evs: usize) -> Model {
+    let mut start = used(rng, shape, evs);
+    if rng.one_in(16) {
+        spoil_length(rng, &mut start);
+        // The state's words are the call's own matter.
+        start.words.resize(WORDS, 0);
+    }
+    start
 }
 
 /// The shortest prefix of the log that fails, then without the records that it does not need.

@@ -1,8 +1,8 @@
-use super::capacity;
 use super::streams::used;
 use crate::call::Call;
 use crate::numbers::{any_ev_count, edge, instead_of, lent_evs, settings};
 use crate::session::Session;
+use crate::shape::Shape;
 use crate::spoil::spoil_length;
 use crate::tally::Tally;
 use model::{Rng, Settings};
@@ -16,10 +16,10 @@ pub fn run(seed: u64, tally: &mut Tally) -> Result<(), String> {
 }
 
 fn one(rng: &mut Rng, tally: &mut Tally) -> Result<(), String> {
-    let capacity = capacity(rng);
+    let shape = Shape::any(rng);
     let (call, asked) = call(rng);
     let evs = lent_evs(rng, asked);
-    let mut start = used(rng, capacity, evs);
+    let mut start = used(rng, shape, evs);
     if rng.one_in(3) {
         spoil_length(rng, &mut start);
     }
@@ -29,7 +29,10 @@ fn one(rng: &mut Rng, tally: &mut Tally) -> Result<(), String> {
     // The fresh state, or what was refused, in use.
     for _ in 0..3 {
         let time = rng.below(3);
-        session.call(Call::Path { time }, tally)?;
+        // The last flow, the first behind it, or any.
+        let any = rng.below(10) as usize;
+        let flow = rng.pick(&[shape.flows - 1, shape.flows, any]);
+        session.call(Call::Path { time, flow }, tally)?;
     }
     Ok(())
 }

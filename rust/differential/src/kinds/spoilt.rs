@@ -1,7 +1,7 @@
-use super::capacity;
 use crate::call::Call;
 use crate::profile::PROFILES;
 use crate::session::Session;
+use crate::shape::Shape;
 use crate::sides::Model;
 use crate::sound::sound;
 use crate::source::Source;
@@ -18,10 +18,10 @@ pub fn run(seed: u64, tally: &mut Tally) -> Result<(), String> {
 }
 
 fn on_made_up(mut rng: Rng, tally: &mut Tally) -> Result<(), String> {
-    let capacity = capacity(&mut rng);
-    let start = sound(&mut rng, capacity);
+    let shape = Shape::any(&mut rng);
+    let start = sound(&mut rng, shape);
     let profile = rng.pick(&PROFILES);
-    let mut source = Source { rng, profile };
+    let mut source = Source::new(rng, profile);
     for _ in 0..5 {
         one(&mut source, &start, tally)?;
     }
@@ -32,10 +32,10 @@ fn on_made_up(mut rng: Rng, tally: &mut Tally) -> Result<(), String> {
 fn on_stream(mut rng: Rng, tally: &mut Tally) -> Result<(), String> {
     let profile = rng.pick(&PROFILES);
     let settings = profile.settings(&mut rng);
-    let capacity = capacity(&mut rng);
-    let mut model = Model::with_evs(capacity, settings.ev_count as usize);
+    let shape = Shape::any(&mut rng);
+    let mut model = shape.model(settings.ev_count as usize);
     model.answer(&Call::set_up(&settings));
-    let mut source = Source { rng, profile };
+    let mut source = Source::new(rng, profile);
     for _ in 0..100 {
         for _ in 0..5 {
             let call = source.next(&model);

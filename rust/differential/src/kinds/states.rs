@@ -1,6 +1,6 @@
-use super::capacity;
 use crate::profile::PROFILES;
 use crate::session::Session;
+use crate::shape::Shape;
 use crate::sound::sound;
 use crate::source::Source;
 use crate::tally::Tally;
@@ -16,14 +16,17 @@ pub fn run(seed: u64, tally: &mut Tally) -> Result<(), String> {
 
 /// A few calls on a made-up state.
 fn one(mut rng: Rng, tally: &mut Tally) -> Result<(), String> {
-    let capacity = capacity(&mut rng);
-    let mut start = sound(&mut rng, capacity);
+    let shape = Shape::any(&mut rng);
+    let mut start = sound(&mut rng, shape);
     if !start.sound() {
-        return Err(format!("a made-up state is not sound: {:?}", start.state()));
+        let (state, flows) = (start.state(), start.flows());
+        return Err(format!(
+            "a made-up state is not sound: {state:?}, {flows:?}"
+        ));
     }
     let profile = rng.pick(&PROFILES);
     let calls = rng.between(1, 24);
-    let mut source = Source { rng, profile };
+    let mut source = Source::new(rng, profile);
     let mut session = Session::new(start);
     tally.cases += 1;
     for _ in 0..calls {
