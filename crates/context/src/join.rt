@@ -108,7 +108,8 @@ pub(crate) fn no_flow(time: u64, clock: u64) -> Verdict
 }
 
 // The record of flow k becomes f where its event was accepted; a refused one leaves it as it was. Behind a store that both make, the
-// compiler would no longer know of any answer whether it is 0.
+// compiler would no longer know of any answer whether it is 0. An inner step: the caller proves that there is such a flow, and that f is
+// the record that stands there where the event was refused.
 pub(crate) fn keep(flows: &mut [u64], k: usize, f: Flow, verdict: Verdict)
     requires { ⌜ k < countOf (now flows) ⌝ }
     requires { ⌜ ((numberOf verdict ≡ 0 → ⊥) → f ≡ flowAt (now flows) k) ⌝ }

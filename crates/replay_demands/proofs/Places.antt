@@ -1,4 +1,4 @@
--- The turn with k turns before it: its record's number, the world that it leaves, the number that it answers. Assumes nothing.
+-- The turn with k turns before it: its record's number, the context that it leaves, the number that it answers. Assumes nothing.
 use mathlib.Core.Path.{_≡_, refl, sym, ap, _∙_}
 use mathlib.Core.Logic.{_⊎_, inl, inr, ⊎-elim}
 use mathlib.Core.Bool.{Bool, true, false, false≢true}
@@ -95,7 +95,7 @@ counted log (suc k) p w t there = later-counted log p w t k (λ q v. counted log
 pub record-counted : RecordCounted
 record-counted log lent k t there = omega (arith, counted log k start lent t there)
 
--- ---- the world and the number
+-- ---- the context and the number
 
 at-answer : (es : List Flowed) (w : Context) (n k : ℕ) (a : Answered) → getElem? (answers w es ++ stop n (run w es)) k ≡ some a
     → a .after ≡ run w (take (suc k) es)

@@ -33,8 +33,8 @@ pub const READY: u32 = 2;
 
 pub const ACTIVE: u32 = 3;
 
-// One flow's record beside what all flows share: what its step works on. Numbers of 32 bits stand in pairs, here and in its parts, so that it has no gaps: docs/DECISIONS.md, "A
-// state with no gaps".
+// One flow's record beside what all flows share: what its step works on. Numbers of 32 bits stand in pairs, here and in its parts, so that
+// it has no gaps: docs/DECISIONS.md, "A state with no gaps".
 pub struct Controller {
     pub settings: Settings,
     pub flow: Flow,
