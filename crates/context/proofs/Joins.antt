@@ -7,6 +7,7 @@ use Prim.Native.Nat.{ℕ, _+_, _-_, _*_, _/_, _≤_, _<_}
 use native.Mathlib.Omega.{arith}
 use lib.ListN.{length, take, drop, take-append-drop}
 use Rattle.ledger.specs.Memory.{Memory, memory}
+use Rattle.ledger.specs.Sound.{isCapacity}
 use Rattle.ledger.specs.declared.Flow.{Flow}
 use Rattle.flow_table.specs.Words.{flowsMost, Fits}
 use Rattle.flow_table.specs.Parts.{wordsIn, putPart}
@@ -18,7 +19,7 @@ use Rattle.sender.specs.declared.Controller.{Controller as Sender}
 use Rattle.context.specs.Context.{Context, context, flowCount, capIn, flowIn, joinedOf, sharedOf, worldAt, putWorld}
 use Rattle.context.specs.Sound.{soundContext}
 use Rattle.context.specs.Walk.{Parted}
-use Rattle.context.proofs.Walks.{all-few, laid}
+use Rattle.context.proofs.Walks.{laid}
 use Rattle.context.proofs.Sounds.{SoundContext, context-facts, flow-facts, one-holds}
 
 -- the bits of flow k's part are the words from..end-1, its slots at..to-1
@@ -37,9 +38,6 @@ pub record Lies (x : Context) (k from end at to : ℕ) : Type 0 where
 module _ (x : Context) (S : SoundContext x) where
   pub sound-parted : Parted (capIn x) (x .flows) (x .slots)
   sound-parted = record { few = S .table .few; cap-ok = S .cap; cut = S .cut }
-
-  pub few-slots : length (x .slots .sizes) ≤ 32768
-  few-slots = all-few (capIn x) (x .flows) (x .slots) sound-parted
 
   module _ (k : ℕ) (h : k < flowCount x) where
     pub flow-fits : Fits (x .flows) k
@@ -77,8 +75,9 @@ pub record Here (x : Context) (k from end at to : ℕ) : Type 0 where
 
 -- of a flow below the count that the code took: what its cut requires, and what is had once it is made
 module _ (x : Context) {k n : ℕ} (pre : soundContext x ≡ true) (count : n ≡ flowCount x) (h : k < n) where
-  pub cut-asks : (k < n) × (n ≤ flowsMost) × (length (x .slots .sizes) ≤ 32768)
-  cut-asks = let S = context-facts x pre in (h, omega (arith, S .table .few), few-slots x S)
+  pub cut-asks : (k < n) × (n ≤ flowsMost) × (isCapacity (length (x .slots .sizes) / n) ≡ true)
+      × (length (x .slots .sizes) ≡ n * (length (x .slots .sizes) / n))
+  cut-asks = let S = context-facts x pre in (h, omega (arith, S .table .few), rw count (S .cap), rw count (S .cut .sizes))
 
   pub cut-here : {from end at to : ℕ} → (from ≡ k * wordsIn (length (x .slots .sizes) / n))
       × (end ≡ k * wordsIn (length (x .slots .sizes) / n) + wordsIn (length (x .slots .sizes) / n))

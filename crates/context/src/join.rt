@@ -7,9 +7,10 @@ ghost use mathlib.Core.Path.{_≡_};
 ghost use Prim.Native.Nat.{_+_, _*_, _/_, _<_, _≤_};
 ghost use Rattle.rules.specs.Branch.{ifSo};
 ghost use Rattle.rules.specs.Verdict.{numberOf};
-ghost use mathlib.Core.Bool.{_||_};
+ghost use mathlib.Core.Bool.{true, _||_};
 ghost use lib.Dec.{ltb, leb};
 ghost use Rattle.window.specs.Limits.{timeEnd};
+ghost use Rattle.ledger.specs.Sound.{isCapacity};
 ghost use Rattle.flow_table.specs.Parts.{wordsIn};
 ghost use Rattle.flow_table.specs.Words.{flowsMost, countOf, flowAt, withFlow};
 ghost use Rattle.context.specs.Context.{joinedOf, sharedOf};
@@ -88,13 +89,22 @@ pub(crate) fn cut_at(cap: usize, k: usize) -> Cut
     }
 }
 
-// The cut of flow k, of n flows that share so many slots.
+// How many slots each of n rings has that fill so many: a power of two, so the highest bits tell it. A division would wait for the test
+// that there is a flow; this does not, and a replay works it out once and not for each record (docs/PERFORMANCE.md).
+fn capacity(slots: usize, n: usize) -> usize
+    requires { ⌜ (0 < n) × (n ≤ flowsMost) × (isCapacity (slots / n) ≡ true) × (slots ≡ n * (slots / n)) ⌝ }
+    ensures { λ r. ⌜ r ≡ slots / n ⌝ }
+{
+    1 << (usize::leading_zeros(n) - usize::leading_zeros(slots))
+}
+
+// The cut of flow k, of n flows whose rings fill so many slots.
 pub(crate) fn cut_of(slots: usize, n: usize, k: usize) -> Cut
-    requires { ⌜ (k < n) × (n ≤ flowsMost) × (slots ≤ 32768) ⌝ }
+    requires { ⌜ (k < n) × (n ≤ flowsMost) × (isCapacity (slots / n) ≡ true) × (slots ≡ n * (slots / n)) ⌝ }
     ensures { λ r. ⌜ (r .from ≡ k * wordsIn (slots / n)) × (r .end ≡ k * wordsIn (slots / n) + wordsIn (slots / n))
         × (r .at ≡ k * (slots / n)) × (r .to ≡ k * (slots / n) + slots / n) ⌝ }
 {
-    cut_at(share(slots, n), k)
+    cut_at(capacity(slots, n), k)
 }
 
 // A flow out of range: 3, then 25.

@@ -29,9 +29,10 @@ use Rattle.ledger.proofs.Walks.{length-tabulate, getD-tabulate}
 
 -- ---- capacities
 
--- what the laws use of a capacity: its bounds, that it divides 2^32, so that PSNs that wrap keep their places, that it is whole words of
--- bits, and that a remainder is a mask
+-- what the laws use of a capacity: that it is a power of two, its bounds, that it divides 2^32, so that PSNs that wrap keep their places,
+-- that it is whole words of bits, and that a remainder is a mask
 pub record Cap (n : ℕ) : Type 0 where
+  pub power : (j : ℕ) × (n ≡ 2 ^ j)
   pub least : 64 ≤ n
   pub most : n ≤ 4096
   pub divides : psns % n ≡ 0
@@ -40,7 +41,9 @@ pub record Cap (n : ℕ) : Type 0 where
 
 cap-is : (j : ℕ) → 64 ≤ 2 ^ j → 2 ^ j ≤ 4096 → psns % 2 ^ j ≡ 0 → 2 ^ j / wordBits * wordBits ≡ 2 ^ j → (n : ℕ)
     → eqb n (2 ^ j) ≡ true → Cap n
-cap-is j a b d w n e = rw (eqb-true n (2 ^ j) e) (record { least = a; most = b; divides = d; words = w; masks = λ p. and-mask p j })
+cap-is j a b d w n e =
+    rw (eqb-true n (2 ^ j) e)
+    (record { power = (j, refl); least = a; most = b; divides = d; words = w; masks = λ p. and-mask p j })
 
 -- either part of a test holds where the whole does
 either : {n : ℕ} (a b : Bool) → (a ≡ true → Cap n) → (b ≡ true → Cap n) → (a || b) ≡ true → Cap n

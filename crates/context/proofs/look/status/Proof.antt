@@ -15,7 +15,7 @@ use Rattle.context.specs.Sound.{soundContext}
 use Rattle.context.specs.Look.{onStatus}
 use Rattle.context.proofs.Walks.{Laid, laid, laid-part}
 use Rattle.context.proofs.Sounds.{SoundContext, context-facts}
-use Rattle.context.proofs.Joins.{sound-parted, few-slots, flow-fits}
+use Rattle.context.proofs.Joins.{sound-parted, cut-asks, flow-fits}
 use Rattle.context.proofs.Looks.{look-unsound, look-no-flow, look-found, look-lengths}
 use Rattle.context.proofs.look.status.Statement.{statement}
 use Rattle.context.proofs.look.status.Tie as tie
@@ -86,8 +86,7 @@ returns-2 c =
 cut-of-requires : tie.Need-cut-of-requires
 cut-of-requires c κs =
     let n = c .before in
-    let S = facts n in
-    (c .if2 .left, omega (arith, n .count .ensures, S .table .few), few-slots (handed (start n)) S)
+    cut-asks (handed (start n)) (holds n) (n .count .ensures) (c .if2 .left)
 
 flow-at-requires : tie.Need-flow-at-requires
 flow-at-requires c κs =
