@@ -82,7 +82,7 @@ behind =
     log.NewData 0 First 8192
     ∷ log.Send 10 First 4096 0 0
     ∷ log.Send 20 First 4096 2 0
-    ∷ log.Ack 110 First 0 0 0 16 4 0 0
+    ∷ log.Ack 110 First 0 0 16 4 0 0 0
     ∷ log.NewData 110 (Flow 1) 4096
     ∷ log.Send 120 (Flow 1) 4096 0 0
     ∷ log.Send 120 (Flow 2) 4096 0 0

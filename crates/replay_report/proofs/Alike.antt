@@ -152,7 +152,7 @@ ackRow whose = rowBy whose ack ackOf
 
 module _ (at : ℕ) (bs : List ℕ) (time cum map trigger count service ev flags next : ℕ) where
   abbrev heard : Whose → Record
-  heard whose = Ack time whose cum map trigger count service ev flags
+  heard whose = Ack time whose cum trigger count service ev flags map
 
   -- the ACK's key stands there, and its row is whole
   abbrev Acked : Whose → Type 0
@@ -216,7 +216,7 @@ module _ (at : ℕ) (bs : List ℕ) (time cum map trigger count service ev flags
     Unserved whose = Alike bs cs 0 (serviceFirst whose) × Alike bs cs (serviceLast whose + 1) (next - at)
 
     abbrev other : Whose → Record
-    other whose = Ack time whose cum map trigger count (numberAt cs (serviceFirst whose) 4) ev flags
+    other whose = Ack time whose cum trigger count (numberAt cs (serviceFirst whose) 4) ev flags map
 
     -- a field before the service time, and one behind it
     field-before : (whose : Whose) → Unserved whose → (from width : ℕ) → from + width ≤ serviceFirst whose
@@ -325,16 +325,16 @@ module _ (log other : List ℕ) (at : ℕ) (long : length log ≡ length other) 
 
   -- an ACK whose bytes are alike but for its service time is the same but for that
   module _ (time : ℕ) (whose : Whose) (cum map trigger count service ev flags next : ℕ)
-      (e : parseAt log at ≡ Whole (Ack time whose cum map trigger count service ev flags) next) where
+      (e : parseAt log at ≡ Whole (Ack time whose cum trigger count service ev flags map) next) where
     pub ack-past : at + serviceLast whose < next
     ack-past =
         ack-long at (drop at log) time cum map trigger count service ev flags next whose
         (ack-told at (drop at log) time cum map trigger count service ev flags next whose (parse-front log at _ next e .1))
 
     pub ack-alike : Alike log other at (at + serviceFirst whose) → Alike log other (at + serviceLast whose + 1) next
-        → parseAt other at ≡ Whole (Ack time whose cum map trigger count (numberAt (drop at other) (serviceFirst whose) 4) ev flags) next
+        → parseAt other at ≡ Whole (Ack time whose cum trigger count (numberAt (drop at other) (serviceFirst whose) 4) ev flags map) next
     ack-alike before behind =
-        let f = parse-front log at (Ack time whose cum map trigger count service ev flags) next e in
+        let f = parse-front log at (Ack time whose cum trigger count service ev flags map) next e in
         front-parse other at _ next (omega (arith, f .0))
         (front-other at (drop at log) time cum map trigger count service ev flags next (drop at other) drop-long whose (
           λ i _ h. drop-alike i (before (at + i) (omega arith) (omega arith)),

@@ -81,7 +81,7 @@ record-late : (r : Record) (at i : ℕ) → i < at + early → servedBy r at i �
 unfolding servedBy
 record-late (rec.NewData time whose bytes) at i h = refl
 record-late (rec.Send time whose size psn resend) at i h = refl
-record-late (rec.Ack time whose cum map trigger count service ev flags) at i h = outside _ i _ (λ low _. omega arith)
+record-late (rec.Ack time whose cum trigger count service ev flags map) at i h = outside _ i _ (λ low _. omega arith)
 record-late (rec.Nack time whose psn ev reason flags) at i h = refl
 record-late (rec.Loss time whose psn ev) at i h = refl
 record-late (rec.Path time whose) at i h = refl
@@ -218,14 +218,14 @@ module _ (log other : List ℕ) (long : length log ≡ length other) where
       match-other no-ack = match-same (λ i. of-service i (no-ack i))
 
     match-ack : (time : ℕ) (whose : Whose) (cum map trigger count service ev flags next : ℕ)
-        → parseAt log (p .at) ≡ parsed.Whole (rec.Ack time whose cum map trigger count service ev flags) next
+        → parseAt log (p .at) ≡ parsed.Whole (rec.Ack time whose cum trigger count service ev flags map) next
         → (b : Bool) → isAmbiguous (turnOf (logged log) p w) ≡ b → Match p w
     unfolding foundIn servedBy
     match-ack time whose cum map trigger count service ev flags next q false amb =
-        match-same (rec.Ack time whose cum map trigger count service ev flags) next q
+        match-same (rec.Ack time whose cum trigger count service ev flags map) next q
         (λ i. not-both (isAmbiguous (turnOf (logged log) p w)) _ (λ a. wrong (sym amb ∙ a)))
     match-ack time whose cum map trigger count service ev flags next q true amb =
-        let r = rec.Ack time whose cum map trigger count service ev flags in
+        let r = rec.Ack time whose cum trigger count service ev flags map in
         let past = ack-past log other (p .at) long time whose cum map trigger count service ev flags next q in
         let free : (i : ℕ) → (p .at + serviceFirst whose ≤ i → i ≤ p .at + serviceLast whose → ⊥)
         → ambiguousByte log p (turnOf (logged log) p w) i ≡ false
@@ -243,7 +243,7 @@ module _ (log other : List ℕ) (long : length log ≡ length other) where
     unfolding servedBy
     match-whole (rec.NewData time whose bytes) next q = match-other _ next q (λ i. refl)
     match-whole (rec.Send time whose size psn resend) next q = match-other _ next q (λ i. refl)
-    match-whole (rec.Ack time whose cum map trigger count service ev flags) next q =
+    match-whole (rec.Ack time whose cum trigger count service ev flags map) next q =
         match-ack time whose cum map trigger count service ev flags next q (isAmbiguous (turnOf (logged log) p w)) refl
     match-whole (rec.Nack time whose psn ev reason flags) next q = match-other _ next q (λ i. refl)
     match-whole (rec.Loss time whose psn ev) next q = match-other _ next q (λ i. refl)

@@ -94,7 +94,7 @@ written (r ∷ rs) = recordBytes r ++ written rs
 
 -- an ACK of PSN 0 at 140, with the retx flag clear and this service time
 abbrev acked : Whose → ℕ → Record
-acked whose service = Ack 140 whose 0 0 0 16 service 0 0
+acked whose service = Ack 140 whose 0 0 16 service 0 0 0
 
 abbrev ackedBehind : List Record → Whose → ℕ → List ℕ
 ackedBehind rs whose service = written rs ++ recordBytes (acked whose service)

@@ -36,7 +36,7 @@ serviceLast whose = serviceFirst whose + 3
 unfoldable pub servedBy : Record → ℕ → ℕ → Bool
 servedBy (NewData time whose bytes) at i = false
 servedBy (Send time whose size psn resend) at i = false
-servedBy (Ack time whose cum map trigger count service ev flags) at i = inside (at + serviceFirst whose) i (at + serviceLast whose)
+servedBy (Ack time whose cum trigger count service ev flags map) at i = inside (at + serviceFirst whose) i (at + serviceLast whose)
 servedBy (Nack time whose psn ev reason flags) at i = false
 servedBy (Loss time whose psn ev) at i = false
 servedBy (Path time whose) at i = false

@@ -70,7 +70,8 @@ pub struct Routed {
     pub ev: u32,
 }
 
-// Events, with fields wide enough for what firmware hands in wrongly.
+// Events, with fields wide enough for what firmware hands in wrongly. An ACK's map stands behind what a send and a NACK have: an event of
+// any kind is kept in the same bytes, and what would stand over the map's would cut it in pieces (docs/PERFORMANCE.md).
 pub struct Send {
     pub psn: u32,
     pub size: u32,
@@ -79,10 +80,10 @@ pub struct Send {
 
 pub struct Ack {
     pub cum: u32,
-    pub map: u64,
     pub trigger: u32,
     pub count: u32,
     pub service: u32,
+    pub map: u64,
     pub ev: u32,
     pub marked: bool,
     pub retx: bool,
