@@ -18,8 +18,8 @@ use Rattle.bits.specs.Bits.{bitAt}
 use Rattle.serial.specs.Psn.{plus, covered, backOf, spanOf}
 use Rattle.serial.specs.Count.{counts, isOld}
 use Rattle.serial.proofs.Cover.{plus-lt, minus-step, sent-facts}
-use Rattle.ledger.specs.Packets.{doneStatus, noPacket, withStatus, isOut, flyingOne, markedOne, markedSize, sumOf, coverOne, coverAll}
-use Rattle.ledger.specs.Packets.{coveredSum, doneRun}
+use Rattle.ledger.specs.Packets.{doneStatus, noPacket, withStatus, isDone, isOut, flyingOne, markedOne, markedSize, sumOf, coverOne}
+use Rattle.ledger.specs.Packets.{coverAll, coveredSum, doneRun}
 use Rattle.ledger.specs.Bounds.{Flown}
 use Rattle.ledger.specs.Ring.{Ring, Ledger, ledger, capOf, packetAt, placeOf, laid, queueOf, longOf, packets}
 use Rattle.ledger.specs.Memory.{Memory, shown, ledgerShown, kept, keptOf, Words}
@@ -34,7 +34,7 @@ use Rattle.ledger.proofs.Geometry.{cap-facts, laid-cap, laid-at, queue-
 use Rattle.ledger.proofs.Facts.{Live, live-later, Facts, packets-long, stands-facts, stands-laid, packets-laid}
 use Rattle.ledger.proofs.Facts.{sound-ledger-parts, sound-ledger-whole, sound-ledger-facts}
 use Rattle.ledger.proofs.Queues.{OfOut, flying-out, marked-out, bytes-out, cover-long, cover-each, cover-sum, run-adds, run-le}
-use Rattle.ledger.proofs.Queues.{run-next}
+use Rattle.ledger.proofs.Queues.{cover-no, cover-at, run-next, run-first}
 use Rattle.ledger.proofs.Signs.{word, flown-word, flown-less, sound-ledger-flown}
 use Rattle.ledger.proofs.Judging.{ack-facts}
 use Rattle.ledger.proofs.Shows.{stands-lengths, stands-words, kept-is}
@@ -120,6 +120,31 @@ module _ {f : Flow} {t : Totals} {n : ℕ} (m : Memory) (K : SoundLedger (ledger
     unfolding after
     after-long = covered-long (covered cum map) f (shown (f .low) (f .next) m) ∙ sym is-long
 
+    -- the packets of the ring that the covering leaves
+    queue-after : queueOf r (f .low) n ≡ after
+    unfolding after
+    queue-after =
+        let ring : Ring = shown (f .low) (f .next) m in
+        let cap : capOf ring ≡ slots m = even-cap (f .low) (f .next) (stood .lengths) in
+        ap (λ (x : Ring). queueOf x (f .low) n) (D .ring-is)
+        ∙ queue-laid (capOf ring) (rw cap (caps stood)) (f .low) after n after-long (omega (arith, stood .fits, is-long))
+
+    -- an ACK that reaches no packet leaves low as it was, not done
+    pub none-done : {far : ℕ} → Reached m f t far cum map → far ≡ 0 → doneRun (queueOf r (f .low) n) ≡ 0
+    unfolding after
+    none-done A z =
+        let F = sound-ledger-facts K in
+        let xs : List Packet = packets f (shown (f .low) (f .next) m) in
+        ap doneRun queue-after
+        ∙ run-first after
+        (λ h.
+        let some : 0 < longOf f = omega (arith, after-long, is-long) in
+        ap isDone
+        (cover-at (covered cum map) (f .low) 0 xs (F .low-psn) (omega (arith, packets-long f (shown (f .low) (f .next) m)))
+        ∙ ap (λ (hit : Bool). coverOne hit (getD xs 0 noPacket)) (A .beyond 0 (omega arith) (omega arith))
+        ∙ cover-no (getD xs 0 noPacket))
+        ∙ F .head some)
+
     -- together they give the definition
     stepped : (count : ℕ) {gone low held bytes : ℕ} {z : ℤ} {s : Ring} → Retired r (f .low) n gone s
         → low ≡ plus (f .low) gone
@@ -130,10 +155,7 @@ module _ {f : Flow} {t : Totals} {n : ℕ} (m : Memory) (K : SoundLedger (ledger
     unfolding after acknowledgeOf
     stepped count {gone} R el eh eb ez =
         let ring : Ring = shown (f .low) (f .next) m in
-        let cap : capOf ring ≡ slots m = even-cap (f .low) (f .next) (stood .lengths) in
-        let q : queueOf r (f .low) n ≡ after =
-        ap (λ (x : Ring). queueOf x (f .low) n) (D .ring-is)
-        ∙ queue-laid (capOf ring) (rw cap (caps stood)) (f .low) after n after-long (omega (arith, stood .fits, is-long)) in
+        let q : queueOf r (f .low) n ≡ after = queue-after in
         let g : gone ≡ doneRun after = R .run ∙ ap doneRun q in
         let c : capOf r ≡ capOf ring = ap capOf (D .ring-is) ∙ laid-cap (capOf ring) (f .low) after in
         rw (el, eh, ez, word (u .«in_flight») flown, eb, D .flying, D .marked, D .bytes, D .backlog, D .in-flight, R .ring-is, c, q, g)

@@ -247,6 +247,11 @@ run-none : (x : Packet) (xs : List Packet) → isDone x ≡ false → doneRun (x
 unfolding doneRun isDone ifEq
 run-none x xs e = rw e
 
+-- the run is empty where the queue does not begin with a done packet
+pub run-first : (xs : List Packet) → (0 < length xs → isDone (getD xs 0 noPacket) ≡ false) → doneRun xs ≡ 0
+run-first [] h = run-empty
+run-first (x ∷ xs) h = run-none x xs (h (suc-le-suc zero-le))
+
 module _ (c d : ℕ → Bool) where
   -- a queue that c has covered, and one that either has: once d comes too, as many packets leave and the same are left
   abbrev Alike : ℕ → List Packet → List Packet → Type 0

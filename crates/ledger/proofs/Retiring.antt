@@ -19,15 +19,16 @@ use Rattle.serial.specs.Wrap.{minus}
 use Rattle.serial.specs.Psn.{psns, plus}
 use Rattle.serial.proofs.Cover.{minus-step}
 use Rattle.ledger.specs.Packets.{doneStatus, noPacket, isDone, doneRun}
-use Rattle.ledger.specs.Ring.{ageOf, placeOf, packetAt, laid, longOf, packets}
+use Rattle.ledger.specs.Ring.{Ring, ageOf, placeOf, capOf, packetAt, laid, queueOf, longOf, packets}
 use Rattle.ledger.specs.Memory.{Memory, memory, slotsOf, sizeIn, resentIn, inWindow, statusOf, shown, Words}
 use Rattle.ledger.specs.Sound.{Lengths}
 use Rattle.ledger.specs.Delivery.{emptied, slots, Standing, Retired}
 use Rattle.ledger.specs.declared.Flow.{Flow}
 use Rattle.ledger.specs.declared.Packet.{Packet}
-use Rattle.ledger.proofs.Geometry.{Cap, place-flat, place-plus, age-lt, place-age, laid-cap, laid-even, laid-at}
+use Rattle.ledger.proofs.Geometry.{Cap, place-flat, place-plus, age-lt, place-age, laid-cap, laid-even, laid-at, laid-queue}
 use Rattle.ledger.proofs.Facts.{packets-long}
-use Rattle.ledger.proofs.Shows.{slots-even, shown-is}
+use Rattle.ledger.proofs.Shows.{slots-even, shown-even, shown-is}
+use Rattle.ledger.proofs.Queues.{plus-none}
 use Rattle.ledger.proofs.Emptying.{run-yes, run-before, run-after, empty-long, empty-yes, empty-no}
 use Rattle.ledger.proofs.Fronts.{bitOfAge}
 use Rattle.ledger.proofs.WordsShown.{slotShown, even-cap, slot-shows, in-window, out-window, caps, age-of, live-shows}
@@ -302,3 +303,18 @@ module _ {m : Memory} {f : Flow} {gone : ℕ} {sizes sent : List ℕ} (S : Stand
         run = run-is;
         ring-is = ring-left ∙ ap (λ (c : ℕ). laid c new (drop gone xs)) (sym (even-cap (f .low) (f .next) (S .lengths)));
       })
+
+-- where low is not done, none leaves and the ring stays as it is
+pub none-retires : {m : Memory} {f : Flow} {n : ℕ} → Standing m f → f .low < psns → n ≡ longOf f
+    → doneRun (queueOf (shown (f .low) (f .next) m) (f .low) n) ≡ 0
+    → Retired (shown (f .low) (f .next) m) (f .low) n 0 (shown (plus (f .low) 0) (f .next) m)
+none-retires {m} {f} {n} S b e none =
+    let r : Ring = shown (f .low) (f .next) m in
+    let c : capOf r ≡ slots m = even-cap (f .low) (f .next) (S .lengths) in
+    record {
+      run = sym none;
+      ring-is =
+          rw (plus-none (f .low) b)
+          (laid-queue (capOf r) (rw c (caps S)) (f .low) r n (shown-even (f .low) (f .next) m (S .lengths)) refl (omega (arith, S .fits))
+          (λ k h l. rw c (S .empty k (omega arith) (omega arith))));
+    }

@@ -16,8 +16,9 @@ ghost use Rattle.rules.specs.Rows.{firstOf};
 ghost use Rattle.bits.specs.Bits.{wordBits, without};
 ghost use Rattle.serial.specs.Psn.{plus};
 ghost use Rattle.ledger.specs.Lent.{memoryGiven, memoryBefore, memoryAfter};
+ghost use Rattle.ledger.specs.Packets.{doneRun};
 ghost use Rattle.ledger.specs.Memory.{shown, ledgerShown, kept, keptOf};
-ghost use Rattle.ledger.specs.Ring.{longOf};
+ghost use Rattle.ledger.specs.Ring.{queueOf, longOf};
 ghost use Rattle.ledger.specs.Sound.{SoundLedger};
 ghost use Rattle.ledger.specs.Steps.{heldOf, acknowledgeOf};
 ghost use Rattle.ledger.specs.Rows.{ackRows};
@@ -130,6 +131,30 @@ fn retire<'a, 'b, 'c>(
     gone
 }
 
+// The same after an ACK that covers none beyond the first `far`. One that reaches no packet leaves low where it is: in a ledger that holds
+// together low is not done, so there is nothing to look for.
+fn retire_reached<'a, 'b, 'c>(
+    outstanding: &'a [u64],
+    marked: &'a [u64],
+    sizes: &'b mut [u32],
+    sent: &'c mut [u64],
+    flow: Flow,
+    n: u32,
+    far: u32,
+) -> u32
+    requires { ⌜ n ≡ longOf flow ⌝ }
+    requires { ⌜ Standing (memoryGiven outstanding marked sizes sent) flow ⌝ }
+    requires { ⌜ (far ≡ 0
+        → doneRun (queueOf (shown (flow .low) (flow .next) (memoryGiven outstanding marked sizes sent)) (flow .low) n) ≡ 0) ⌝ }
+    ensures { λ r. ⌜ Retired (shown (flow .low) (flow .next) (memoryBefore outstanding marked sizes sent)) (flow .low) n r
+        (shown (plus (flow .low) r) (flow .next) (memoryAfter outstanding marked sizes sent)) ⌝ }
+{
+    if far == 0 {
+        return 0;
+    }
+    retire(outstanding, marked, sizes, sent, flow, n)
+}
+
 // How many packets from low on an ACK can cover: none beyond the one of its highest set bit.
 fn reach(n: u32, back: u32, span: u32) -> u32
     requires { ⌜ (n ≤ 4096) × (span ≤ 64) ⌝ }
@@ -183,7 +208,7 @@ pub fn acknowledge<'a, 'b, 'c, 'd>(
         map,
         books.totals,
     );
-    let gone = retire(outstanding, marked, sizes, sent, flow, n);
+    let gone = retire_reached(outstanding, marked, sizes, sent, flow, n, far);
     totals.in_flight = less(totals.in_flight, newly(count, held));
     flow.low = serial::psn_plus(low, gone);
     flow.held = held_after(count, held);

@@ -5,8 +5,9 @@ use borrow.Author.Needs.{needs}
 use Rattle.ledger.specs.Memory.{Memory, memory, shown, Words}
 use Rattle.ledger.specs.Ring.{Ring}
 use Rattle.ledger.specs.Sound.{Lengths}
+use Rattle.ledger.specs.Delivery.{Standing, Reached}
 use Rattle.ledger.proofs.WordsShown.{lengths-kept, words-kept}
-use Rattle.ledger.proofs.Acked.{reach-asks, cover-asks, less-asks, acked}
+use Rattle.ledger.proofs.Acked.{reach-asks, cover-asks, less-asks, none-done, acked}
 use Rattle.ledger.proofs.deliver.acknowledge.Statement.{statement}
 use Rattle.ledger.proofs.deliver.acknowledge.Tie as tie
 
@@ -28,18 +29,18 @@ covered v =
     (memory (v .cover .last .0) (v .cover .last .1 .0) (s .args .sizes .now) (s .args .sent .now))
 
 -- the memory that is left
-abbrev left : tie.After-retire → Memory
+abbrev left : tie.After-retire-reached → Memory
 left u =
     let v = u .before .before .before .before .before .before .before .before .before in
-    memory (v .cover .last .0) (v .cover .last .1 .0) (u .retire .last .1 .1 .0) (u .retire .last .1 .1 .1 .0)
+    memory (v .cover .last .0) (v .cover .last .1 .0) (u .retire-reached .last .1 .1 .0) (u .retire-reached .last .1 .1 .1 .0)
 
 -- it has the lengths and words that the covering leaves
-left-lengths : (u : tie.After-retire) → Lengths (left u)
+left-lengths : (u : tie.After-retire-reached) → Lengths (left u)
 left-lengths u =
     let v = u .before .before .before .before .before .before .before .before .before in
-    lengths-kept (v .cover .ensures .0 .lengths) (u .retire .kept .1 .1 .0) (u .retire .kept .1 .1 .1 .0)
+    lengths-kept (v .cover .ensures .0 .lengths) (u .retire-reached .kept .1 .1 .0) (u .retire-reached .kept .1 .1 .1 .0)
 
-left-words : (u : tie.After-retire) → Words (left u)
+left-words : (u : tie.After-retire-reached) → Words (left u)
 left-words u =
     let v = u .before .before .before .before .before .before .before .before .before in
     words-kept (v .cover .ensures .0 .words)
@@ -59,16 +60,30 @@ reach-requires c κs =
     let s = entry w in
     reach-asks (given s) (s .pre .0) (w .long .ensures) (s .args .map) (c .span .ensures)
 
-cover-requires : tie.Need-cover-requires
-cover-requires c κs =
-    let r = c .before .before .before .before in
+-- what the covering asks
+asked : (r : tie.After-reach) → let s = entry (r .before .before .before) in
+    Standing (given s) (s .args .books .flow)
+    × Reached (given s) (s .args .books .flow) (s .args .books .totals) (r .reach .result) (s .args .cum) (s .args .map)
+asked r =
     let w = r .before .before .before in
     let s = entry w in
     cover-asks (given s) (s .pre .0) (w .long .ensures) (s .args .count) (s .pre .1)
     (r .before .before .back .ensures) (r .before .span .ensures) (r .reach .ensures)
 
-retire-requires : tie.Need-retire-requires
-retire-requires c κs = search needs
+cover-requires : tie.Need-cover-requires
+cover-requires c κs = asked (c .before .before .before .before)
+
+retire-reached-requires : tie.Need-retire-reached-requires
+retire-reached-requires c κs =
+    let v = c .before .before .before .before .before .before .before .before in
+    let r = v .before .before .before .before .before in
+    let s = entry (counted v) in (
+      counted v .long .ensures,
+      (
+        v .cover .ensures .0,
+        none-done (given s) (s .pre .0) (counted v .long .ensures) {r = covered v} (v .cover .ensures .1) (asked r .1),
+      ),
+    )
 
 newly-requires : tie.Need-newly-requires
 newly-requires c κs = search needs
@@ -106,7 +121,7 @@ returns c =
     let s = entry (counted v) in
     acked (given s) (s .pre .0) (counted v .long .ensures) {r = covered v} (v .cover .ensures .1) (s .args .count) (left u)
     (left-lengths u) (left-words u)
-    (u .retire .ensures) (c .before .psn-plus .ensures)
+    (u .retire-reached .ensures) (c .before .psn-plus .ensures)
     (c .held-after .ensures) (c .before .before .before .before .newly .ensures .0) (c .before .before .less .ensures)
 
 pub acknowledge-spec : {M : Type 1} → statement M
@@ -118,7 +133,7 @@ acknowledge-spec =
     span-requires
     reach-requires
     cover-requires
-    retire-requires
+    retire-reached-requires
     newly-requires
     less-requires
     psn-plus-requires
