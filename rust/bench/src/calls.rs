@@ -1,4 +1,4 @@
-//! Calls from outside, which test number 2 in full. There is one flow.
+//! Calls from outside, which test number 2 in full. There is one flow where nothing else is said.
 
 use crate::logs;
 use crate::sides::{assert_alike, set_up, set_up_model, set_up_ours, Model};
@@ -82,25 +82,27 @@ fn in_laps<T>(clock: &mut Clock, calls: &[T], mut ask: impl FnMut(&T) -> u64) {
     }
 }
 
-/// (c) The full test: ours is a path choice that time refuses, which does little else.
+/// (c) The full test: ours is a path choice that time refuses, which does little else. Eight flows of
+/// 512 slots have as many slots as one of 4,096.
 pub fn full_test(table: &mut Table) {
     for (name, quarters) in [("full", 4), ("half full", 2), ("empty", 0)] {
-        for capacity in [64, 1_024, 4_096] {
-            let times = test_of(capacity, capacity / 4 * quarters);
-            table.add(
-                format!("(c) number 2's test, {capacity} slots, ring {name}"),
-                times,
-            );
+        for (flows, capacity) in [(1, 64), (1, 1_024), (1, 4_096), (8, 512)] {
+            let times = test_of(flows, capacity, capacity / 4 * quarters);
+            let slots = match flows {
+                1 => format!("{capacity} slots, ring"),
+                _ => format!("{flows} flows of {capacity} slots, rings"),
+            };
+            table.add(format!("(c) number 2's test, {slots} {name}"), times);
         }
     }
 }
 
-fn test_of(capacity: usize, packets: usize) -> Times {
-    let (mut context, mut model) = filled(capacity, packets);
+fn test_of(flows: usize, capacity: usize, packets: usize) -> Times {
+    let (mut context, mut model) = filled(flows, capacity, packets);
     let early = [Event::from(Path { time: 0, flow: 0 })];
     assert_eq!(take(&mut context, &mut model, &early), TIME);
     assert_alike(&context, &model);
-    let many = 160_000 / capacity;
+    let many = 160_000 / (flows * capacity);
     let mut lent = context.lend();
     let Model { state, memory } = &mut model;
     let models = memory.lend();
@@ -112,14 +114,23 @@ fn test_of(capacity: usize, packets: usize) -> Times {
     )
 }
 
-/// Both sides with so many packets flying, at a clock of 1.
-fn filled(capacity: usize, packets: usize) -> (Context, Model) {
+/// Both sides with so many packets flying on each flow, at a clock of 1.
+fn filled(flows: usize, capacity: usize, packets: usize) -> (Context, Model) {
     let mut numbers = model::gen::E;
     numbers[1] = 1 << 26;
     let settings = Settings::from_numbers(numbers, 0, false);
-    let (mut context, mut model) = (Context::empty(1, capacity), Model::empty(1, capacity));
+    let mut context = Context::empty(flows, capacity);
+    let mut model = Model::empty(flows, capacity);
     set_up(&mut context, &mut model, &settings);
-    let (time, flow, size) = (1, 0, 1024);
+    for flow in 0..flows {
+        take(&mut context, &mut model, &sends(flow as u64, packets));
+    }
+    (context, model)
+}
+
+/// New data of a flow, and so many packets of it.
+fn sends(flow: u64, packets: usize) -> Vec<Event> {
+    let (time, size) = (1, 1024);
     let bytes = 1 + u64::from(size) * packets as u64;
     let mut events = vec![Event::from(NewData { time, flow, bytes })];
     events.extend((0..packets as u32).map(|psn| {
@@ -131,6 +142,5 @@ fn filled(capacity: usize, packets: usize) -> (Context, Model) {
             resend: false,
         })
     }));
-    take(&mut context, &mut model, &events);
-    (context, model)
+    events
 }
