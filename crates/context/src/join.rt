@@ -1,4 +1,5 @@
-// One flow of a context: its record beside what is shared, and where its part of the ring buffer lies.
+// One flow of a context: its record beside what is shared, and where its part of the ring buffer lies. Inner steps: the caller proves what
+// each asks for.
 use crate::Controller;
 use ledger::Flow;
 use rules::verdict::Verdict;
