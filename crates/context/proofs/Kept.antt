@@ -94,6 +94,7 @@ module _ (x : Context) (S : SoundContext x) (k : ℕ) (h : k < flowCount x) (w :
         times-long = F .times-long;
         times-ok = F .times-ok;
         cursor-ok = F .cursor-ok;
+        turn-ok = omega (arith, S .turn-ok, put-count x S k h w P);
         named = F .named;
       }
 

@@ -108,7 +108,7 @@ refused-flow {m} {s} {p} {times} n u w e h =
 
 -- AN EVENT OF FLOW k, as the code leaves the context: the step's answer on what flow k sees, put back
 module _ {x : Context} {k from end at to : ℕ} (H : Here x k from end at to) (late : Bool) (rows : List Row) (w : World)
-    {m : ℕ} {s : Sender} {p slots : Memory} {times flows : List ℕ} {c : Controller} (ec : c ≡ sharedOf s)
+    {m : ℕ} {s : Sender} {p slots : Memory} {times flows : List ℕ} {c : Controller} (ec : c ≡ sharedOf (x .state .turn) s)
     (ef : flows ≡ withFlow (x .flows) k (s .flow)) (es : slots ≡ putPart (capIn x) k (x .slots) p) where
   pub lift-answer : oneAnswered m s p times ≡ oneDecided (firstOf (row late 3 ∷ rows)) (worldAt k x) w
       → answered m c flows slots times ≡ decided (firstOf (row late 3 ∷ flowRow k x ∷ rows)) x (putWorld k x w)

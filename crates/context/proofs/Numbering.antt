@@ -194,16 +194,18 @@ module _ (x : Context) (range : Bool) (range-is : range ≡ inRange (x .state .s
               }
 
           pub tests-left :
-              (times : Bool) (name : ℕ) → times ≡ timesOk (x .times) →
+              (times : Bool) (n name : ℕ) → times ≡ timesOk (x .times) → n ≡ flowCount x →
               name ≡ phaseOf (x .state .settings .mtu) (x .state .window .cwnd) (x .state .totals) →
               (ltb (x .state .clock) timeEnd && eqb (length (x .times)) (x .state .settings .«ev_count») && times
-              && ltb (x .state .cursor) (x .state .settings .«ev_count») && eqb (x .state .phase) name) ≡ soundContext x
+              && ltb (x .state .cursor) (x .state .settings .«ev_count») && ltb (x .state .turn) n && eqb (x .state .phase) name)
+              ≡ soundContext x
           unfolding soundContext namedOk
-          tests-left times name t is =
+          tests-left times n name t count is =
               rw (
                 sym range-is ∙ not-false range r,
                 sym window-is ∙ not-false window-ok h,
                 sym (flows-test x) ∙ sym ok-is ∙ not-false ok l,
                 t,
+                count,
                 is,
               )

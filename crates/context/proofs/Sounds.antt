@@ -50,6 +50,7 @@ pub record SoundContext (x : Context) : Type 0 where
   pub times-long : length (x .times) ≡ x .state .settings .«ev_count»
   pub times-ok : timesOk (x .times) ≡ true
   pub cursor-ok : x .state .cursor < x .state .settings .«ev_count»
+  pub turn-ok : x .state .turn < flowCount x
   pub named : x .state .phase ≡ phaseOf (x .state .settings .mtu) (x .state .window .cwnd) (x .state .totals)
 
 pub cut-facts : (n cap : ℕ) (m : Memory) → isCut n cap m ≡ true → (isCapacity cap ≡ true) × Rings n cap m
@@ -78,7 +79,8 @@ unfolding soundContext totalsOver namedOk
 context-facts x e =
     let c = x .state in
     let name = both _ (eqb (c .phase) (phaseOf (c .settings .mtu) (c .window .cwnd) (c .totals))) e in
-    let cursor = both _ (ltb (c .cursor) (c .settings .«ev_count»)) (name .0) in
+    let turn = both _ (ltb (c .turn) (flowCount x)) (name .0) in
+    let cursor = both _ (ltb (c .cursor) (c .settings .«ev_count»)) (turn .0) in
     let times = both _ (timesOk (x .times)) (cursor .0) in
     let long = both _ (eqb (length (x .times)) (c .settings .«ev_count»)) (times .0) in
     let clock = both _ (ltb (c .clock) timeEnd) (long .0) in
@@ -109,6 +111,7 @@ context-facts x e =
       times-long = eqb-true _ _ (long .1);
       times-ok = times .1;
       cursor-ok = ltb-true _ _ (cursor .1);
+      turn-ok = ltb-true _ _ (turn .1);
       named = eqb-true _ _ (name .1);
     }
 
@@ -116,7 +119,7 @@ pub facts-context : (x : Context) → SoundContext x → soundContext x ≡ true
 unfolding soundContext totalsOver namedOk
 facts-context x S =
     let c = x .state in
-    whole (whole (whole (whole (whole (whole (whole (whole (whole
+    whole (whole (whole (whole (whole (whole (whole (whole (whole (whole
     (whole (range-test (c .settings) (S .range)) (window-test (c .settings) (c .clock) (c .window) (S .sound-window)))
     (facts-table (x .flows) (S .table)))
     (facts-cut (flowCount x) (capIn x) (x .slots) (S .cap) (S .cut)))
@@ -127,6 +130,7 @@ facts-context x S =
     (eq-eqb _ _ (S .times-long)))
     (S .times-ok))
     (lt-ltb _ _ (S .cursor-ok)))
+    (lt-ltb _ _ (S .turn-ok)))
     (eq-eqb _ _ (S .named))
 
 -- ---- one flow among the others

@@ -194,6 +194,7 @@ module _ (s : Settings) (flows : List ℕ) (m : Memory) (times : List ℕ) where
           times-long = F .times-long;
           times-ok = F .times-ok;
           cursor-ok = F .cursor-ok;
+          turn-ok = omega (arith, begun-count, T .some);
           named = F .named;
         }
 

@@ -60,7 +60,8 @@ memoryIn x k = partOf (capIn x) k (x .slots)
 abbrev pub ringIn : Context → ℕ → Ring
 ringIn x k = shown (flowIn x k .low) (flowIn x k .next) (memoryIn x k)
 
--- what is shared, with a flow's own record: what the step of one flow works on; and back
+-- what is shared, with a flow's own record: what the step of one flow works on; and back, with the held turn (request M-108), which it does
+-- not see
 unfoldable pub joinedOf : Controller → Flow → Sender
 joinedOf c f =
     record {
@@ -73,8 +74,8 @@ joinedOf c f =
       phase = c .phase;
     }
 
-unfoldable pub sharedOf : Sender → Controller
-sharedOf s =
+unfoldable pub sharedOf : ℕ → Sender → Controller
+sharedOf turn s =
     record {
       settings = s .settings;
       totals = s .totals;
@@ -82,6 +83,7 @@ sharedOf s =
       clock = s .clock;
       cursor = s .cursor;
       phase = s .phase;
+      turn = turn;
     }
 
 -- what flow k's step sees of the context
@@ -91,4 +93,5 @@ worldAt k x = world (joinedOf (x .state) (flowIn x k)) (memoryIn x k) (x .times)
 -- the context with what flow k's step leaves: every other flow is as it was
 unfoldable pub putWorld : ℕ → Context → World → Context
 putWorld k x w =
-    context (sharedOf (w .state)) (withFlow (x .flows) k (w .state .flow)) (putPart (capIn x) k (x .slots) (w .slots)) (w .times)
+    context (sharedOf (x .state .turn) (w .state)) (withFlow (x .flows) k (w .state .flow)) (putPart (capIn x) k (x .slots) (w .slots))
+    (w .times)

@@ -59,6 +59,7 @@ totalsOver x =
 unfoldable pub namedOk : Controller → Bool
 namedOk c = eqb (c .phase) (phaseOf (c .settings .mtu) (c .window .cwnd) (c .totals))
 
+-- request M-108: "A held turn that names no flow is refusal 2."
 unfoldable pub soundContext : Context → Bool
 soundContext x =
     let c = x .state in
@@ -72,4 +73,5 @@ soundContext x =
     && eqb (length (x .times)) (c .settings .«ev_count»)
     && timesOk (x .times)
     && ltb (c .cursor) (c .settings .«ev_count»)
+    && ltb (c .turn) (flowCount x)
     && namedOk c

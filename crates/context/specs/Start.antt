@@ -27,9 +27,9 @@ abbrev pub setUpRows : Settings → List ℕ → Memory → List ℕ → List Ro
 setUpRows s flows m times =
     row (not (inRange s)) 1 ∷ row (not (lengthsOk flows m && eqb (length times) (s .«ev_count»))) 2 ∷ []
 
--- what is shared of the fresh state of settings; of no settings it is the state of zeros
+-- what is shared of the fresh state of settings, turns "at set-up from flow 0" (request M-108); of no settings it is the state of zeros
 unfoldable pub freshState : Settings → Controller
-freshState s = sharedOf (freshSender s)
+freshState s = sharedOf 0 (freshSender s)
 
 -- every flow from the same PSN on, nothing held, no backlog
 unfoldable pub freshTable : ℕ → List ℕ → List ℕ

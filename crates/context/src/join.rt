@@ -34,9 +34,9 @@ pub(crate) fn joined(c: Controller, flow: Flow) -> sender::Controller
     }
 }
 
-// And back: all but the flow's record.
-pub(crate) fn shared(s: sender::Controller) -> Controller
-    ensures { λ r. ⌜ r ≡ sharedOf s ⌝ }
+// And back: all but the flow's record, with the held turn, which no flow's step sees.
+pub(crate) fn shared(turn: u64, s: sender::Controller) -> Controller
+    ensures { λ r. ⌜ r ≡ sharedOf turn s ⌝ }
 {
     let settings = s.settings;
     let totals = s.totals;
@@ -48,6 +48,7 @@ pub(crate) fn shared(s: sender::Controller) -> Controller
         clock: s.clock,
         cursor: s.cursor,
         phase: s.phase,
+        turn,
     }
 }
 

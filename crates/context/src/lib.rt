@@ -33,6 +33,8 @@ pub struct Controller {
     pub clock: u64,
     pub cursor: u32,
     pub phase: u32,
+    // The flow from which the next round starts (request M-108).
+    pub turn: u64,
 }
 
 // What an event answers: the whole shared state, and the verdict on it.

@@ -66,7 +66,7 @@ pub fn new_data<'a, 'b>(
     let verdict = told.verdict;
     keep(flows, flow, after.flow, verdict);
     Answer {
-        state: shared(after),
+        state: shared(c.turn, after),
         verdict,
     }
 }
@@ -115,7 +115,7 @@ pub fn send<'a, 'b, 'c, 'd, 'e, 'f>(
     let verdict = told.verdict;
     keep(flows, flow, after.flow, verdict);
     Answer {
-        state: shared(after),
+        state: shared(c.turn, after),
         verdict,
     }
 }
@@ -167,7 +167,7 @@ pub fn ack<'a, 'b, 'c, 'd, 'e, 'f>(
     let feedback = heard.feedback;
     keep(flows, flow, after.flow, verdict);
     Heard {
-        state: shared(after),
+        state: shared(c.turn, after),
         verdict,
         feedback,
     }
@@ -220,7 +220,7 @@ pub fn nack<'a, 'b, 'c, 'd>(
     let feedback = heard.feedback;
     keep(flows, flow, after.flow, verdict);
     Heard {
-        state: shared(after),
+        state: shared(c.turn, after),
         verdict,
         feedback,
     }
@@ -270,7 +270,7 @@ pub fn loss<'a, 'b, 'c, 'd>(
     let verdict = told.verdict;
     keep(flows, flow, after.flow, verdict);
     Answer {
-        state: shared(after),
+        state: shared(c.turn, after),
         verdict,
     }
 }
@@ -317,7 +317,7 @@ pub fn path<'a>(
     let after = chosen.state;
     let verdict = chosen.verdict;
     Routed {
-        state: shared(after),
+        state: shared(c.turn, after),
         verdict,
         ev: chosen.ev,
     }

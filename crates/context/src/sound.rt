@@ -236,5 +236,6 @@ pub fn is_sound<'a>(
         & (evs.len() as u64 == settings.ev_count)
         & sender::sound::times_ok(evs)
         & ((c.cursor as u64) < settings.ev_count)
+        & (c.turn < flow_table::count(flows) as u64)
         & (c.phase == sender::naming::phase_of(settings.mtu, window.cwnd, totals))
 }

@@ -56,7 +56,7 @@ fn fresh_flows(flows: &mut [u64], psn: u32)
 pub fn fresh(settings: Settings) -> crate::Controller
     ensures { λ r. ⌜ r ≡ freshState settings ⌝ }
 {
-    shared(sender::start::fresh(settings))
+    shared(0, sender::start::fresh(settings))
 }
 
 // A refused setting up: the state of zeros.

@@ -46,9 +46,12 @@ times-ok-requires c κs = search needs
 cast-result : tie.Need-cast-result
 cast-result c = search needs
 
+count-requires : tie.Need-count-requires
+count-requires c κs = search needs
+
 phase-of-requires : tie.Need-phase-of-requires
 phase-of-requires c κs =
-    let l = c .before .before .before .before .before .before in
+    let l = c .before .before .before .before .before .before .before .before in
     let h = l .before .before in
     let r = h .before .before in
     let B =
@@ -58,11 +61,12 @@ phase-of-requires c κs =
 
 returns-4 : tie.Need-returns-4
 returns-4 c =
-    let l = c .before .before .before .before .before .before .before .before in
+    let l = c .before .before .before .before .before .before .before .before .before .before in
     let h = l .before .before in
     let r = h .before .before in
     tests-left (given (r .before)) _ (r .before .in-range .ensures) (r .if1 .left) _ (h .before .is-sound .ensures) (h .if2 .left) _
-    (l .before .flows-ok .ensures) (l .if3 .left) _ _ (c .before .before .before .before .times-ok .ensures) (c .before .phase-of .ensures)
+    (l .before .flows-ok .ensures) (l .if3 .left) _ _ _ (c .before .before .before .before .before .before .times-ok .ensures)
+    (c .before .before .before .count .ensures) (c .before .phase-of .ensures)
 
 pub is-sound-spec : {M : Type 1} → statement M
 is-sound-spec =
@@ -76,5 +80,6 @@ is-sound-spec =
     returns-3
     times-ok-requires
     cast-result
+    count-requires
     phase-of-requires
     returns-4)

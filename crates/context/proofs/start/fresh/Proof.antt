@@ -14,7 +14,7 @@ shared-requires c κs = search needs
 
 returns : tie.Need-returns
 unfolding freshState
-returns c = c .shared .ensures ∙ ap sharedOf (c .before .fresh .ensures)
+returns c = c .shared .ensures ∙ ap (sharedOf 0) (c .before .fresh .ensures)
 
 pub fresh-spec : {M : Type 1} → statement M
 fresh-spec = tie.close (tie.spec fresh-requires shared-requires returns)
