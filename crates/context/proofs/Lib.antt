@@ -11,6 +11,8 @@ pub mod Apart
 pub mod Starts
 pub mod Entries
 pub mod Looks
+pub mod Rounds
+pub mod Offers
 pub mod Events
 pub mod Tables
 pub mod Lending

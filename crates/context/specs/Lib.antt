@@ -5,6 +5,7 @@ pub mod Walk
 pub mod Rows
 pub mod Events
 pub mod Look
+pub mod Turns
 pub mod Lent
 pub mod Table
 pub mod Start

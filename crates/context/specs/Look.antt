@@ -16,6 +16,9 @@ lookFor k found x = ifSo (soundContext x) (ifLt k (flowCount x) (looked 0 found)
 unfoldable pub onStatus : ℕ → ℕ → Context → Looked
 onStatus k psn x = lookFor k (packetOf (flowIn x k) (ringIn x k) psn .status) x
 
--- the first marked PSN from psn on
+-- flow k's first marked PSN from psn on
+unfoldable pub markedFrom : ℕ → ℕ → Context → ℕ
+markedFrom k psn x = nextMarkedOf (flowIn x k) (ringIn x k) psn
+
 unfoldable pub onNextMarked : ℕ → ℕ → Context → Looked
-onNextMarked k psn x = lookFor k (nextMarkedOf (flowIn x k) (ringIn x k) psn) x
+onNextMarked k psn x = lookFor k (markedFrom k psn x) x

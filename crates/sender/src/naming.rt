@@ -10,8 +10,8 @@ ghost use Rattle.ledger.specs.Bounds.{Flown};
 ghost use Rattle.sender.specs.Named.{hasRoom, phaseOf};
 ghost use Rattle.sender.specs.Steps.{stateOf};
 
-// Whether in-flight + MTU is at most cwnd.
-pub(crate) fn has_room(mtu: u64, cwnd: u64, in_flight: i64) -> bool
+// Whether in-flight + MTU is at most cwnd. An inner step: the caller proves the bounds.
+pub fn has_room(mtu: u64, cwnd: u64, in_flight: i64) -> bool
     requires { ⌜ Flown (2 ^ 26) «in_flight» ⌝ }
     requires { ⌜ (mtu ≤ 2 ^ 14) × (cwnd ≤ 2 ^ 26) ⌝ }
     ensures { λ r. ⌜ r ≡ hasRoom mtu cwnd «in_flight» ⌝ }
