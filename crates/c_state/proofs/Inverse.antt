@@ -39,7 +39,7 @@ pack-unpack ws ok =
 
 -- ---- a state to words and back
 
--- a state has 37 words
+-- a state has 38 words
 pub long : (c : Controller) → length (stateWords c) ≡ wordCount
 unfolding stateWords
 long c = refl

@@ -1,7 +1,7 @@
 -- The shared state of a context as words, in the order of `Places`: the settings in document 01's order, the first PSN and the mode that
 -- disables quick adapt; the totals over all flows: backlog, flying, marked, marked bytes and in-flight; the window; the clock, the path
--- cursor and the state's name; the number of EVs (request M-110). Low, next, held and backlog of each flow "sit in a lent table of flow
--- records" (request M-107), not here.
+-- cursor and the state's name; the number of EVs (request M-110); the held turn (request M-108). Low, next, held and backlog of each flow
+-- "sit in a lent table of flow records" (request M-107), not here.
 -- Assumes nothing.
 use mathlib.Core.Bool.{Bool, true, false, _&&_}
 use mathlib.Core.List.{List, [], _∷_}
@@ -22,7 +22,7 @@ use Rattle.c_state.specs.declared.Unpacked.{Unpacked}
 
 -- how many words a state has
 abbrev pub wordCount : ℕ
-wordCount = 37
+wordCount = 38
 
 -- how many numbers the settings have, which come first
 abbrev pub settingsCount : ℕ
@@ -88,6 +88,7 @@ stateWords c =
     ∷ c .cursor
     ∷ c .phase
     ∷ c .settings .«ev_count»
+    ∷ c .turn
     ∷ []
 
 -- ---- the state of words
@@ -155,11 +156,13 @@ stateFrom ws =
       clock = word ws place.clock;
       cursor = word ws place.cursor;
       phase = word ws place.phase;
+      turn = word ws place.turn;
     }
 
 -- ---- words that are those of a state
 
--- a 32-bit field holds a number of 32 bits, and in-flight is in its range; the other bounds, of modes and the name too, are number 2's
+-- a 32-bit field holds a number of 32 bits, and in-flight is in its range; the other bounds, of modes, the name and the turn too, are
+-- number 2's
 unfoldable pub wordsOk : List ℕ → Bool
 wordsOk ws =
     eqb (length ws) wordCount

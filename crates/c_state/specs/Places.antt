@@ -118,3 +118,7 @@ phase = 35
 -- the number of EVs, request M-110
 abbrev pub evCount : ℕ
 evCount = 36
+
+-- the held turn, request M-108
+abbrev pub turn : ℕ
+turn = 37

@@ -1,4 +1,4 @@
-// The shared state of a context as words, for callers that hold it as plain memory: 37 numbers of 64 bits each at its place in `places`.
+// The shared state of a context as words, for callers that hold it as plain memory: 38 numbers of 64 bits each at its place in `places`.
 // The flows' own records are words already, in a lent table (request M-107).
 pub mod places;
 
@@ -14,7 +14,7 @@ ghost use Rattle.c_state.specs.Layout.{settingsFrom, totalsFrom, windowF
 ghost use Rattle.c_state.specs.Statements.{WordsFacts};
 
 // How many words a state has.
-pub const WORDS: usize = 37;
+pub const WORDS: usize = 38;
 
 // How many numbers the settings have, which come first.
 pub const SETTINGS: usize = 12;
@@ -95,6 +95,7 @@ pub fn pack(state: Controller) -> [u64; WORDS]
         state.cursor as u64,
         state.phase as u64,
         s.ev_count,
+        state.turn,
     ]
 }
 
@@ -193,6 +194,7 @@ fn state_from(ws: &[u64]) -> Controller
         clock: ws[places::CLOCK],
         cursor: ws[places::CURSOR] as u32,
         phase: ws[places::PHASE] as u32,
+        turn: ws[places::TURN],
     }
 }
 
@@ -212,7 +214,7 @@ pub fn unpack(ws: &[u64]) -> Unpacked
     }
 }
 
-// Stores a state's words over those that were lent. An inner step: the caller proves that there are 37.
+// Stores a state's words over those that were lent. An inner step: the caller proves that there are 38.
 pub fn store(ws: &mut [u64], state: Controller)
     requires { ⌜ length (now ws) ≡ wordCount ⌝ }
     ensures { λ _. ⌜ now (ws .exit) ≡ stateWords state ⌝ }

@@ -79,3 +79,6 @@ pub const PHASE: usize = 35;
 
 // The number of EVs, request M-110.
 pub const EV_COUNT: usize = 36;
+
+// The held turn, request M-108.
+pub const TURN: usize = 37;

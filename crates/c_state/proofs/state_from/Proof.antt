@@ -43,10 +43,13 @@ shared-slice-read-t19 c = search needs
 cast-t20 : tie.Need-cast-t20
 cast-t20 c = search needs
 
+shared-slice-read-t22 : tie.Need-shared-slice-read-t22
+shared-slice-read-t22 c = search needs
+
 returns : tie.Need-returns
 unfolding stateFrom
 returns c =
-    let window = c .before .before .before in
+    let window = c .before .before .before .before in
     rw (
       window .before .before .settings-of .ensures,
       window .before .totals-from .ensures,
@@ -70,4 +73,5 @@ state-from-spec =
     cast-t17
     shared-slice-read-t19
     cast-t20
+    shared-slice-read-t22
     returns)
