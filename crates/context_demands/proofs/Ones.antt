@@ -51,7 +51,7 @@ module _ (x : Context) (S : SoundContext x) (k : ℕ) (h : k < flowCount x) (w :
       let y = putWorld k x w in
       let m : memoryIn y k ≡ w .slots = ap (λ (c : ℕ). partOf c k (y .slots)) (put-cap x S k h w P)
       ∙ ring-same (flowCount x) (capIn x) k (x .slots) (S .cut) h (w .slots) P in
-      ap₂ (λ (f : Flow) (q : Memory). world (joinedOf (sharedOf (w .state)) f) q (w .times)) (own-flow x S k h w P) m
+      ap₂ (λ (f : Flow) (q : Memory). world (joinedOf (sharedOf (x .state .turn) (w .state)) f) q (w .times)) (own-flow x S k h w P) m
 
   -- another one put in afterwards: as if it were put in alone
   module _ (v : World) (Q : Rings 1 (capIn x) (v .slots)) where
@@ -81,10 +81,10 @@ module _ (x : Context) (S : SoundContext x) (k : ℕ) (h : k < flowCount x) (w :
         ∙ sym (ring-other n cap k m (S .cut) h (v .slots) Q j ne)))
 
     pub put-put : putWorld k (putWorld k x w) v ≡ putWorld k x v
-    unfolding putWorld
+    unfolding putWorld sharedOf
     put-put =
         let y = putWorld k x w in
-        ap₂ (λ (f : List ℕ) (m : Memory). context (sharedOf (v .state)) f m (v .times)) table-put
+        ap₂ (λ (f : List ℕ) (m : Memory). context (sharedOf (x .state .turn) (v .state)) f m (v .times)) table-put
         (ap (λ (c : ℕ). putPart c k (y .slots) (v .slots)) (put-cap x S k h w P) ∙ slots-put)
 
 -- ---- an event of flow k

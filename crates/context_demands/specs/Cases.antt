@@ -26,7 +26,7 @@ use Rattle.demands.specs.Cases.{Case, case, settingsE}
 unfoldable pub contextWith : Flow → ℕ → ℕ → List ℕ → Context
 contextWith f n inFlight times =
     context
-    (sharedOf (stateOf settingsE f
+    (sharedOf 0 (stateOf settingsE f
     (record { flying = n; marked = 0; «marked_bytes» = 0; backlog = f .backlog; «in_flight» = pos inFlight }) (freshOf settingsE) 0 0))
     (wordsOf (f ∷ []))
     (stored (laid 64 (f .low) (replicate n (newPacket 0 4096))))
