@@ -124,6 +124,7 @@ fn state_with(c: Controller, word: u32, n: u64, held: u64) -> Controller {
         clock: pick(word, words::CLOCK, n, c.clock),
         cursor: pick_32(word, words::CURSOR, n, c.cursor),
         phase: phase_with(c.phase, word),
+        turn: pick(word, words::TURN, n, c.turn),
     }
 }
 

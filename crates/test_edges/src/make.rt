@@ -95,6 +95,7 @@ fn quiet(settings: Settings, backlog: u64, clock: u64, phase: u32) -> Controller
         clock,
         cursor: 0,
         phase,
+        turn: 0,
     }
 }
 

@@ -30,8 +30,8 @@ pub(crate) fn place(s: &[u8], from: usize, end: usize) -> u32 {
     search = search.look(b"marked_bytes in_flight cwnd base average inc_bytes ", s);
     search = search.look(b"received achieved ignored bytes_to_ignore ", s);
     search = search.look(b"fi_count fast_mode trigger quick_adapt_end ", s);
-    search = search.look(b"last_adjust last_decrease clock cursor flow table ", s);
-    search = search.look(b"IDLE PENDING READY ACTIVE time ", s);
+    search = search.look(b"last_adjust last_decrease clock cursor turn ", s);
+    search = search.look(b"flow table IDLE PENDING READY ACTIVE time ", s);
     search = search.look(b"status size sent resent outstanding_bit marked_bit ", s);
     search = search.look(b"number EV_time full empty flown pair keep compare ", s);
     search = search.look(b"status_of next_marked record new_data send resend ack ", s);
@@ -119,80 +119,82 @@ pub const CLOCK: u32 = 38;
 
 pub const CURSOR: u32 = 39;
 
-pub const FLOW: u32 = 40;
+pub const TURN: u32 = 40;
 
-pub const TABLE: u32 = 41;
+pub const FLOW: u32 = 41;
 
-pub const IDLE: u32 = 42;
+pub const TABLE: u32 = 42;
 
-pub const PENDING: u32 = 43;
+pub const IDLE: u32 = 43;
 
-pub const READY: u32 = 44;
+pub const PENDING: u32 = 44;
 
-pub const ACTIVE: u32 = 45;
+pub const READY: u32 = 45;
 
-pub const TIME: u32 = 46;
+pub const ACTIVE: u32 = 46;
 
-pub const STATUS: u32 = 47;
+pub const TIME: u32 = 47;
 
-pub const SIZE: u32 = 48;
+pub const STATUS: u32 = 48;
 
-pub const SENT: u32 = 49;
+pub const SIZE: u32 = 49;
 
-pub const RESENT: u32 = 50;
+pub const SENT: u32 = 50;
 
-pub const OUTSTANDING_BIT: u32 = 51;
+pub const RESENT: u32 = 51;
 
-pub const MARKED_BIT: u32 = 52;
+pub const OUTSTANDING_BIT: u32 = 52;
 
-pub const NUMBER: u32 = 53;
+pub const MARKED_BIT: u32 = 53;
 
-pub const EV_TIME: u32 = 54;
+pub const NUMBER: u32 = 54;
 
-pub const FULL: u32 = 55;
+pub const EV_TIME: u32 = 55;
 
-pub const EMPTY: u32 = 56;
+pub const FULL: u32 = 56;
 
-pub const FLOWN: u32 = 57;
+pub const EMPTY: u32 = 57;
 
-pub const PAIR: u32 = 58;
+pub const FLOWN: u32 = 58;
 
-pub const KEEP: u32 = 59;
+pub const PAIR: u32 = 59;
 
-pub const COMPARE: u32 = 60;
+pub const KEEP: u32 = 60;
 
-pub const STATUS_OF: u32 = 61;
+pub const COMPARE: u32 = 61;
 
-pub const NEXT_MARKED: u32 = 62;
+pub const STATUS_OF: u32 = 62;
 
-pub const RECORD: u32 = 63;
+pub const NEXT_MARKED: u32 = 63;
 
-pub const NEW_DATA: u32 = 64;
+pub const RECORD: u32 = 64;
 
-pub const SEND: u32 = 65;
+pub const NEW_DATA: u32 = 65;
 
-pub const RESEND: u32 = 66;
+pub const SEND: u32 = 66;
 
-pub const ACK: u32 = 67;
+pub const RESEND: u32 = 67;
 
-pub const NACK: u32 = 68;
+pub const ACK: u32 = 68;
 
-pub const LOSS: u32 = 69;
+pub const NACK: u32 = 69;
 
-pub const PATH: u32 = 70;
+pub const LOSS: u32 = 70;
 
-pub const SET_UP: u32 = 71;
+pub const PATH: u32 = 71;
 
-pub const EVENTS: u32 = 72;
+pub const SET_UP: u32 = 72;
 
-pub const ROW: u32 = 73;
+pub const EVENTS: u32 = 73;
 
-pub const LEDGER: u32 = 74;
+pub const ROW: u32 = 74;
+
+pub const LEDGER: u32 = 75;
 
 // No word, and one that is not listed.
-pub const NONE: u32 = 75;
+pub const NONE: u32 = 76;
 
-pub const UNKNOWN: u32 = 76;
+pub const UNKNOWN: u32 = 77;
 
 // A word looked for in a list, and where it stands in a text: the place that the list's next word has, how far the word is compared,
 // whether it was the same so far, and the place where it was found.
