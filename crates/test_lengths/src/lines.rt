@@ -7,7 +7,7 @@ use crate::room::Lengths;
 use crate::say;
 use window::Settings;
 
-// The flow that is called has the backlog.
+// The flow that is called has the backlog, and the turn is flow 0's.
 pub(crate) fn given(count: u64, cursor: u32, ev: u32, flow: usize) -> Given {
     Given {
         count,
@@ -15,6 +15,7 @@ pub(crate) fn given(count: u64, cursor: u32, ev: u32, flow: usize) -> Given {
         ev,
         flow,
         owner: flow,
+        turn: 0,
     }
 }
 

@@ -17,14 +17,15 @@ const BACKLOG: u64 = 8192;
 // The words that a table is lent of: sixteen flows, twice as many as are allowed.
 pub const TABLE: usize = 64;
 
-// What a case says but for lengths: how many EVs the settings have, where the cursor stands, the EV of feedback, the flow that is called
-// and the one that has the backlog.
+// What a case says but for lengths: how many EVs the settings have, where the cursor stands, the EV of feedback, the flow that is called,
+// the one that has the backlog, and the held turn.
 pub struct Given {
     pub count: u64,
     pub cursor: u32,
     pub ev: u32,
     pub flow: usize,
     pub owner: usize,
+    pub turn: u64,
 }
 
 // Settings E of document 01, with an MTU and a number of EVs; and a first PSN that no cleared memory shows.
@@ -89,7 +90,14 @@ fn quiet_window(cwnd: u64, base: u64) -> Window {
 }
 
 // No packet flying or marked, and the window that settings start with.
-fn quiet(settings: Settings, backlog: u64, clock: u64, cursor: u32, phase: u32) -> Controller {
+fn quiet(
+    settings: Settings,
+    backlog: u64,
+    clock: u64,
+    cursor: u32,
+    phase: u32,
+    turn: u64,
+) -> Controller {
     let window = quiet_window(settings.maxwnd, settings.config_base_rtt);
     Controller {
         settings,
@@ -104,12 +112,13 @@ fn quiet(settings: Settings, backlog: u64, clock: u64, cursor: u32, phase: u32) 
         clock,
         cursor,
         phase,
+        turn,
     }
 }
 
-// What a fresh state is, by document 01.
+// What a fresh state is, by document 01; request M-108 starts its turns "at set-up from flow 0".
 pub(crate) fn fresh(settings: Settings) -> Controller {
-    quiet(settings, 0, 0, 0, sender::IDLE)
+    quiet(settings, 0, 0, 0, sender::IDLE, 0)
 }
 
 // The state that a refused setting up answers.
@@ -125,6 +134,7 @@ pub(crate) fn empty(e: Given) -> Controller {
         CLOCK,
         e.cursor,
         sender::READY,
+        e.turn,
     )
 }
 

@@ -7,8 +7,8 @@ pub(crate) fn same_state(a: Controller, b: Controller) -> bool {
     same_words(c_state::pack(a), c_state::pack(b))
 }
 
-fn same_words(a: [u64; 37], b: [u64; 37]) -> bool {
-    for k in 0..37 {
+fn same_words(a: [u64; 38], b: [u64; 38]) -> bool {
+    for k in 0..38 {
         if a[k] != b[k] {
             return false;
         }

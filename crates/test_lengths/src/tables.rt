@@ -1,4 +1,5 @@
-// Refusal 2 on the number of flows and on the rings of several flows (request M-107), and refusal 25 on the flow that is called.
+// Refusal 2 on the number of flows and on the rings of several flows (request M-107), refusal 25 on the flow that is called, and refusal 2
+// on the held turn (request M-108).
 use crate::lines::both;
 use crate::lines::counted;
 use crate::lines::events;
@@ -170,6 +171,7 @@ fn called(label: &[u8], flow: usize, owner: usize, k: Lengths) {
         ev: 0,
         flow,
         owner,
+        turn: 0,
     };
     say::text(b"25 events ");
     events(label, e, k);
@@ -195,6 +197,44 @@ fn out_of_range() {
     called(b"order 2 25 backlog", 8, 8, shared(32, 512, 256));
 }
 
+// Every event and the looks of flow 0, at a held turn: two lines.
+fn held(label: &[u8], turn: u64, k: Lengths) {
+    let e = Given {
+        count: 256,
+        cursor: 0,
+        ev: 0,
+        flow: 0,
+        owner: 0,
+        turn,
+    };
+    say::text(b"2 events ");
+    events(label, e, k);
+    say::text(b"2 looks ");
+    looks(label, e, k);
+}
+
+// "A held turn that names no flow is refusal 2": for each number of flows the last turn that it allows, and one past it.
+fn turns() {
+    held(b"turn 0 of 1", 0, shared(4, 64, 256));
+    held(b"turn 1 of 1", 1, shared(4, 64, 256));
+    held(b"turn 1 of 2", 1, shared(8, 128, 256));
+    held(b"turn 2 of 2", 2, shared(8, 128, 256));
+    held(b"turn 2 of 3", 2, shared(12, 192, 256));
+    held(b"turn 3 of 3", 3, shared(12, 192, 256));
+    held(b"turn 3 of 4", 3, shared(16, 256, 256));
+    held(b"turn 4 of 4", 4, shared(16, 256, 256));
+    held(b"turn 4 of 5", 4, shared(20, 320, 256));
+    held(b"turn 5 of 5", 5, shared(20, 320, 256));
+    held(b"turn 5 of 6", 5, shared(24, 384, 256));
+    held(b"turn 6 of 6", 6, shared(24, 384, 256));
+    held(b"turn 6 of 7", 6, shared(28, 448, 256));
+    held(b"turn 7 of 7", 7, shared(28, 448, 256));
+    held(b"turn 7 of 8", 7, shared(32, 512, 256));
+    held(b"turn 8 of 8", 8, shared(32, 512, 256));
+    held(b"turn 4294967296 of 8", 4294967296, shared(32, 512, 256));
+    held(b"turn 2^64-1 of 8", u64::MAX, shared(32, 512, 256));
+}
+
 // Refusal 1 comes before 2: an MTU of 1023, and a table or rings that are refused.
 pub(crate) fn run() {
     words_of_table();
@@ -203,6 +243,7 @@ pub(crate) fn run() {
     differing_slots();
     times();
     out_of_range();
+    turns();
     set_up(
         b"order 1 2 no flow",
         make::settings(1023, 256),

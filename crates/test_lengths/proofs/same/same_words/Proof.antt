@@ -1,14 +1,14 @@
--- `same_words` stays inside both arrays: they have 37 words, and the walk has not passed them.
+-- `same_words` stays inside both arrays: they have 38 words, and the walk has not passed them.
 use Prim.Native.Nat.{_≤_, _-_}
 use borrow.Author.Needs.{needs}
 use Rattle.test_lengths.proofs.same.same_words.Statement.{statement}
 use Rattle.test_lengths.proofs.same.same_words.Tie as tie
 
 abbrev Inv-loop : tie.InvT-loop
-Inv-loop a b k₀ k = k ≤ 37
+Inv-loop a b k₀ k = k ≤ 38
 
 abbrev μ-loop : tie.MeasureT-loop
-μ-loop a b k₀ k = 37 - k
+μ-loop a b k₀ k = 38 - k
 
 loop-holds : tie.Need-loop-holds Inv-loop μ-loop
 loop-holds c = search needs
