@@ -144,7 +144,8 @@ enum nscc_state {
     NSCC_STATE_CURSOR,          /* the EV from which the next path is looked for: below the EV count */
     NSCC_STATE_PHASE,           /* 0 IDLE, 1 PENDING, 2 READY, 3 ACTIVE */
     NSCC_STATE_EV_COUNT,        /* how many EVs there are, and EV times: 256, 512, 1024, 2048 or 4096 */
-    NSCC_STATE_WORDS            /* how many there are: 37 */
+    NSCC_STATE_TURN,            /* the held turn, the flow from which the next round starts: below the number of flows */
+    NSCC_STATE_WORDS            /* how many there are: 38 */
 };
 
 /*

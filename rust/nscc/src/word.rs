@@ -46,6 +46,8 @@ pub enum Word {
     Phase,
     /// A power of two, [`EVS_MIN`]..[`EVS_MAX`].
     EvCount,
+    /// The held turn, the flow from which the next round starts: below the number of flows.
+    Turn,
 }
 
 impl Word {
@@ -87,6 +89,7 @@ impl Word {
         Word::Cursor,
         Word::Phase,
         Word::EvCount,
+        Word::Turn,
     ];
 }
 
@@ -156,7 +159,7 @@ impl Phase {
 /// How many settings there are.
 pub const SETTINGS: usize = 12;
 /// How many words a state has.
-pub const WORDS: usize = 37;
+pub const WORDS: usize = 38;
 /// How many words a flow has in the table.
 pub const FLOW_WORDS: usize = 4;
 /// The greatest number of flows. The least is one.
