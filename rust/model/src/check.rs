@@ -1,5 +1,6 @@
-//! Number 2 of 01: do state and lent memory hold together? The tests run in an order in which each
-//! may rely on those before it, so that none can overflow or leave a slice.
+//! Number 2 of 01: do state and lent memory hold together? A held turn that names no flow is 2 too
+//! (M-108). The tests run in an order in which each may rely on those before it, so that none can
+//! overflow or leave a slice.
 
 use crate::bounds::{
     AVG_MAX, BACKLOG_MAX, COUNT_END, INC_BYTES_MAX, IN_FLIGHT_MIN, LATER_END, RESENDS_MAX,
@@ -16,6 +17,7 @@ pub fn number_two(state: &State, lent: &Lent) -> bool {
     lent.lengths_good(state.settings.ev_count)
         && state.settings.in_range()
         && numbers_good(state)
+        && lent.flow_allowed(state.turn).is_ok()
         && times_good(state, lent)
         && flows_good(state, lent)
         && totals_good(state, lent)

@@ -420,7 +420,7 @@ impl State {
         Ok(ev)
     }
 
-    fn together(&self, lent: &Lent) -> Result<(), Refusal> {
+    pub(crate) fn together(&self, lent: &Lent) -> Result<(), Refusal> {
         Refusal::NotTogether.unless(number_two(self, lent))
     }
 

@@ -32,7 +32,7 @@ impl Ledger<'_> {
             .filter(|&slot| self.ring.status(slot) == status)
     }
 
-    /// The first marked PSN from `psn` on, which is one of low..next-1; next where there is none.
+    /// The first marked PSN from `psn` on, which is one of low..next; next where there is none.
     pub fn first_marked(&self, psn: u32) -> u32 {
         let next = self.flow.next;
         let mut from = psn;

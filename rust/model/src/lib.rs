@@ -3,9 +3,10 @@
 //!
 //! [`State`] holds the numbers of a context, [`Lent`] the table of its flows, their rings and the EV
 //! times. Each event is of one flow, changes both in place and returns 0, or the refusal number of 01
-//! and changes nothing. An accepted ACK or NACK says what became of its sample: [`Sampling`]. A log
-//! may also come in chunks: [`Part`] is what its replay holds between them. A [`Report`] has the
-//! figures of a whole log.
+//! and changes nothing. An accepted ACK or NACK says what became of its sample: [`Sampling`]. Which
+//! flow sends next is a choice, and no event: [`State::choose`] answers a [`Turn`]. A log may also
+//! come in chunks: [`Part`] is what its replay holds between them. A [`Report`] has the figures of
+//! a whole log.
 
 #![forbid(unsafe_code)]
 
@@ -27,6 +28,7 @@ pub mod rng;
 mod sampling;
 pub mod settings;
 pub mod state;
+mod turn;
 pub mod vectors;
 mod window;
 
@@ -44,3 +46,4 @@ pub use rng::Rng;
 pub use sampling::Sampling;
 pub use settings::Settings;
 pub use state::{Name, State};
+pub use turn::Turn;

@@ -1,5 +1,5 @@
-/// Why an event, a setting up, a log record or a chunk is refused; the value is the number of 01 as
-/// amended by M-100, or of M-104 and M-107.
+/// Why an event, a choice, a setting up, a log record or a chunk is refused; the value is the
+/// number of 01 as amended by M-100, or of M-104 and M-107.
 #[derive(Clone, Copy, Debug, PartialEq, Eq)]
 #[repr(u8)]
 pub enum Refusal {

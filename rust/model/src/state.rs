@@ -64,6 +64,8 @@ pub struct State {
 
     /// The EV from which the next path is looked for.
     pub cursor: u64,
+    /// The flow from which the next round starts (M-108). Only a choice moves it.
+    pub turn: u64,
     pub name: Name,
 }
 

@@ -309,6 +309,9 @@ fn number_2_of_the_context() {
         spoil(&mut side);
         side.refuse(Refusal::NotTogether, bytes, ended, room);
         let mut side = fresh.clone();
+        side.state.turn = 1;
+        side.refuse(Refusal::NotTogether, bytes, ended, room);
+        let mut side = fresh.clone();
         side.memory.ev_times.pop();
         side.refuse(Refusal::NotTogether, bytes, ended, room);
         // 2 before 28.

@@ -19,10 +19,11 @@ pub const LOWS: [u32; 8] = [
 ];
 
 /// Eight flows of four packets, which differ by one byte from flow to flow: flying, marked, done,
-/// flying. Flow k has a count of 10 k and 1,000 k bytes of backlog.
+/// flying. Flow k has a count of 10 k and 1,000 k bytes of backlog. It is flow 5's turn.
 pub fn eight() -> Rig {
     let mut rig = Rig::e_with_flows(8);
     rig.state.in_flight = 20_000;
+    rig.state.turn = 5;
     for (k, low) in LOWS.into_iter().enumerate() {
         let (number, size) = (k as u32, 100 + k as u32);
         rig.memory.flows[k].held = 10 * number;
@@ -377,7 +378,7 @@ fn what_each_ring_shows() {
 }
 
 /// An event that means something to a flow.
-fn any_event(rng: &mut Rng, rig: &Rig, flow: usize) -> Event {
+pub fn any_event(rng: &mut Rng, rig: &Rig, flow: usize) -> Event {
     let Flow {
         low, next, held, ..
     } = rig.memory.flows[flow];

@@ -6,10 +6,11 @@ use model::{Flow, Memory, Name, Refusal};
 
 const NOW: u64 = 10_050;
 
-/// It is 2 to every event, of any flow, and to what the rings show.
+/// It is 2 to every event, of any flow, to a choice and to what the rings show.
 #[track_caller]
 fn spoilt(what: &str, mut rig: Rig) {
     assert!(!rig.holds(), "{what} should be 2");
+    rig.refuse_choice();
     for flow in [0, 1, 7, 8, u64::MAX] {
         for event in [
             new_data(NOW, 1),
@@ -46,6 +47,29 @@ fn the_number_of_flows() {
     let mut none = Rig::e();
     none.memory = Memory::with_flows(0, 0, 256);
     spoilt("nothing at all", none);
+}
+
+/// A held turn that names no flow (M-108), by the table that is lent.
+#[test]
+fn the_turn_is_a_flow_of_the_table() {
+    for flows in 1..=8 {
+        let with_turn = |turn| {
+            let mut rig = Rig::e_with_flows(flows);
+            rig.state.turn = turn;
+            rig
+        };
+        let end = flows as u64;
+        for turn in 0..end {
+            assert!(with_turn(turn).holds(), "flow {turn} of {flows}");
+        }
+        for turn in [end, end + 1, 8, 9, 64, 256, 1 << 32, 1 << 63, u64::MAX] {
+            spoilt(&format!("turn {turn} of {flows} flows"), with_turn(turn));
+        }
+        // The same state with the memory of fewer flows.
+        let mut rig = with_turn(end - 1);
+        rig.memory = Memory::with_flows(flows.max(2) - 1, 64, 256);
+        assert_eq!(rig.holds(), flows == 1);
+    }
 }
 
 #[test]

@@ -25,5 +25,7 @@ mod rig;
 mod samples;
 mod sampling;
 mod stops;
+mod turns;
+mod turns_random;
 mod vectors;
 mod window;

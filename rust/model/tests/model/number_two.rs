@@ -81,6 +81,7 @@ fn all_spoilt(changes: &[(&str, Change)]) {
         for event in every_event() {
             rig.refuse(2, event);
         }
+        rig.refuse_choice();
         let lent = rig.memory.lend();
         assert_eq!(rig.state.status(&lent, 0, 0), Err(Refusal::NotTogether));
         assert_eq!(
@@ -285,6 +286,8 @@ fn ledger_numbers() {
         }),
         ("in-flight at its highest", |r| r.state.in_flight = i64::MAX),
         ("cursor of 256", |r| r.state.cursor = 256),
+        ("turn of 1 among one flow", |r| r.state.turn = 1),
+        ("turn at its widest", |r| r.state.turn = u64::MAX),
     ]);
 }
 

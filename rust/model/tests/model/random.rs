@@ -2,6 +2,7 @@
 
 use crate::naive::{check_totals, Naive};
 use crate::rig::*;
+use crate::turns_random::expected;
 use model::{gen, Event, Flow, Memory, Name, Outcome, Reader, Refusal, Rng, Settings, State};
 use std::collections::BTreeMap;
 
@@ -100,7 +101,7 @@ impl Seen {
 
 /// Goes through a log with so many flows of 512 slots: what number 2 asks holds after every event,
 /// a refused event changes nothing, an accepted one nothing of other flows, both forms of an event
-/// do the same, and the naive ledgers agree.
+/// do the same, none moves the turn, and the naive ledgers agree.
 fn follow(log: &[u8], flows: usize, seen: &mut Seen) {
     let mut reader = Reader::new(log);
     let Ok(Some(first)) = reader.next_record() else {
@@ -110,6 +111,8 @@ fn follow(log: &[u8], flows: usize, seen: &mut Seen) {
         return;
     };
     let mut rig = Rig::with_flows(settings, flows, 512);
+    let turn = flows as u64 - 1;
+    rig.state.turn = turn;
     let naive = (0..flows).map(|_| Naive::new(settings.first_psn));
     let mut naive: Vec<Naive> = naive.collect();
     while let Ok(Some(record)) = reader.next_record() {
@@ -123,6 +126,7 @@ fn follow(log: &[u8], flows: usize, seen: &mut Seen) {
         assert_eq!(state.take_trusted(&mut memory.lend(), &event), outcome);
         assert_eq!(trusted, rig);
         assert!(rig.holds(), "{event:?} on {:?}", before.state);
+        assert_eq!(rig.state.turn, turn, "{event:?}");
         if outcome.number == 0 {
             let flow = flow_of(&event) as usize;
             assert_eq!(rig.state.clock, time_of(&event));
@@ -277,7 +281,7 @@ fn edge(rng: &mut Rng) -> u64 {
 
 fn spoil_state(rng: &mut Rng, state: &mut State) {
     let number = edge(rng);
-    match rng.below(25) {
+    match rng.below(26) {
         0 => state.clock = number,
         1 => state.flying = number,
         2 => state.marked = number,
@@ -301,6 +305,7 @@ fn spoil_state(rng: &mut Rng, state: &mut State) {
         20 => state.fast_mode = !state.fast_mode,
         21 => state.name = rng.pick(&[Name::Idle, Name::Pending, Name::Ready, Name::Active]),
         22 => state.settings.ev_count = rng.pick(&[255, 256, 512, number as u32]),
+        23 => state.turn = rng.pick(&[1, 2, 7, 8, u64::MAX, number]),
         _ => {
             let mut numbers = state.settings.numbers();
             numbers[rng.below(12) as usize] = number;
@@ -383,6 +388,7 @@ fn any_event(rng: &mut Rng) -> Event {
 fn garbage_is_answered() {
     let mut rng = Rng::new(5);
     let mut answers = [0; NUMBERS];
+    let mut chosen = [0; 2];
     for _ in 0..60_000 {
         let slots = [(FLYING, 100, 9_000, 0), (MARKED, 100, 9_000, 1)];
         let rig = Rig::e_with_flows(2).lay(u32::MAX, &slots);
@@ -395,6 +401,13 @@ fn garbage_is_answered() {
         }
         let before = rig.clone();
         let good = rig.holds();
+        if good {
+            let named = expected(&rig, rig.state.turn);
+            assert_eq!(rig.clone().choose(), Ok(named));
+            chosen[rig.state.turn as usize] += 1;
+        } else {
+            rig.refuse_choice();
+        }
         let flow = edge(&mut rng);
         let flow = rng.pick(&[0, 0, 1, 1, flow]);
         let event = of(flow, any_event(&mut rng));
@@ -408,7 +421,7 @@ fn garbage_is_answered() {
         answers[usize::from(number)] += 1;
     }
     assert!(answers[0] > 100 && answers[2] > 1_000 && answers[3] > 100);
-    assert!(answers[25] > 100);
+    assert!(answers[25] > 100 && chosen.iter().all(|&times| times > 100));
 }
 
 #[test]
@@ -428,6 +441,7 @@ fn a_state_of_nothing_but_garbage_is_answered() {
         }
         let mut rig = Rig { state, memory };
         assert!(!rig.holds());
+        rig.refuse_choice();
         rig.refuse(2, any_event(&mut rng));
     }
 }

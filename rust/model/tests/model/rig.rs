@@ -1,7 +1,8 @@
 //! A state with memory of its own, and short ways to make events.
 
 use model::{
-    Ack, Event, Flow, Loss, Memory, Nack, Name, NewData, Outcome, Path, Send, Settings, State,
+    Ack, Event, Flow, Loss, Memory, Nack, Name, NewData, Outcome, Path, Refusal, Send, Settings,
+    State, Turn,
 };
 
 pub const EMPTY: u8 = 0;
@@ -219,12 +220,18 @@ impl Rig {
         self.state.take(&mut self.memory.lend(), &event.into())
     }
 
-    /// The event must be accepted, move the clock and leave what holds together.
+    pub fn choose(&mut self) -> Result<Option<Turn>, Refusal> {
+        self.state.choose(&self.memory.lend())
+    }
+
+    /// The event must be accepted, move the clock but not the turn, and leave what holds together.
     #[track_caller]
     pub fn accept(&mut self, event: impl Into<Event>) -> Outcome {
         let event = event.into();
         assert!(self.holds(), "before {event:?}: {:?}", self.state);
+        let turn = self.state.turn;
         let outcome = self.take(event);
+        assert_eq!(self.state.turn, turn, "{event:?}");
         assert_eq!(outcome.number, 0, "{event:?}");
         assert_eq!(outcome.ev.is_some(), matches!(event, Event::Path(_)));
         let reports = matches!(event, Event::Ack(_) | Event::Nack(_));
@@ -241,6 +248,14 @@ impl Rig {
         let before = self.clone();
         let outcome = self.take(event);
         assert_eq!(outcome, Outcome::from(number), "{event:?}");
+        assert_eq!(*self, before);
+    }
+
+    /// A choice must be refused, with 2, and change nothing.
+    #[track_caller]
+    pub fn refuse_choice(&mut self) {
+        let before = self.clone();
+        assert_eq!(self.choose(), Err(Refusal::NotTogether));
         assert_eq!(*self, before);
     }
 
