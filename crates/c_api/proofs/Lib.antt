@@ -13,3 +13,4 @@ pub mod Untouched
 pub mod Constant
 pub mod Unique
 pub mod Lookings
+pub mod Choosings

@@ -9,6 +9,7 @@ use Rattle.context.specs.Events.{onNewData, onSend, onLoss}
 use Rattle.rules.specs.Unique.{OneOutcome, one-outcome}
 use Rattle.c_api.specs.Calls.{sendBy, ackBy, nackBy, lossBy, Called, called, onWords, pathBeside, ackBeside, nackBeside}
 use Rattle.c_api.specs.Calls.{onBesideWords, onSetUpWords}
+use Rattle.c_api.specs.Turns.{Choosing, choosing, onChooseWords}
 use Rattle.c_api.specs.Batch.{Replayed, replayCalled, onReplayWords}
 use Rattle.c_api.specs.Parts.{Chunked, chunkCalled, onChunkWords}
 
@@ -56,6 +57,22 @@ module _ (ws fs : List ℕ) (r : Memory) (t : List ℕ) where
 
   pub path-unique : (time k : ℕ) → OneOutcome made (onBesideWords ws fs r t (pathBeside time k))
   path-unique time k = call-unique _
+
+-- ---- a choice, which has the table, the ring buffer and the EV times to read only
+
+pub record ChoiceOutcome : Type 0 where
+  pub number : ℕ
+  pub state : List ℕ
+  pub turn : List ℕ
+
+abbrev pub madeChoice : ChoiceOutcome → Choosing
+madeChoice x = choosing (x .number) (x .state) (x .turn)
+
+abbrev backChoice : Choosing → ChoiceOutcome
+backChoice c = record { number = c .number; state = c .words; turn = c .turn }
+
+pub choose-unique : (ws fs : List ℕ) (r : Memory) (t turn : List ℕ) → OneOutcome madeChoice (onChooseWords ws fs r t turn)
+choose-unique ws fs r t turn = one-outcome madeChoice backChoice (λ x. refl) _
 
 -- ---- a replay, and a replay in chunks
 

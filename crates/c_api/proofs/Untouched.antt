@@ -1,15 +1,16 @@
 -- A REFUSED CALL LEAVES EVERYTHING THAT IT WAS LENT AS IT WAS: the state's words, the flows', the ring buffer, the EV times; for any event
--- that does so to its context (`refused-words`), so for each event of a flow, for a path choice and for setting up; for a replay its place
--- and its answers too (`replay-untouched`). A replay refuses words that are no state's where it looks at them (`replay-no-state`). And a
+-- that does so to its context (`refused-words`), so for each event of a flow, for a path choice and for setting up; of a choice of the next
+-- flow the words to answer in too (`choose-untouched`), of a replay its place and its answers (`replay-untouched`). A replay refuses words that are no state's where it looks at them (`replay-no-state`). And a
 -- word of two numbers tells both (`path-word`, `ack-word`, `nack-word`).
 -- Assumes nothing.
 use mathlib.Core.Path.{_≡_, refl, sym, ap, _∙_}
 use mathlib.Core.Bool.{Bool, true, false, _&&_}
 use mathlib.Core.List.{List}
+use mathlib.Core.Option.{none}
 use Prim.Native.Nat.{ℕ, _^_, _/_, _%_}
 use lib.Dec.{leb}
 use borrow.Author.Tests.{ne-eqb}
-use Rattle.rules.specs.Branch.{ifEq, so-no, eq-no, so-both, lt-both}
+use Rattle.rules.specs.Branch.{ifSo, ifEq, so-no, eq-no, so-both, lt-both}
 use Rattle.rules.specs.Rows.{firstOf}
 use Rattle.rules.specs.Test.{inside}
 use Rattle.window.specs.Range.{inRange}
@@ -25,6 +26,7 @@ use Rattle.sender.proofs.Rowing.{answer-other}
 use Rattle.context.specs.Context.{Context, context, Answered, answered, Routing, sharedOf}
 use Rattle.context.specs.Sound.{soundContext}
 use Rattle.context.specs.Events.{decided, chosen, onNewData, onSend, onAck, onNack, onLoss, onPath}
+use Rattle.context.specs.Turns.{Chosen, chose, pastChoose, onChoose}
 use Rattle.context.specs.Start.{setUpRows, freshState, freshTable, onSetUp}
 use Rattle.context.specs.declared.Controller.{Controller}
 use Rattle.replay.specs.Answers.{soundAfter}
@@ -36,6 +38,7 @@ use Rattle.c_api.specs.Flags.{flag}
 use Rattle.c_state.specs.declared.Unpacked.{Unpacked}
 use Rattle.c_api.specs.Calls.{Called, called, wordsAfter, Beside, pathBeside, ackBeside, nackBeside, besideWord, onWords}
 use Rattle.c_api.specs.Calls.{onBesideWords, onSetUpWords}
+use Rattle.c_api.specs.Turns.{turnAfter, Choosing, choosing, packedTurn, onChooseWords}
 use Rattle.c_api.proofs.Singles.{word-parts, path-double, ack-double, nack-double}
 use Rattle.c_api.specs.Parts.{carryFrom, partOk, Chunked, chunkCalled, partThen, handedPart, onChunkWords}
 use Rattle.c_api.specs.Batch.{placeFrom, lentOk, Replayed, replayCalled, placeThen, wordsThen, handed, onReplayWords}
@@ -179,6 +182,23 @@ module _ (ws fs : List ℕ) (r : Memory) (t : List ℕ) where
       (λ _ _. refused-here 2))
       (λ _ _. refused-here 1))
       (λ _ _. refused-here 2)
+
+-- ---- a refused choice
+
+module _ (ws fs : List ℕ) (r : Memory) (t turn : List ℕ) where
+  two-spared : (x : Context) → packedTurn ws turn (chose 2 none x) ≡ choosing 2 ws turn
+  unfolding wordsAfter turnAfter ifEq ifSo
+  two-spared x = refl
+
+  -- a number other than 0 is 2, and neither the state's words nor those to answer in are written
+  pub choose-untouched : (onChooseWords ws fs r t turn .number ≡ 0 → ⊥) → onChooseWords ws fs r t turn ≡ choosing 2 ws turn
+  unfolding onChooseWords onChoose pastChoose
+  choose-untouched =
+      so-both (λ (x : Choosing). (x .number ≡ 0 → ⊥) → x ≡ choosing 2 ws turn) _ _ _
+      (λ _.
+      so-both (λ (c : Chosen). (c .number ≡ 0 → ⊥) → packedTurn ws turn c ≡ choosing 2 ws turn)
+      (soundContext (context (stateFrom ws) fs r t)) _ _ (λ _ h. absurd (h refl)) (λ _ _. two-spared (context (stateFrom ws) fs r t)))
+      (λ _ _. refl)
 
 -- ---- a refused replay
 

@@ -1,4 +1,4 @@
-// The library for C: every event of a flow over lent words. Slices only: the state's 37 words (`c_state`), the table of flows
+// The library for C: every event of a flow over lent words. Slices only: the state's 38 words (`c_state`), the table of flows
 // (request M-107), the ring buffer's four slices, the EV times, a log's bytes. A call is a replay's batch of one event
 // (`replay::once`), so that the archive has the rules once, in the replay's loop. No function has a `requires`; what no proof
 // can see, that pointers and lengths are true and that nothing overlaps, is said in include/nscc.h.
@@ -6,6 +6,7 @@
 pub mod batch;
 pub mod looks;
 pub mod parts;
+pub mod turns;
 
 use c_state::WORDS;
 use context::Controller;

@@ -223,8 +223,8 @@ pub fn store(ws: &mut [u64], state: Controller)
     copy(&from, ws);
 }
 
-// All of one over the other, of the same length.
-fn copy(from: &[u64], to: &mut [u64])
+// All of one over the other. An inner step: the caller proves that they have the same length.
+pub fn copy(from: &[u64], to: &mut [u64])
     requires { ⌜ length (now to) ≡ length (now from) ⌝ }
     ensures { λ _. ⌜ now (to .exit) ≡ now (from .entry) ⌝ }
 {
