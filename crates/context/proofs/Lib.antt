@@ -12,6 +12,8 @@ pub mod Starts
 pub mod Entries
 pub mod Looks
 pub mod Rounds
+pub mod Fair
+pub mod Choices
 pub mod Offers
 pub mod Events
 pub mod Tables

@@ -4,15 +4,13 @@ use mathlib.Core.Path.{_≡_, refl, sym, ap, ap₂, _∙_}
 use mathlib.Core.Bool.{Bool, true, false}
 use mathlib.Core.List.{List, [], _∷_, _++_}
 use mathlib.Core.Option.{Option, none, some}
-use Prim.Native.Nat.{ℕ, zero, suc, _+_, _-_, _%_, _≤_, _<_}
+use Prim.Native.Nat.{ℕ, zero, suc, _+_, _-_, _≤_, _<_}
 use native.Mathlib.Nat.{sub-zero}
 use native.Mathlib.Omega.{arith}
 use lib.ListN.{take, drop}
-use Rattle.rules.specs.Branch.{ifSo, so-yes, so-no, so-both}
+use Rattle.rules.specs.Branch.{ifSo, so-yes, so-no}
 use Rattle.context.specs.Context.{Context, flowCount}
-use Rattle.context.specs.Sound.{soundContext}
-use Rattle.context.specs.Turns.{isReady, numbers, roundOf, firstReady, windowOpen, namedBy, turnOf, offeredBy}
-use Rattle.context.specs.Turns.{withTurn, turnAfter, withTurnOf, chose, pastChoose, onChoose}
+use Rattle.context.specs.Turns.{isReady, numbers, roundOf, firstReady, windowOpen, namedBy, offeredBy}
 use Rattle.context.specs.declared.choice.Turn.{Turn}
 
 -- ---- numbers one after another
@@ -138,81 +136,3 @@ module _ (x : Context) where
         → firstReady (isReady x) (numbers 0 (x .state .turn - 0)) ≡ namedBy x
     round-behind e =
         ap (λ (n : ℕ). firstReady (isReady x) (numbers 0 n)) (sub-zero (x .state .turn)) ∙ sym (split ∙ named-behind x (isReady x) _ _ e)
-
--- ---- a flow that is named is there
-
--- all numbers of a list are below n
-abbrev Within : ℕ → List ℕ → Type 0
-Within n [] = Unit {0}
-Within n (k ∷ ks) = (k < n) × Within n ks
-
-within-numbers : (n k m : ℕ) → k + m ≤ n → Within n (numbers k m)
-unfolding numbers
-within-numbers n k zero h = tt
-within-numbers n k (suc m) h = (omega arith, within-numbers n (suc k) m (omega arith))
-
-within-both : (n : ℕ) (xs ys : List ℕ) → Within n xs → Within n ys → Within n (xs ++ ys)
-within-both n [] ys a b = b
-within-both n (k ∷ xs) ys a b = (a .0, within-both n xs ys (a .1) b)
-
-first-within : (ready : ℕ → Bool) (n : ℕ) (ks : List ℕ) {j : ℕ} → Within n ks → firstReady ready ks ≡ some j → j < n
-unfolding firstReady
-first-within ready n [] a e = absurd (let z : _≡_ {A = ℕ} 0 1 = cc in omega arith)
-first-within ready n (k ∷ ks) {j} a e =
-    so-both (λ (o : Option ℕ). o ≡ some j → j < n) (ready k) _ _
-    (λ _ q. let same : k ≡ j = cc in omega (arith, a .0))
-    (λ _ q. first-within ready n ks (a .1) q) e
-
-pub named-in : (x : Context) {k : ℕ} → x .state .turn ≤ flowCount x → namedBy x ≡ some k → k < flowCount x
-unfolding namedBy
-named-in x {k} h =
-    let n = flowCount x in
-    let turn = x .state .turn in
-    let front = numbers turn (n - turn) in
-    let rear = numbers 0 turn in
-    so-both (λ (o : Option ℕ). o ≡ some k → k < n) (windowOpen x) _ _
-    (λ _ e.
-    first-within (isReady x) n (front ++ rear)
-    (within-both n front rear (within-numbers n turn (n - turn) (omega arith)) (within-numbers n 0 turn (omega arith)))
-    (ap (firstReady (isReady x)) (sym (round-split turn n h)) ∙ e))
-    (λ _ e. absurd (let z : _≡_ {A = ℕ} 0 1 = cc in omega arith))
-
--- ---- the answer
-
-module _ (x : Context) where
-  pub choose-unsound : soundContext x ≡ false → chose 2 none x ≡ onChoose x
-  unfolding onChoose
-  choose-unsound e = so-no (soundContext x) _ _ _ e refl
-
-  module _ (sound : soundContext x ≡ true) where
-    -- nobody: the turn stays
-    pub choose-nobody : none ≡ offeredBy x (namedBy x) → chose 0 none x ≡ onChoose x
-    unfolding onChoose pastChoose offeredBy turnAfter withTurn
-    choose-nobody e = so-yes (soundContext x) _ _ _ sound (by (namedBy x) e)
-      where
-        by : (o : Option ℕ) → none ≡ offeredBy x o → chose 0 none x ≡ chose 0 (offeredBy x o) (withTurnOf (turnAfter o x) x)
-        by none q = refl
-        by (some k) q = absurd (let z : _≡_ {A = ℕ} 0 1 = cc in omega arith)
-
-    module _ (t : Turn) (e : some t ≡ offeredBy x (namedBy x)) where
-      -- somebody: the flow is there ..
-      pub choose-in : x .state .turn ≤ flowCount x → t .flow < flowCount x
-      unfolding offeredBy turnOf
-      choose-in h = by (namedBy x) refl e
-        where
-          by : (o : Option ℕ) → namedBy x ≡ o → some t ≡ offeredBy x o → t .flow < flowCount x
-          by none p q = absurd (let z : _≡_ {A = ℕ} 0 1 = cc in omega arith)
-          by (some k) p q = let same : t ≡ turnOf x k = cc in omega (arith, ap (λ (u : Turn). u .flow) same, named-in x h p)
-
-      -- .. and the turn goes to the one after it
-      pub choose-named : (turn : ℕ) → turn ≡ (t .flow + 1) % flowCount x → chose 0 (some t) (withTurnOf turn x) ≡ onChoose x
-      unfolding onChoose pastChoose offeredBy turnOf turnAfter
-      choose-named turn at = so-yes (soundContext x) _ _ _ sound (by (namedBy x) e)
-        where
-          by : (o : Option ℕ) → some t ≡ offeredBy x o
-              → chose 0 (some t) (withTurnOf turn x) ≡ chose 0 (offeredBy x o) (withTurnOf (turnAfter o x) x)
-          by none q = absurd (let z : _≡_ {A = ℕ} 0 1 = cc in omega arith)
-          by (some k) q =
-              let same : t ≡ turnOf x k = cc in
-              ap₂ (λ (u : Option Turn) (n : ℕ). chose 0 u (withTurnOf n x)) q
-              (at ∙ ap (λ (u : Turn). (u .flow + 1) % flowCount x) same)

@@ -5,6 +5,7 @@ pub mod Ones
 pub mod Bursts
 pub mod Sampled
 pub mod Histories
+pub mod Turns
 pub mod Sends
 pub mod Instance
 pub mod Theorems

@@ -52,7 +52,7 @@ answer-decided k (nack time a) x = refl
 answer-decided k (loss time a) x = refl
 answer-decided k (path time) x = route-decided (firstOf (withSound x (pathOf time k x))) _ x (pathLeft time k x)
 
-decided-number : (n : ℕ) (x after : Context) → n ≡ decided n x after .number
+pub decided-number : (n : ℕ) (x after : Context) → n ≡ decided n x after .number
 unfolding decided
 decided-number n x after = answer-number (λ (a : Answered). a .number) n _ _ refl refl
 

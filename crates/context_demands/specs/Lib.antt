@@ -4,4 +4,5 @@ pub mod Sums
 pub mod Burst
 pub mod Permitted
 pub mod Demands
+pub mod Turns
 pub mod Cases

@@ -1,4 +1,4 @@
--- `choose` tests number 2, asks the round, and moves the turn where somebody is named (proofs/Rounds).
+-- `choose` tests number 2, asks the round, and moves the turn where somebody is named (proofs/Choices).
 use mathlib.Core.Path.{_≡_, sym, ap, _∙_}
 use mathlib.Core.Bool.{true}
 use mathlib.Core.Option.{some}
@@ -12,8 +12,7 @@ use Rattle.context.specs.Lent.{contextGiven}
 use Rattle.context.specs.Sound.{soundContext}
 use Rattle.context.specs.Turns.{choiceOf, chose}
 use Rattle.context.specs.declared.Controller.{Controller}
-use Rattle.context.proofs.Sounds.{context-facts}
-use Rattle.context.proofs.Rounds.{choose-unsound, choose-nobody, choose-in, choose-named}
+use Rattle.context.proofs.Choices.{choose-unsound, choose-nobody, choose-in, choose-named}
 use Rattle.context.proofs.choice.choose.Statement.{statement}
 use Rattle.context.proofs.choice.choose.Tie as tie
 
@@ -62,7 +61,7 @@ after-requires c κs =
     let r = c .before .before .before .before in
     let x = handed (start r) in
     let e = ap choiceOf (sym (c .before .before .choice .given .1)) ∙ r .round .ensures in
-    omega (arith, c .count .ensures, choose-in x (holds r) _ e (omega (arith, context-facts x (holds r) .turn-ok)))
+    omega (arith, c .count .ensures, choose-in x (holds r) _ e)
 
 with-turn-requires : tie.Need-with-turn-requires
 with-turn-requires c κs = search needs
