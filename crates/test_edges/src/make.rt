@@ -79,7 +79,7 @@ fn quiet_window(cwnd: u64, base: u64) -> Window {
     }
 }
 
-// No packet flying or marked, and the window that settings start with.
+// No packet flying or marked, the window that settings start with, and the turn of flow 0, which setting up leaves too (request M-108).
 fn quiet(settings: Settings, backlog: u64, clock: u64, phase: u32) -> Controller {
     let window = quiet_window(settings.maxwnd, settings.config_base_rtt);
     Controller {
