@@ -4,7 +4,7 @@
 -- Assumes nothing.
 use mathlib.Core.Path.{_≡_, refl, sym, ap, ap₂, _∙_}
 use mathlib.Core.List.{List}
-use mathlib.Core.Option.{Option}
+use mathlib.Core.Option.{Option, Option·some-injective, Option·none-ne-some}
 use Prim.Native.Nat.{ℕ}
 use Rattle.rules.specs.Unique.{OneOutcome, Tells, unique}
 use Rattle.rules.specs.Verdict.{numberOf, number-tells}
@@ -19,15 +19,20 @@ use Rattle.sender.specs.declared.Send.{Send}
 use Rattle.sender.specs.declared.Ack.{Ack}
 use Rattle.sender.specs.declared.Nack.{Nack}
 use Rattle.sender.specs.declared.Loss.{Loss}
-use Rattle.context.specs.Context.{Context, Answered, answered, Routing, routed}
+use Rattle.context.specs.Context.{Context, context, Answered, answered, Routing, routed}
 use Rattle.context.specs.Start.{onSetUp}
 use Rattle.context.specs.Events.{onNewData, onSend, onAck, ackSays, onNack, nackSays, onLoss, onPath}
 use Rattle.context.specs.Events.{pastNewData, pastSend, pastAck, pastAckSays, pastNack, pastNackSays, pastLoss, pastPath}
 use Rattle.context.specs.Look.{onStatus, onNextMarked}
+use Rattle.context.specs.Turns.{choiceOf, Chosen, chose, onChoose}
 use Rattle.context.specs.Table.{Tabled, tabled, inRecords, routeAnswer}
+use Rattle.context.specs.declared.Controller.{Controller}
 use Rattle.context.specs.declared.Answer.{Answer}
 use Rattle.context.specs.declared.Heard.{Heard}
 use Rattle.context.specs.declared.Routed.{Routed}
+use Rattle.context.specs.declared.choice.Choice.{Choice}
+use Rattle.context.specs.declared.choice.Choice.the-variants as choice
+use Rattle.context.specs.declared.choice.Chosen.{Chosen as Choosing}
 use Rattle.demands.proofs.Unique.{feedback-one, madeLook, look-tells}
 
 -- the whole outcome of a call: its answer, and the final contents of the table, the ring buffer and the EV times
@@ -113,6 +118,32 @@ module _ (x : Context) (time k : ℕ) where
 -- .. and no two of `status` or of `next_marked`, which are lent nothing to change
 pub look-unique : (x : Context) (k psn : ℕ) → OneOutcome madeLook (onStatus k psn x) × OneOutcome madeLook (onNextMarked k psn x)
 look-unique x k psn = (unique madeLook look-tells _, unique madeLook look-tells _)
+
+-- ---- a choice, which is lent nothing to change
+
+module _ (flows : List ℕ) (m : Memory) (times : List ℕ) where
+  -- what the contract makes of its answer
+  abbrev pub madeChoice : Choosing → Chosen
+  madeChoice r = chose (numberOf (r .verdict)) (choiceOf (r .choice)) (context (r .state) flows m times)
+
+  -- what is named tells the choice
+  choice-one : (a b : Choice) → choiceOf a ≡ choiceOf b → a ≡ b
+  unfolding choiceOf
+  choice-one (choice.Named t) (choice.Named u) q = ap choice.Named (Option·some-injective t u q)
+  choice-one (choice.Named t) choice.Nobody q = absurd (Option·none-ne-some t (sym q))
+  choice-one choice.Nobody (choice.Named u) q = absurd (Option·none-ne-some u q)
+  choice-one choice.Nobody choice.Nobody q = refl
+
+  choice-tells : Tells madeChoice
+  choice-tells x y e =
+      let v = number-tells (x .verdict) (y .verdict) (ap (λ (z : Chosen). z .number) e) in
+      let c = choice-one (x .choice) (y .choice) (ap (λ (z : Chosen). z .turn) e) in
+      ap₂ (λ (h : Verdict × Choice) (d : Controller). record { state = d; verdict = h .0; choice = h .1 })
+      (ap₂ (λ (v : Verdict) (c : Choice). (v, c)) v c) (ap (λ (z : Chosen). z .after .state) e)
+
+  -- no two of `choose`
+  pub choose-unique : (x : Context) → OneOutcome madeChoice (onChoose x)
+  choose-unique x = unique madeChoice choice-tells (onChoose x)
 
 -- ---- the methods over a lent table of records
 
