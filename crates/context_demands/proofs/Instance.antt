@@ -1,6 +1,6 @@
 -- Instances, so that no theorem is empty, by computation: two flows of 64 slots, document 01's settings E. An accepted setting up and a
--- history of both flows from it, with its sums, a flow out of range among them; and a burst of two ACKs of flow 1, the newest first and
--- doubled, which satisfies every premise of `burst`.
+-- history of both flows from it, with its sums, a flow out of range among them; a list of events and choices in which flow 1 is ready at
+-- every choice (`fair-turns`); and a burst of two ACKs of flow 1, the newest first and doubled, which satisfies every premise of `burst`.
 -- Assumes nothing.
 use mathlib.Core.Path.{_≡_, refl}
 use mathlib.Core.Logic.{_⊎_, inl, inr, ⊎-elim}
@@ -10,7 +10,7 @@ use Prim.Native.Nat.{ℕ, zero, suc, _*_, _<_}
 use native.Mathlib.Omega.{arith}
 use lib.Count.{leadingZeros}
 use lib.IntN.{pos}
-use lib.ListN.{replicate}
+use lib.ListN.{replicate, take}
 use Rattle.rules.specs.Branch.{ifSo, ifLt, ifEq}
 use Rattle.rules.specs.Mode.{isOn, isMode}
 use Rattle.rules.specs.Test.{inside}
@@ -35,6 +35,7 @@ use Rattle.ledger.specs.Bounds.{inBounds, sinks}
 use Rattle.ledger.specs.Ring.{packetAt, tabulate, placeOf, ageOf, lay, laid, queueOf, longOf, packets, offsetOf, packetOf}
 use Rattle.ledger.specs.Memory.{Memory, memory, packed, sizeIn, resentIn, slotsOf, inWindow, statusOf, wordsAt, statusAt, shown}
 use Rattle.ledger.specs.Memory.{isOutStatus, isMarkStatus, stored}
+use Rattle.ledger.specs.Seek.{unmarkedRun, nextMarkedOf}
 use Rattle.ledger.specs.Sound.{allTo, isCapacity, isRing, isLive, isZero, slotOk, headOk, stands}
 use Rattle.ledger.specs.Steps.{changed, supplied, suppliedTotals, pushOf, resendOf, markOf, heldOf, newlyOf, acknowledgeOf}
 use Rattle.flow_table.specs.Words.{isTable, flowAt, withFlow}
@@ -46,8 +47,11 @@ use Rattle.sender.specs.Start.{freshState as freshSender}
 use Rattle.sender.specs.Steps.{stateOf, settled, avoidedIn, newDataState, newDataStep, sendStep, ackSample, ackStep, lossStep}
 use Rattle.sender.specs.declared.Send.{Send}
 use Rattle.sender.specs.declared.Ack.{Ack}
-use Rattle.context.specs.Context.{Context, context, flowIn, joinedOf, sharedOf, worldAt, putWorld}
+use Rattle.context.specs.Context.{Context, context, flowCount, flowIn, joinedOf, sharedOf, worldAt, putWorld}
 use Rattle.context.specs.Sound.{isCut, standsAt, totalsOver, namedOk, soundContext}
+use Rattle.context.specs.Look.{markedFrom}
+use Rattle.context.specs.Turns.{anyMarked, isReady, numbers, firstReady, namedBy, turnOf, offeredBy, withTurn, turnAfter}
+use Rattle.context.specs.Turns.{pastChoose, onChoose}
 use Rattle.context.specs.Start.{lengthsOk, freshState, freshTable, onSetUp}
 use Rattle.context.specs.Events.{decided, onNewData, onSend, onAck, onLoss}
 use Rattle.demands.specs.Events.{Event, newData, send, ack, loss}
@@ -57,7 +61,9 @@ use Rattle.demands.specs.Cases.{settingsE}
 use Rattle.context_demands.specs.Events.{Flowed, run, SetUp}
 use Rattle.context_demands.specs.Sums.{noPasts, rememberAt, sum}
 use Rattle.context_demands.specs.Burst.{ledgersOf, deliver, Newest}
+use Rattle.context_demands.specs.Turns.{Step, event, choice, runAll, namedIn, ReadyThroughout}
 use Rattle.context_demands.proofs.Bursts.{burst}
+use Rattle.context_demands.proofs.Turns.{fair-turns}
 
 -- ---- an accepted setting up: two flows of 64 slots
 
@@ -145,7 +151,26 @@ pub record Starts : Type 0 where
   pub accepted : onAck 110 1 newest start .number ≡ 0
   pub leaves : onAck 110 1 newest start .after .flows ≡ 0 ∷ 2 ∷ 0 ∷ 0 ∷ 2 ∷ 2 ∷ 32 ∷ 0 ∷ []
 
-computed : WorkedSums × Starts
+-- ---- turns: both flows have a packet to send. Flow 0 is named and sends it; flow 1 is named and does not send, and is named again
+
+abbrev pub turned : List Step
+turned =
+    event (of 0 (newData 0 4096))
+    ∷ event (of 1 (newData 0 4096))
+    ∷ choice
+    ∷ event (of 0 (send 10 (packet 0 false)))
+    ∷ choice
+    ∷ choice
+    ∷ []
+
+pub record Turned : Type 0 where
+  pub flows : flowCount fresh ≡ 2
+  pub named : namedIn fresh turned ≡ 0 ∷ 1 ∷ 1 ∷ []
+  pub turn : runAll fresh turned .state .turn ≡ 0
+  -- flow 1 is ready at every choice
+  pub ready : ReadyThroughout 1 fresh turned
+
+computed : WorkedSums × Starts × Turned
 unfolding fresh start freshState freshSender settingsE sum rememberAt remember sentBy reportedBy lostBy ifSo ifLt ifEq inside firstOf
     minus plus bitOf covered backOf spanOf unsentOrOld aheadOf isOld forwardOf leadingZeros maxWndOf isEvCount inRange soundWindow freshOf
     oneSend sampleOf avgDelayOf updateDelayOf feedOf updateBaseRttOf measureOf firesOf fireOf restartOf quickAdaptOf countNewlyOf
@@ -157,10 +182,12 @@ unfolding fresh start freshState freshSender settingsE sum rememberAt remember s
     stateOf settled avoidedIn newDataState newDataStep sendStep ackSample ackStep lossStep decided onNewData onSend onAck onLoss bit
     isWord bitAt one valueOf wordsOf packed sizeIn resentIn slotsOf inWindow statusOf wordsAt statusAt shown isOutStatus isMarkStatus
     stored joinedOf sharedOf worldAt putWorld isCut standsAt totalsOver soundContext isTable flowAt withFlow part around partOf putPart
-    sumTo
+    sumTo unmarkedRun nextMarkedOf markedFrom anyMarked isReady numbers firstReady namedBy turnOf offeredBy withTurn turnAfter pastChoose
+    onChoose
 computed = (
   (refl, refl, refl, refl),
   record { clock-is = refl; held-is = refl; low-is = refl; long-is = refl; accepted = refl; leaves = refl },
+  record { flows = refl; named = refl; turn = refl; ready = (refl, (refl, (refl, tt))) },
 )
 
 pub worked-sums : WorkedSums
@@ -168,6 +195,15 @@ worked-sums = computed .0
 
 pub starts : Starts
 starts = computed .1
+
+pub turned-here : Turned
+turned-here = computed .2
+
+-- and is chosen within two choices that name somebody
+pub fair-here : List·Memᴰ 1 (take (flowCount fresh) (namedIn fresh turned))
+fair-here =
+    fair-turns 1 fresh turned (omega (arith, turned-here .flows)) (turned-here .ready)
+    (rw (turned-here .named) (omega (arith, turned-here .flows)))
 
 -- ---- the premises of `burst`
 
