@@ -1,5 +1,6 @@
 -- What a flow offers to send (request M-108): the first marked PSN from low on is next exactly where it has no marked packet, so that it
--- tells both which packet goes and whether it is a resend.
+-- tells both which packet goes and whether it is a resend. Where there is one, the packet of that PSN is marked (`offer-is-marked`), and
+-- one of low..next-1 (`offer-live`).
 -- Assumes nothing.
 use mathlib.Core.Path.{_≡_, refl, sym, ap, _∙_}
 use mathlib.Core.Bool.{Bool, true, false, not, _&&_, _||_}
@@ -9,19 +10,19 @@ use Prim.Native.Nat.{ℕ, suc, _%_, _≤_, _<_}
 use native.Mathlib.Nat.{add-zero, mod-eq-of-lt}
 use native.Mathlib.Omega.{arith}
 use lib.Dec.{ltb, eqb}
-use lib.ListN.{length}
-use borrow.Author.Tests.{ltb-true, ltb-false, lt-ltb, le-ltb, eq-eqb, ne-eqb}
+use lib.ListN.{length, getD}
+use borrow.Author.Tests.{ltb-true, ltb-false, eqb-true, not-false, lt-ltb, le-ltb, eq-eqb, ne-eqb}
 use Rattle.rules.specs.Branch.{ifSo, so-both, lt-both}
 use Rattle.serial.specs.Wrap.{minus}
 use Rattle.serial.specs.Psn.{psns, plus}
 use Rattle.serial.proofs.Wraps.{minus-lt}
 use Rattle.serial.proofs.Cover.{plus-minus, minus-plus}
-use Rattle.ledger.specs.Packets.{isMarked}
-use Rattle.ledger.specs.Ring.{Ring, longOf, packets, offsetOf}
+use Rattle.ledger.specs.Packets.{noPacket, isMarked}
+use Rattle.ledger.specs.Ring.{Ring, longOf, packets, offsetOf, packetOf}
 use Rattle.ledger.specs.Seek.{unmarkedRun, nextMarkedOf}
 use Rattle.ledger.specs.declared.Flow.{Flow}
 use Rattle.ledger.specs.declared.Packet.{Packet}
-use Rattle.ledger.proofs.Facts.{packets-long}
+use Rattle.ledger.proofs.Facts.{Live, packets-long}
 use Rattle.context.specs.Context.{Context, flowCount, flowIn, ringIn}
 use Rattle.context.specs.Look.{markedFrom}
 use Rattle.context.specs.Turns.{anyMarked, hasMarked, ringFull, isReady, turnOf, offeredBy, choiceOf}
@@ -53,6 +54,14 @@ run-any (p ∷ ps) = by (isMarked p) (run-any ps)
         → (b || anyMarked ps) ≡ ltb (ifSo b 0 (suc (unmarkedRun ps))) (suc (length ps))
     by true e = sym (lt-ltb 0 (suc (length ps)) (omega arith))
     by false e = e ∙ ltb-next (unmarkedRun ps) (length ps)
+
+-- and that one is marked
+run-marked : (ps : List Packet) → unmarkedRun ps < length ps → isMarked (getD ps (unmarkedRun ps) noPacket) ≡ true
+unfolding unmarkedRun
+run-marked [] h = absurd (let z : ⊥ = omega arith in z)
+run-marked (p ∷ ps) h =
+    so-both (λ (n : ℕ). n < suc (length ps) → isMarked (getD (p ∷ ps) n noPacket) ≡ true) (isMarked p) _ _ (λ m _. m)
+    (λ _ l. run-marked ps (omega arith)) h
 
 -- ---- a flow
 
@@ -105,6 +114,30 @@ module _ (f : Flow) (r : Ring) (low : f .low < psns) (next : f .next < psns) whe
           let same : run ≡ longOf f = omega (arith, ltb-false run (longOf f) q, run-short) in
           q ∙ ap not (sym (eq-eqb _ _ (from-low ∙ ap (plus (f .low)) same ∙ next-is)))
 
+  -- with a marked packet, fewer than all stand before the first one ..
+  run-less : anyMarked (packets f r) ≡ true → run < longOf f
+  run-less e = ltb-true run (longOf f) (sym (run-any (packets f r) ∙ ap (ltb run) (packets-long f r)) ∙ e)
+
+  -- .. and that one is the packet of the first marked PSN ..
+  first-is : run < longOf f → packetOf f r (nextMarkedOf f r (f .low)) ≡ getD (packets f r) run noPacket
+  unfolding packetOf offsetOf
+  first-is h =
+      ap (λ (n : ℕ). getD (packets f r) n noPacket)
+      (ap (λ (p : ℕ). minus psns p (f .low)) from-low ∙ minus-plus (f .low) run (omega (arith, long-psn)))
+
+  -- .. which is marked ..
+  first-marked : anyMarked (packets f r) ≡ true → isMarked (packetOf f r (nextMarkedOf f r (f .low))) ≡ true
+  first-marked e =
+      let h = run-less e in
+      rw (first-is h) (run-marked (packets f r) (rw (packets-long f r) h))
+
+  -- .. and has what each packet of low..next-1 has
+  first-live : {mtu clock : ℕ} → ((k : ℕ) → k < longOf f → Live mtu clock (getD (packets f r) k noPacket))
+      → anyMarked (packets f r) ≡ true → Live mtu clock (packetOf f r (nextMarkedOf f r (f .low)))
+  first-live live e =
+      let h = run-less e in
+      rw (first-is h) (live run h)
+
 -- ---- flow k of a sound context
 
 module _ (x : Context) (S : SoundContext x) (k : ℕ) (h : k < flowCount x) where
@@ -114,6 +147,21 @@ module _ (x : Context) (S : SoundContext x) (k : ℕ) (h : k < flowCount x) wher
   pub offer-marked : hasMarked x k ≡ not (eqb first (flowIn x k .next))
   unfolding markedFrom
   offer-marked = let F = flow-facts x S k h in marked-told (flowIn x k) (ringIn x k) (F .low-psn) (F .next-psn)
+
+  -- with no marked packet, the PSN that it offers is next ..
+  pub offer-next : hasMarked x k ≡ false → first ≡ flowIn x k .next
+  offer-next e = eqb-true first (flowIn x k .next) (not-false _ (sym offer-marked ∙ e))
+
+  -- .. and with one, that of a marked packet ..
+  pub offer-is-marked : hasMarked x k ≡ true → isMarked (packetOf (flowIn x k) (ringIn x k) first) ≡ true
+  unfolding markedFrom
+  offer-is-marked = let F = flow-facts x S k h in first-marked (flowIn x k) (ringIn x k) (F .low-psn) (F .next-psn)
+
+  -- .. which, as one of low..next-1, has a size that 01 allows
+  pub offer-live : hasMarked x k ≡ true
+      → Live (x .state .settings .mtu) (x .state .clock) (packetOf (flowIn x k) (ringIn x k) first)
+  unfolding markedFrom
+  offer-live = let F = flow-facts x S k h in first-live (flowIn x k) (ringIn x k) (F .low-psn) (F .next-psn) (F .live)
 
 -- the code's answer, by what its tests say
 module _ (x : Context) (k : ℕ) where

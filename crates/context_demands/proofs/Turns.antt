@@ -40,7 +40,7 @@ clash {b} e f =
     omega arith
 
 -- somebody is not nobody
-somebody : {t : Turn} → some t ≡ none → ⊥
+pub somebody : {t : Turn} → some t ≡ none → ⊥
 somebody {t} e =
     let z : _≡_ {A = ℕ} 0 1 = cc in
     omega arith

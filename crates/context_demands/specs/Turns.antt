@@ -8,8 +8,11 @@ use mathlib.Core.List.{List, [], _∷_, List·Memᴰ}
 use mathlib.Core.Option.{Option, none, some}
 use Prim.Native.Nat.{ℕ, _≤_, _<_}
 use lib.ListN.{length, take}
-use Rattle.context.specs.Context.{Context, flowCount}
+use Rattle.window.specs.Limits.{timeEnd}
+use Rattle.ledger.specs.Ring.{packetOf}
+use Rattle.context.specs.Context.{Context, flowCount, flowIn, ringIn}
 use Rattle.context.specs.Sound.{soundContext}
+use Rattle.context.specs.Events.{onSend}
 use Rattle.context.specs.Turns.{isReady, windowOpen, withTurnOf, onChoose}
 use Rattle.context.specs.declared.choice.Turn.{Turn}
 use Rattle.context_demands.specs.Events.{Flowed, answer, run}
@@ -80,6 +83,15 @@ NobodyMoves = (x : Context) → onChoose x .turn ≡ none → onChoose x .after 
 abbrev pub NamedReady : Type 0
 NamedReady = (x : Context) (t : Turn) → onChoose x .turn ≡ some t
     → (t .flow < flowCount x) × (isReady x (t .flow) ≡ true) × (windowOpen x ≡ true)
+
+-- .. and can send: what is named is accepted by the context that the choice leaves, at any time that 01 allows. A marked packet goes with
+-- the size that is recorded of it; a new one with any size that 01 allows and the backlog has. (A flow with under 41 bytes of backlog is
+-- ready, and has no such size.)
+abbrev pub NamedSends : Type 0
+NamedSends = (x : Context) (t : Turn) (time size : ℕ) → onChoose x .turn ≡ some t → x .state .clock ≤ time → time < timeEnd
+    → (t .resend ≡ true → size ≡ packetOf (flowIn x (t .flow)) (ringIn x (t .flow)) (t .psn) .size)
+    → (t .resend ≡ false → (41 ≤ size) × (size ≤ x .state .settings .mtu) × (size ≤ flowIn x (t .flow) .backlog))
+    → onSend time (t .flow) (record { psn = t .psn; size = size; resend = t .resend }) (onChoose x .after) .number ≡ 0
 
 -- .. and a choice is refused exactly by number 2, and then changes nothing
 abbrev pub ChoiceExact : Type 0
