@@ -70,7 +70,8 @@ fn record(b: Bench) -> Bench {
     b
 }
 
-fn choose(b: Bench, p: Phrase) -> Bench {
+// Another world, or the same to compare with.
+fn set_world(b: Bench, p: Phrase) -> Bench {
     let n = p.numbers;
     let word = p.word;
     match word {
@@ -107,14 +108,22 @@ fn call(b: Bench, p: Phrase) -> Bench {
     }
 }
 
+// Writes what a choice answers, so that a case may have several.
+fn choose(b: Bench, p: Phrase) -> Bench {
+    let c = call(b, p);
+    say::choice(c.before, c.world);
+    c
+}
+
 pub(crate) fn act(b: Bench, p: Phrase) -> Bench {
     let word = p.word;
     match word {
         words::MTU..=words::TIME => set_number(b, p),
         words::STATUS..=words::EV_TIME => set_slot(b, p),
-        words::FULL..=words::COMPARE => choose(b, p),
+        words::FULL..=words::COMPARE => set_world(b, p),
         words::STATUS_OF..=words::NEXT_MARKED => look(b, p),
         words::RECORD => record(b),
+        words::CHOOSE => choose(b, p),
         words::NEW_DATA..=words::SET_UP => call(b, p),
         words::UNKNOWN => {
             say::text(b" unknown");

@@ -71,6 +71,7 @@ fn a_call(word: u32, n: Numbers) -> Call {
         words::ACK => Call::Ack(an_ack(n)),
         words::NACK => Call::Nack(a_nack(n)),
         words::LOSS => Call::Loss(a_loss(n)),
+        words::CHOOSE => Call::Choose,
         _ => Call::Path,
     }
 }

@@ -1,5 +1,5 @@
-// Every event on one world, each by itself: new data, send, ACK, NACK, loss, path. In a world that holds together all six are accepted,
-// unless the world's own numbers leave a row that refuses one.
+// Every event on one world, each by itself: new data, send, ACK, NACK, loss, path; and a choice. In a world that holds together all seven
+// are accepted, unless the world's own numbers leave a row that refuses one: none but 2 refuses a choice.
 use crate::calls::plain_ack;
 use crate::calls::plain_nack;
 use crate::fields::narrow;
@@ -32,7 +32,7 @@ fn event(w: World, time: u64, call: Call) {
     say::answer(w, worlds::after(w, time, call));
 }
 
-// Six answers.
+// Seven answers.
 pub(crate) fn each(w: World, time: u64) {
     let flow = flows::flow_of(w);
     let psn = flow.low;
@@ -42,4 +42,5 @@ pub(crate) fn each(w: World, time: u64) {
     event(w, time, Call::Nack(plain_nack(psn, 0, 2)));
     event(w, time, Call::Loss(Loss { psn, ev: 0 }));
     event(w, time, Call::Path);
+    event(w, time, Call::Choose);
 }

@@ -4,6 +4,7 @@ use crate::slots;
 use crate::worlds;
 use crate::worlds::World;
 use context::Controller;
+use context::choice::Choice;
 use ledger::Flow;
 use ledger::Totals;
 use window::Settings;
@@ -112,6 +113,7 @@ fn lend(state: Controller, fill: u32, table: usize, wide: bool) -> World {
         wide,
         flow: 0,
         number: 0,
+        choice: Choice::Nobody,
         state,
     }
 }

@@ -62,7 +62,7 @@ pub(crate) fn write(word: u32, before: World, after: World, time: u64) {
         words::EVENTS => events::each(after, time),
         words::ROW => row(after),
         words::LEDGER => ring::write(after),
-        words::COMPARE..=words::RECORD => (),
+        words::COMPARE..=words::CHOOSE => (),
         _ => say::text(b" unknown"),
     }
 }

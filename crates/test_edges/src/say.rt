@@ -2,6 +2,8 @@
 use crate::flows;
 use crate::same::same_world;
 use crate::worlds::World;
+use context::choice::Choice;
+use context::choice::Turn;
 use rules::verdict::number_of;
 use sender::look::Look;
 
@@ -59,4 +61,29 @@ pub(crate) fn answer(before: World, after: World) {
         return;
     }
     comparison(before, after);
+}
+
+// The flow that a choice names, and its packet: a new one, or a marked one again.
+fn named(t: Turn) {
+    text(b" flow");
+    also(t.flow as u64);
+    if t.resend {
+        text(b" again");
+    } else {
+        text(b" new");
+    }
+    also(t.psn as u64);
+}
+
+// What a choice answered, and whom it names: a refusal names nobody, and says no more.
+pub(crate) fn choice(before: World, after: World) {
+    answer(before, after);
+    let choice = after.choice;
+    if let Choice::Named(turn) = choice {
+        named(turn);
+        return;
+    }
+    if after.number == 0 {
+        text(b" nobody");
+    }
 }

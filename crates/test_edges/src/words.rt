@@ -7,9 +7,9 @@
 //   a SLOT is one of the whole ring buffer, where flow 1 of two begins at 64
 //   `full`; `empty` LOW NEXT; `flown` LOW NEXT, in a ring of 128 slots; `pair`, of two flows; where none is said it is `make::mixed`
 //   `new_data` BYTES; `send` or `resend` PSN SIZE; `ack` CUM MAP TRIGGER COUNT EV M SERVICE; `nack` PSN EV REASON; `loss` PSN EV; `path`
-//   `set_up`, with the world's settings; `events`, every event by itself; `row`, a line of the worked example
+//   `set_up`, with the world's settings; `events`, every event and a choice, each by itself; `row`, a line of the worked example
 //   `ledger`, the flow's low, next and ring, and the totals; `record`, the flow's four words
-//   `status_of` PSN and `next_marked` PSN, the two looks
+//   `status_of` PSN and `next_marked` PSN, the two looks; `choose`, of no time and no flow: each is written as it is made
 //   `compare`, with the world that the case began with or was told to `keep`
 use crate::read::byte_at;
 
@@ -34,8 +34,8 @@ pub(crate) fn place(s: &[u8], from: usize, end: usize) -> u32 {
     search = search.look(b"flow table IDLE PENDING READY ACTIVE time ", s);
     search = search.look(b"status size sent resent outstanding_bit marked_bit ", s);
     search = search.look(b"number EV_time full empty flown pair keep compare ", s);
-    search = search.look(b"status_of next_marked record new_data send resend ack ", s);
-    search = search.look(b"nack loss path set_up events row ledger ", s);
+    search = search.look(b"status_of next_marked record choose new_data send ", s);
+    search = search.look(b"resend ack nack loss path set_up events row ledger ", s);
     search.found
 }
 
@@ -169,32 +169,34 @@ pub const NEXT_MARKED: u32 = 63;
 
 pub const RECORD: u32 = 64;
 
-pub const NEW_DATA: u32 = 65;
+pub const CHOOSE: u32 = 65;
 
-pub const SEND: u32 = 66;
+pub const NEW_DATA: u32 = 66;
 
-pub const RESEND: u32 = 67;
+pub const SEND: u32 = 67;
 
-pub const ACK: u32 = 68;
+pub const RESEND: u32 = 68;
 
-pub const NACK: u32 = 69;
+pub const ACK: u32 = 69;
 
-pub const LOSS: u32 = 70;
+pub const NACK: u32 = 70;
 
-pub const PATH: u32 = 71;
+pub const LOSS: u32 = 71;
 
-pub const SET_UP: u32 = 72;
+pub const PATH: u32 = 72;
 
-pub const EVENTS: u32 = 73;
+pub const SET_UP: u32 = 73;
 
-pub const ROW: u32 = 74;
+pub const EVENTS: u32 = 74;
 
-pub const LEDGER: u32 = 75;
+pub const ROW: u32 = 75;
+
+pub const LEDGER: u32 = 76;
 
 // No word, and one that is not listed.
-pub const NONE: u32 = 76;
+pub const NONE: u32 = 77;
 
-pub const UNKNOWN: u32 = 77;
+pub const UNKNOWN: u32 = 78;
 
 // A word looked for in a list, and where it stands in a text: the place that the list's next word has, how far the word is compared,
 // whether it was the same so far, and the place where it was found.

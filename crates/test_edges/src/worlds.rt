@@ -4,6 +4,9 @@ use context::Answer;
 use context::Controller;
 use context::Heard;
 use context::Routed;
+use context::choice;
+use context::choice::Choice;
+use context::choice::Chosen;
 use context::entry;
 use rules::verdict::number_of;
 use sender::Ack;
@@ -22,7 +25,7 @@ pub const WORDS_MOST: usize = 9;
 pub const SLOTS_MOST: usize = 576;
 
 // The first `table` words of `flows` are lent, and so much of the other memory as these flows have rings: of 64 slots, or one of 128
-// where it is wide. `flow` is the one that the case is at, `number` what the last call answered.
+// where it is wide. `flow` is the one that the case is at, `number` what the last call answered, `choice` whom it named.
 pub struct World {
     pub flows: [u64; TABLE_MOST],
     pub evs: [u64; 256],
@@ -34,6 +37,7 @@ pub struct World {
     pub wide: bool,
     pub flow: u64,
     pub number: u32,
+    pub choice: Choice,
     pub state: Controller,
 }
 
@@ -46,11 +50,13 @@ pub enum Call {
     Nack(Nack),
     Loss(Loss),
     Path,
+    Choose,
 }
 
-// What a call answered.
+// What a call answered; only a choice names anybody.
 struct Got {
     number: u32,
+    choice: Choice,
     state: Controller,
 }
 
@@ -59,6 +65,7 @@ fn of_answer(answer: Answer) -> Got {
     let verdict = answer.verdict;
     Got {
         number: number_of(verdict),
+        choice: Choice::Nobody,
         state,
     }
 }
@@ -68,6 +75,7 @@ fn of_heard(heard: Heard) -> Got {
     let verdict = heard.verdict;
     Got {
         number: number_of(verdict),
+        choice: Choice::Nobody,
         state,
     }
 }
@@ -77,6 +85,18 @@ fn of_routed(routed: Routed) -> Got {
     let verdict = routed.verdict;
     Got {
         number: number_of(verdict),
+        choice: Choice::Nobody,
+        state,
+    }
+}
+
+fn of_chosen(chosen: Chosen) -> Got {
+    let state = chosen.state;
+    let verdict = chosen.verdict;
+    let choice = chosen.choice;
+    Got {
+        number: number_of(verdict),
+        choice,
         state,
     }
 }
@@ -137,6 +157,7 @@ fn reading<'a, 'b>(
             let answer = entry::new_data(c, flows, out, marked, sizes, sent, evs, time, flow, n);
             of_answer(answer)
         }
+        Call::Choose => of_chosen(choice::choose(c, flows, out, marked, sizes, sent, evs)),
         _ => of_routed(entry::path(c, flows, out, marked, sizes, sent, evs, time, flow)),
     }
 }
@@ -254,8 +275,10 @@ pub(crate) fn after(w: World, time: u64, call: Call) -> World {
         &mut evs,
     );
     let state = got.state;
+    let choice = got.choice;
     World {
         state,
+        choice,
         flows,
         outstanding,
         marked,
