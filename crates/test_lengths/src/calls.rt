@@ -6,6 +6,9 @@ use context::Answer;
 use context::Controller;
 use context::Heard;
 use context::Routed;
+use context::choice;
+use context::choice::Choice;
+use context::choice::Chosen;
 use context::entry;
 use context::look;
 use context::start;
@@ -17,7 +20,8 @@ use sender::Send;
 use sender::look::Look;
 use window::Settings;
 
-// An entry point; the events are calls on empty rings that no row but 2, 10 or, by its EV, 23 or, by its flow, 25 refuses.
+// An entry point; the events are calls on empty rings that no row but 2, 10 or, by its EV, 23 or, by its flow, 25 refuses, and a choice is
+// refused by 2 alone.
 pub enum Call {
     SetUp(Settings),
     NewData,
@@ -26,11 +30,13 @@ pub enum Call {
     Nack,
     Loss,
     Path,
+    Choose,
 }
 
-// What a call answered.
+// What a call answered; only a choice names anybody.
 pub struct Got {
     pub number: u32,
+    pub choice: Choice,
     pub state: Controller,
 }
 
@@ -45,6 +51,7 @@ fn of_answer(answer: Answer) -> Got {
     let verdict = answer.verdict;
     Got {
         number: number_of(verdict),
+        choice: Choice::Nobody,
         state,
     }
 }
@@ -54,6 +61,7 @@ fn of_heard(heard: Heard) -> Got {
     let verdict = heard.verdict;
     Got {
         number: number_of(verdict),
+        choice: Choice::Nobody,
         state,
     }
 }
@@ -63,6 +71,18 @@ fn of_routed(routed: Routed) -> Got {
     let verdict = routed.verdict;
     Got {
         number: number_of(verdict),
+        choice: Choice::Nobody,
+        state,
+    }
+}
+
+fn of_chosen(chosen: Chosen) -> Got {
+    let state = chosen.state;
+    let verdict = chosen.verdict;
+    let choice = chosen.choice;
+    Got {
+        number: number_of(verdict),
+        choice,
         state,
     }
 }
@@ -118,6 +138,9 @@ fn reading<'a, 'b>(
         Call::NewData => {
             let a = entry::new_data(c, flows, outstanding, marked, sizes, sent, evs, at, k, 1);
             of_answer(a)
+        }
+        Call::Choose => {
+            of_chosen(choice::choose(c, flows, outstanding, marked, sizes, sent, evs))
         }
         _ => of_routed(entry::path(c, flows, outstanding, marked, sizes, sent, evs, at, k)),
     }

@@ -1,4 +1,5 @@
-// Refusal 2 on lengths, with one flow: each slice too short, too long, or no power of two, to setting up, to every event and to the looks.
+// Refusal 2 on lengths, with one flow: each slice too short, too long, or no power of two, to setting up, to every event, to the looks
+// and to a choice.
 use crate::lines::both;
 use crate::lines::counted;
 use crate::lines::events;

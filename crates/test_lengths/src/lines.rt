@@ -1,10 +1,11 @@
-// The lines of a case: setting up, every event, the looks.
+// The lines of a case: setting up, every event, the looks, a choice.
 use crate::calls::Call;
 use crate::make;
 use crate::make::Given;
 use crate::room;
 use crate::room::Lengths;
 use crate::say;
+use context::choice::Choice;
 use window::Settings;
 
 // The flow that is called has the backlog, and the turn is flow 0's.
@@ -71,7 +72,23 @@ pub(crate) fn looks(label: &[u8], e: Given, k: Lengths) {
     say::text(b"\n");
 }
 
-// Setting up with a number of EVs, every event and the looks of the last flow: three lines.
+// A choice: the number that it answers, and whom it names. The flow that has the backlog is ready, and no other.
+pub(crate) fn choice(label: &[u8], e: Given, k: Lengths) {
+    let v = room::lend(Call::Choose, e, 0, k);
+    say::text(label);
+    say::text(b":");
+    say::also(v.number);
+    if v.number != 0 {
+        say::verdict(v.as_wanted);
+    }
+    let choice = v.choice;
+    if let Choice::Named(turn) = choice {
+        say::named(turn);
+    }
+    say::text(b"\n");
+}
+
+// Setting up with a number of EVs, every event and the looks of the last flow, which has the backlog, and a choice: four lines.
 pub(crate) fn counted(label: &[u8], count: u64, k: Lengths) {
     let last = given(count, 0, 0, last_flow(k.flows));
     say::text(b"2 set up ");
@@ -80,6 +97,8 @@ pub(crate) fn counted(label: &[u8], count: u64, k: Lengths) {
     events(label, last, k);
     say::text(b"2 looks ");
     looks(label, last, k);
+    say::text(b"2 choice ");
+    choice(label, last, k);
 }
 
 // With 256 EVs, as where nothing else is said.

@@ -6,6 +6,7 @@ use crate::calls::Looks;
 use crate::make;
 use crate::make::Given;
 use crate::same;
+use context::choice::Choice;
 ghost use Prim.Native.Nat.{_≤_};
 
 // The lengths of what is lent: words of the table, of outstanding and of marked bits, sizes, send times, EV times.
@@ -18,9 +19,10 @@ pub struct Lengths {
     pub evs: usize,
 }
 
-// The number that a call answered, and whether state and lent memory are what it must leave.
+// The number that a call answered, whom it named, and whether state and lent memory are what it must leave.
 pub struct Verdict {
     pub number: u32,
+    pub choice: Choice,
     pub as_wanted: bool,
 }
 
@@ -64,9 +66,11 @@ fn verdict_of<'a>(
     evs: &'a [u64],
 ) -> Verdict {
     let number = got.number;
+    let choice = got.choice;
     let left = fill_after(number, fill);
     Verdict {
         number,
+        choice,
         as_wanted: same::same_state(got.state, calls::wanted(call, e, number))
             & same::starts(flows, calls::table_after(call, e, fill, number))
             & same::all(outstanding, marked, sizes, sent, evs, left),

@@ -1,4 +1,5 @@
 // What the program writes.
+use context::choice::Turn;
 use rules::verdict::number_of;
 use sender::look::Look;
 
@@ -26,4 +27,16 @@ pub(crate) fn look(a: Look) {
     let verdict = a.verdict;
     also(number_of(verdict));
     also(a.found);
+}
+
+// The flow that a choice names, and its packet: a new one, or a marked one again.
+pub(crate) fn named(t: Turn) {
+    text(b" flow ");
+    io::print_decimal(libc::STDOUT_FILENO, t.flow as u64);
+    if t.resend {
+        text(b" again");
+    } else {
+        text(b" new");
+    }
+    also(t.psn);
 }

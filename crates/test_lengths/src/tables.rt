@@ -1,6 +1,7 @@
 // Refusal 2 on the number of flows and on the rings of several flows (request M-107), refusal 25 on the flow that is called, and refusal 2
 // on the held turn (request M-108).
 use crate::lines::both;
+use crate::lines::choice;
 use crate::lines::counted;
 use crate::lines::events;
 use crate::lines::looks;
@@ -197,7 +198,7 @@ fn out_of_range() {
     called(b"order 2 25 backlog", 8, 8, shared(32, 512, 256));
 }
 
-// Every event and the looks of flow 0, at a held turn: two lines.
+// Every event and the looks of flow 0, which has the backlog, and a choice, at a held turn: three lines.
 fn held(label: &[u8], turn: u64, k: Lengths) {
     let e = Given {
         count: 256,
@@ -211,6 +212,8 @@ fn held(label: &[u8], turn: u64, k: Lengths) {
     events(label, e, k);
     say::text(b"2 looks ");
     looks(label, e, k);
+    say::text(b"2 choice ");
+    choice(label, e, k);
 }
 
 // "A held turn that names no flow is refusal 2": for each number of flows the last turn that it allows, and one past it.
