@@ -24,6 +24,8 @@
  *   - nscc_path       which EV the next packet takes;
  *   - nscc_send       a new packet, or a marked one once more; 6 says that the window is full;
  *   - nscc_ack, nscc_nack, nscc_loss   what comes back, or does not.
+ * Where several flows send by turns, the send loop is: nscc_choose names a flow and its packet,
+ * nscc_path the EV, nscc_send sends it; and so on until nobody is named.
  * After each call state[NSCC_STATE_CWND] is the window and state[NSCC_STATE_PHASE] what to do next.
  * nscc_replay and nscc_chunk do the same for events that were recorded in a log. nscc_status says
  * what became of a packet and nscc_next_marked which one to send again, so that no firmware has to
@@ -230,6 +232,37 @@ uint64_t nscc_path(uint64_t *state, size_t state_len, const uint64_t *flows, siz
                    const uint64_t *outstanding, size_t outstanding_len, const uint64_t *marked, size_t marked_len,
                    const uint32_t *sizes, size_t sizes_len, const uint64_t *sent, size_t sent_len, const uint64_t *evs, size_t evs_len,
                    uint64_t time, size_t flow);
+
+/* The words of what a choice names, all 0 where it is nobody. */
+enum nscc_turn {
+    NSCC_TURN_NAMED,  /* 1 where a flow is named, 0 where nobody is */
+    NSCC_TURN_FLOW,   /* the flow */
+    NSCC_TURN_RESEND, /* 1: its marked packet nearest to low; 0: a new packet */
+    NSCC_TURN_PSN,    /* the marked packet's PSN, or next */
+    NSCC_TURN_WORDS   /* how many words there are: 4 */
+};
+
+/*
+ * Which flow sends next, and what, in the caller's words of turn: 2, also where turn_len is not
+ * NSCC_TURN_WORDS; a refusal leaves these words as they were. A choice has no time, and a log has no
+ * record of it.
+ *   - A flow is ready if it has a marked packet, or backlog and a slot for a new packet in its ring.
+ *     A marked packet goes first.
+ *   - The first ready flow from the held turn (NSCC_STATE_TURN) on is named; after the last flow
+ *     comes flow 0. The held turn is then the flow after the one named, whether that sends or not.
+ *   - Nobody is named where no flow is ready, or in-flight + MTU is over the window. The held turn
+ *     then stays.
+ * So a flow that is ready at every choice is named within as many choices that name somebody as
+ * there are flows, whatever events come between. What is named can be sent at once, or after
+ * nscc_path: a marked packet with its size, a new one of 41 bytes up to the MTU and its flow's
+ * backlog. A flow with a backlog of under 41 bytes is named as well. Only a choice moves the held
+ * turn; a flow may also send out of turn. The table, the ring buffer and the EV times are only read,
+ * and of the state only the held turn is written.
+ */
+uint32_t nscc_choose(uint64_t *state, size_t state_len, const uint64_t *flows, size_t flows_len,
+                     const uint64_t *outstanding, size_t outstanding_len, const uint64_t *marked, size_t marked_len,
+                     const uint32_t *sizes, size_t sizes_len, const uint64_t *sent, size_t sent_len, const uint64_t *evs, size_t evs_len,
+                     uint64_t *turn, size_t turn_len);
 
 /* What a flow's ring shows of a PSN. */
 enum nscc_status {

@@ -10,9 +10,9 @@
 #include <stdlib.h>
 #include <string.h>
 
-enum function { SET_UP, NEW_DATA, SEND, ACK, NACK, LOSS, PATH, REPLAY, CHUNK, STATUS, NEXT_MARKED };
+enum function { SET_UP, NEW_DATA, SEND, ACK, NACK, LOSS, PATH, REPLAY, CHUNK, STATUS, NEXT_MARKED, CHOOSE };
 
-/* First are the settings of setting up, the place of a replay, or the part of a log in chunks; the log may be a chunk of one. */
+/* First are the settings of setting up, the place of a replay, the part of a log in chunks, or the turn of a choice; the log may be a chunk of one. */
 enum array { FIRST, STATE, FLOWS, OUTSTANDING, MARKED, SIZES, SENT, EVS, ANSWERS, PIECE, LOG, ARRAYS };
 
 enum { ARGUMENTS = 10, FENCE = 64, ODD = 0xa5 };
@@ -92,6 +92,8 @@ static uint64_t call(const struct request *request)
         return nscc_status(CONTEXT, a[0], a[1]);
     case NEXT_MARKED:
         return nscc_next_marked(CONTEXT, a[0], a[1]);
+    case CHOOSE:
+        return nscc_choose(CONTEXT, LENT(FIRST));
     default:
         exit(1);
     }

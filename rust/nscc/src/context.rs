@@ -3,9 +3,10 @@ use crate::raw::{Lent, Shown};
 use crate::refusal::{answer, Refusal};
 use crate::sample::{sampled, Sample};
 use crate::status::Status;
+use crate::turn::Turn;
 use crate::word::{
     FlowWord, PartWord, Phase, PlaceWord, Word, EVS_MAX, EVS_MIN, FLOW_WORDS, IN_FLIGHT_ADDED,
-    PART, PIECE, PLACE, WORDS,
+    PART, PIECE, PLACE, TURN, WORDS,
 };
 
 /// One congestion control context with its memory: the state's words, the table of its flows, the
@@ -170,6 +171,13 @@ impl Context {
     /// The EV of the next path, which is the same for every flow.
     pub fn path(&mut self, time: u64, flow: usize) -> Result<u32, Refusal> {
         answer(self.lend().path(time, flow))
+    }
+
+    /// Which flow sends next, and what; `None` where no flow is ready or the window is full.
+    pub fn choose(&mut self) -> Result<Option<Turn>, Refusal> {
+        let mut turn = [0; TURN];
+        accepted(self.lend().choose(&mut turn))?;
+        Ok(Turn::of(&turn))
     }
 
     /// What a flow's ring shows of a packet; `None` where its PSN is not one of low..next-1.

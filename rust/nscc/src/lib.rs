@@ -9,6 +9,7 @@ pub mod raw;
 mod refusal;
 mod sample;
 mod status;
+mod turn;
 mod word;
 
 pub use context::{Context, Part, Place};
@@ -16,7 +17,8 @@ pub use event::{Ack, Nack, Settings};
 pub use refusal::{answer, Refusal};
 pub use sample::{sampled, Sample};
 pub use status::Status;
+pub use turn::Turn;
 pub use word::{
-    FlowWord, PartWord, Phase, PlaceWord, Word, EVS_MAX, EVS_MIN, FLOWS_MAX, FLOW_WORDS,
-    IN_FLIGHT_ADDED, PART, PIECE, PLACE, SETTINGS, WORDS,
+    FlowWord, PartWord, Phase, PlaceWord, TurnWord, Word, EVS_MAX, EVS_MIN, FLOWS_MAX, FLOW_WORDS,
+    IN_FLIGHT_ADDED, PART, PIECE, PLACE, SETTINGS, TURN, WORDS,
 };

@@ -114,6 +114,17 @@ impl FlowWord {
     ];
 }
 
+/// A word of what a choice names.
+#[derive(Clone, Copy, Debug, PartialEq, Eq)]
+pub enum TurnWord {
+    /// 1 where a flow is named; 0 where nobody is, and so are then the others.
+    Named,
+    Flow,
+    /// 1 for a marked packet, 0 for a new one.
+    Resend,
+    Psn,
+}
+
 /// A word of a place in a log.
 #[derive(Clone, Copy, Debug, PartialEq, Eq)]
 pub enum PlaceWord {
@@ -164,6 +175,8 @@ pub const WORDS: usize = 38;
 pub const FLOW_WORDS: usize = 4;
 /// The greatest number of flows. The least is one.
 pub const FLOWS_MAX: usize = 8;
+/// How many words a choice answers in.
+pub const TURN: usize = 4;
 /// How many words a place has.
 pub const PLACE: usize = 4;
 /// How many words a log that comes in chunks has.

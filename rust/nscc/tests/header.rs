@@ -1,8 +1,8 @@
 //! The names and numbers of the wrapper are those of `include/nscc.h`.
 
 use nscc::{
-    FlowWord, PartWord, PlaceWord, Refusal, Sample, Status, Word, EVS_MAX, EVS_MIN, FLOWS_MAX,
-    FLOW_WORDS, IN_FLIGHT_ADDED, PART, PIECE, PLACE, SETTINGS, WORDS,
+    FlowWord, PartWord, PlaceWord, Refusal, Sample, Status, TurnWord, Word, EVS_MAX, EVS_MIN,
+    FLOWS_MAX, FLOW_WORDS, IN_FLIGHT_ADDED, PART, PIECE, PLACE, SETTINGS, TURN, WORDS,
 };
 use std::fmt::Debug;
 
@@ -59,6 +59,23 @@ fn flow() {
     assert_eq!(header.len(), FLOW_WORDS);
     same_order(&header, &FlowWord::ALL);
     for (i, word) in FlowWord::ALL.into_iter().enumerate() {
+        assert_eq!(word as usize, i);
+    }
+}
+
+#[test]
+fn turn() {
+    let mut header = names("nscc_turn", "NSCC_TURN_");
+    assert_eq!(header.pop().expect("the last").0, "WORDS");
+    assert_eq!(header.len(), TURN);
+    let ours = [
+        TurnWord::Named,
+        TurnWord::Flow,
+        TurnWord::Resend,
+        TurnWord::Psn,
+    ];
+    same_order(&header, &ours);
+    for (i, word) in ours.into_iter().enumerate() {
         assert_eq!(word as usize, i);
     }
 }

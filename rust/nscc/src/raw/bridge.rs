@@ -21,12 +21,13 @@ enum Function {
     Chunk,
     Status,
     NextMarked,
+    Choose,
 }
 
 const ARGUMENTS: usize = 10;
 
-/// What is lent beside a context: settings, a place or a part, a piece, a log or a chunk of one, room
-/// for answers.
+/// What is lent beside a context: settings, a place, a part or a turn, a piece, a log or a chunk of
+/// one, room for answers.
 #[derive(Default)]
 struct Beside<'a> {
     first: &'a mut [u64],
@@ -99,6 +100,15 @@ impl Lent<'_> {
     /// The number in the low 32 bits, and where it is 0 the EV above them.
     pub fn path(&mut self, time: u64, flow: usize) -> u64 {
         self.event(Function::Path, &[time, flow as u64])
+    }
+
+    /// What is named stands in `turn`: see [`Turn::of`](crate::Turn::of).
+    pub fn choose(&mut self, turn: &mut [u64]) -> u32 {
+        let beside = Beside {
+            first: turn,
+            ..Beside::default()
+        };
+        self.ask(Function::Choose, &[], beside) as u32
     }
 
     pub fn replay(&mut self, place: &mut [u64], log: &[u8], answers: &mut [u64]) -> u32 {

@@ -165,6 +165,25 @@ mod c {
             flow: usize,
         ) -> u64;
 
+        pub fn nscc_choose(
+            state: *mut u64,
+            state_len: usize,
+            flows: *const u64,
+            flows_len: usize,
+            outstanding: *const u64,
+            outstanding_len: usize,
+            marked: *const u64,
+            marked_len: usize,
+            sizes: *const u32,
+            sizes_len: usize,
+            sent: *const u64,
+            sent_len: usize,
+            evs: *const u64,
+            evs_len: usize,
+            turn: *mut u64,
+            turn_len: usize,
+        ) -> u32;
+
         pub fn nscc_replay(
             place: *mut u64,
             place_len: usize,
@@ -391,6 +410,11 @@ impl Lent<'_> {
     /// The number in the low 32 bits, and where it is 0 the EV above them.
     pub fn path(&mut self, time: u64, flow: usize) -> u64 {
         call!(nscc_path, [], self, [time, flow])
+    }
+
+    /// What is named stands in `turn`: see [`Turn::of`](crate::Turn::of).
+    pub fn choose(&mut self, turn: &mut [u64]) -> u32 {
+        call!(nscc_choose, [], self, [turn.as_mut_ptr(), turn.len()])
     }
 
     pub fn replay(&mut self, place: &mut [u64], log: &[u8], answers: &mut [u64]) -> u32 {
