@@ -48,7 +48,7 @@ fn calls(settings: &Settings, events: &[Event], capacity: usize) -> Times {
         |clock| {
             set_up_ours(&mut context, settings);
             let mut lent = context.lend();
-            in_laps(clock, &calls, |call| call.ask(&mut lent));
+            in_laps(clock, &calls, |call| call.ask(&mut lent, &mut []));
         },
         |clock| {
             set_up_model(&mut model, settings);
@@ -66,7 +66,7 @@ fn take(context: &mut Context, model: &mut Model, events: &[Event]) -> u64 {
     let mut last = 0;
     for event in events {
         let outcome = model.state.take(&mut model.memory.lend(), event);
-        last = Call::of(event).ask(&mut context.lend());
+        last = Call::of(event).ask(&mut context.lend(), &mut []);
         assert_eq!(last, answer_of(outcome), "{event:?}");
     }
     last

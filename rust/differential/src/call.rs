@@ -1,4 +1,5 @@
-use model::{Event, Loss, NewData, Outcome, Path, Sampling, Send};
+use crate::words::turn_of;
+use model::{Event, Loss, NewData, Outcome, Path, Sampling, Send, Turn};
 use nscc::raw::Lent;
 use nscc::{Ack, Nack, Sample};
 
@@ -45,6 +46,10 @@ pub enum Call {
         flow: usize,
         psn: u32,
     },
+    /// Which flow sends next. What is named is written in these words, whatever they hold.
+    Choose {
+        turn: Vec<u64>,
+    },
 }
 
 impl Call {
@@ -57,10 +62,10 @@ impl Call {
         }
     }
 
-    /// The flow that the call is for; `None` for setting up.
+    /// The flow that the call is for; `None` for setting up and for a choice.
     pub fn flow(&self) -> Option<usize> {
         match *self {
-            Call::SetUp { .. } => None,
+            Call::SetUp { .. } | Call::Choose { .. } => None,
             Call::Ack(Ack { flow, .. }) | Call::Nack(Nack { flow, .. }) => Some(flow),
             Call::NewData { flow, .. }
             | Call::Send { flow, .. }
@@ -74,7 +79,7 @@ impl Call {
     /// The same call for another flow.
     pub fn for_flow(mut self, other: usize) -> Call {
         match &mut self {
-            Call::SetUp { .. } => {}
+            Call::SetUp { .. } | Call::Choose { .. } => {}
             Call::Ack(Ack { flow, .. }) | Call::Nack(Nack { flow, .. }) => *flow = other,
             Call::NewData { flow, .. }
             | Call::Send { flow, .. }
@@ -86,9 +91,17 @@ impl Call {
         self
     }
 
+    /// The words that a choice is lent for what it names; other calls have none.
+    pub fn turn(&self) -> &[u64] {
+        match self {
+            Call::Choose { turn } => turn,
+            _ => &[],
+        }
+    }
+
     /// Calls the C function: the number in the low 32 bits, an EV, a sample's number or what the ring
-    /// shows above them.
-    pub fn ask(&self, lent: &mut Lent) -> u64 {
+    /// shows above them. `turn` is lent to a choice, with the words of [`Call::turn`].
+    pub fn ask(&self, lent: &mut Lent, turn: &mut [u64]) -> u64 {
         let number = match self {
             Call::SetUp {
                 settings,
@@ -115,16 +128,20 @@ impl Call {
             Call::Path { time, flow } => return lent.path(*time, *flow),
             Call::Status { flow, psn } => return lent.show().status(*flow, *psn),
             Call::NextMarked { flow, psn } => return lent.show().next_marked(*flow, *psn),
+            Call::Choose { .. } => lent.choose(turn),
         };
         number.into()
     }
 
-    /// The model's event; `None` for setting up and for readings. The model's EVs and reasons are
-    /// narrower: a wider one is handed to it as its widest, which it refuses alike.
+    /// The model's event; `None` for setting up, readings and choices. The model's EVs and reasons
+    /// are narrower: a wider one is handed to it as its widest, which it refuses alike.
     pub fn event(&self) -> Option<Event> {
         let flow = self.flow()? as u64;
         let event = match *self {
-            Call::SetUp { .. } | Call::Status { .. } | Call::NextMarked { .. } => return None,
+            Call::SetUp { .. }
+            | Call::Status { .. }
+            | Call::NextMarked { .. }
+            | Call::Choose { .. } => return None,
             Call::NewData { time, bytes, .. } => NewData { time, flow, bytes }.into(),
             Call::Send {
                 time,
@@ -239,18 +256,20 @@ fn narrow_ev(ev: u32) -> u16 {
 }
 
 /// What the model answers to a call.
-#[derive(Clone, Copy, Debug, PartialEq, Eq)]
+#[derive(Clone, Copy, Debug, Default, PartialEq, Eq)]
 pub struct Answer {
     pub outcome: Outcome,
     /// What a reading shows: a status' number, 0 for none, or a PSN.
     pub shown: Option<u32>,
+    /// What an accepted choice names; `None` where that is nobody.
+    pub named: Option<Turn>,
 }
 
 impl From<Outcome> for Answer {
     fn from(outcome: Outcome) -> Answer {
         Answer {
             outcome,
-            shown: None,
+            ..Answer::default()
         }
     }
 }
@@ -266,6 +285,14 @@ impl Answer {
         let sample = sampling.map(|sampling| sample_of(sampling).number().into());
         let above = self.shown.or(ev.map(u32::from)).or(sample).unwrap_or(0);
         u64::from(number) | u64::from(above) << 32
+    }
+
+    /// What a choice leaves in the words that it was lent: a refusal leaves them as they were.
+    pub fn turn(self, lent: &[u64]) -> Vec<u64> {
+        match self.outcome.number {
+            0 => turn_of(self.named).to_vec(),
+            _ => lent.to_vec(),
+        }
     }
 }
 

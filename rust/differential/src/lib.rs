@@ -4,6 +4,7 @@
 //! seen of them.
 
 mod call;
+mod choices;
 mod edges;
 mod kinds;
 mod logs;
@@ -17,13 +18,15 @@ mod sound;
 mod source;
 mod spoil;
 mod tally;
+mod turns;
 mod words;
 
 pub use call::{answer_of, Answer, Call};
+pub use choices::Choices;
 pub use kinds::text::program;
 pub use kinds::Kind;
 pub use profile::GOOD;
 pub use sides::Model;
 pub use source::Source;
 pub use tally::{Seen, Tally};
-pub use words::{flows_of, state_of, table_of, words_of};
+pub use words::{flows_of, state_of, table_of, turn_of, words_of};

@@ -13,6 +13,8 @@ pub struct Profile {
     pub edges: u64,
     /// One call in so many reads the ring; 0 is none.
     pub reads: u64,
+    /// One call in so many is a choice; 0 is none.
+    pub choices: u64,
     /// Of eight ACKs so many have the M flag.
     pub marked: u64,
     /// Packets of the smallest size, so that the ring is full before the window.
@@ -28,6 +30,7 @@ const MIXED: Profile = Profile {
     weights: [4, 30, 8, 30, 2, 2, 6],
     edges: 12,
     reads: 8,
+    choices: 6,
     marked: 3,
     small: false,
     window: 0,
@@ -40,6 +43,7 @@ pub const GOOD: Profile = Profile {
     weights: [4, 40, 20, 40, 1, 1, 10],
     edges: 0,
     reads: 0,
+    choices: 0,
     marked: 2,
     window: 30,
     ..MIXED

@@ -2,49 +2,117 @@
 
 use crate::call::{Answer, Call};
 use crate::shorten::thin;
-use crate::sides::{Model, Ours};
+use crate::sides::{same, Fenced, Model, Ours, ODD};
+use crate::source::Source;
 use crate::tally::Tally;
+use crate::turns::sends;
 use model::ring::{bit, resends_of, size_of, WORD};
+use model::Turn;
 use std::fmt::Write;
 
-/// Both sides answer the call; then all that was lent is compared.
-fn compare_call(ours: &mut Ours, model: &mut Model, call: &Call) -> Result<Answer, String> {
-    let our_answer = call.ask(&mut ours.lend());
-    let answer = model.answer(call);
-    let models = answer.word();
-    if our_answer != models {
-        return Err(format!("answered {our_answer:#x}, the model {models:#x}"));
+/// Both sides, which hold the same.
+struct Pair {
+    ours: Ours,
+    model: Model,
+    /// What a choice has named, as long as nothing has happened that may keep it from being sent.
+    named: Option<Turn>,
+}
+
+impl Pair {
+    fn new(start: &Model) -> Pair {
+        Pair {
+            ours: Ours::of(start),
+            model: start.clone(),
+            named: None,
+        }
     }
-    ours.compare(model)?;
-    Ok(answer)
+
+    /// The call sends what was named: it must be accepted.
+    fn sends_named(&self, call: &Call) -> bool {
+        self.named
+            .is_some_and(|turn| sends(call, turn, &self.model))
+    }
+
+    /// Both sides answer the call; then all that was lent is compared.
+    fn call(&mut self, call: &Call) -> Result<Answer, String> {
+        let named = self.sends_named(call);
+        let mut turn = Fenced::new(call.turn(), ODD);
+        let our_answer = call.ask(&mut self.ours.lend(), turn.inner_mut());
+        let answer = self.model.answer(call);
+        let models = answer.word();
+        if our_answer != models {
+            return Err(format!("answered {our_answer:#x}, the model {models:#x}"));
+        }
+        if let Call::Choose { turn: lent } = call {
+            compare_turn(&turn, &answer.turn(lent))?;
+        }
+        self.ours.compare(&self.model)?;
+        if named && answer.outcome.number != 0 {
+            return Err(format!("{models:#x} is answered to what was named"));
+        }
+        self.remember(call, answer);
+        Ok(answer)
+    }
+
+    /// A path, a reading and a refusal leave what may be sent as it was.
+    fn remember(&mut self, call: &Call, answer: Answer) {
+        let leaves = matches!(
+            call,
+            Call::Path { .. } | Call::Status { .. } | Call::NextMarked { .. }
+        );
+        if answer.outcome.number == 0 && !leaves {
+            self.named = answer.named;
+        }
+    }
+}
+
+fn compare_turn(ours: &Fenced<u64>, model: &[u64]) -> Result<(), String> {
+    same("word of the turn", ours.inner(), model)?;
+    if ours.whole() {
+        Ok(())
+    } else {
+        Err("memory beside the turn was written".into())
+    }
 }
 
 /// Calls made so far from a start.
 pub struct Session {
     start: Model,
     calls: Vec<Call>,
-    ours: Ours,
-    pub model: Model,
+    pair: Pair,
 }
 
 impl Session {
     pub fn new(start: Model) -> Session {
         Session {
-            ours: Ours::of(&start),
-            model: start.clone(),
+            pair: Pair::new(&start),
             start,
             calls: Vec::new(),
         }
+    }
+
+    /// The next call of the source, and what follows where it has named a packet.
+    pub fn step(&mut self, source: &mut Source, tally: &mut Tally) -> Result<(), String> {
+        let call = source.next(&self.pair.model);
+        let Some(turn) = self.call(call, tally)?.named else {
+            return Ok(());
+        };
+        for call in source.follow(&self.pair.model, turn) {
+            self.call(call, tally)?;
+        }
+        Ok(())
     }
 
     /// What both answer, or what differs with the shortest list of calls that shows it.
     pub fn call(&mut self, call: Call, tally: &mut Tally) -> Result<Answer, String> {
         self.calls.push(call);
         let call = &self.calls[self.calls.len() - 1];
-        let before = Tally::before(call, &self.model);
-        match compare_call(&mut self.ours, &mut self.model, call) {
+        let before = Tally::before(&self.pair.model);
+        let named = self.pair.sends_named(call);
+        match self.pair.call(call) {
             Ok(answer) => {
-                tally.note(call, answer, before, &self.model);
+                tally.note(call, answer, before, &self.pair.model);
+                tally.choices.sent += u64::from(named);
                 Ok(answer)
             }
             Err(difference) => Err(self.report(&difference)),
@@ -72,11 +140,8 @@ impl Session {
 }
 
 fn first_difference(start: &Model, calls: &[Call]) -> Option<String> {
-    let mut model = start.clone();
-    let mut ours = Ours::of(start);
-    calls
-        .iter()
-        .find_map(|call| compare_call(&mut ours, &mut model, call).err())
+    let mut pair = Pair::new(start);
+    calls.iter().find_map(|call| pair.call(call).err())
 }
 
 /// The start's words, lengths and whatever is not zero.

@@ -4,7 +4,7 @@ use crate::call::{Answer, Call};
 use crate::words::{flows_of, state_of, table_of, words_of};
 use model::{Flow, Memory, Outcome, Refusal, Settings, State};
 use nscc::raw::Lent;
-use nscc::{FlowWord, Word, EVS_MIN, FLOW_WORDS, WORDS};
+use nscc::{FlowWord, Word, EVS_MIN, FLOW_WORDS, TURN, WORDS};
 
 const UNSOUND: u8 = Refusal::NotTogether as u8;
 
@@ -91,7 +91,26 @@ impl Model {
             Call::NextMarked { flow, psn } => {
                 self.read(|state, lent| state.next_marked(lent, flow as u64, psn))
             }
+            Call::Choose { ref turn } => self.choose(turn.len()),
             _ => self.take(call).into(),
+        }
+    }
+
+    /// A choice that is lent so many words for what it names.
+    fn choose(&mut self, words: usize) -> Answer {
+        let lent = self.lend().filter(|_| words == TURN);
+        let Some((mut state, lent)) = lent else {
+            return Outcome::from(UNSOUND).into();
+        };
+        match state.choose(&lent) {
+            Ok(named) => {
+                self.set_state(&state);
+                Answer {
+                    named,
+                    ..Answer::default()
+                }
+            }
+            Err(refusal) => Outcome::from(refusal.number()).into(),
         }
     }
 
@@ -99,8 +118,8 @@ impl Model {
         let lent = self.lend().ok_or(Refusal::NotTogether);
         match lent.and_then(|(state, lent)| show(&state, &lent)) {
             Ok(shown) => Answer {
-                outcome: Outcome::default(),
                 shown: Some(shown),
+                ..Answer::default()
             },
             Err(refusal) => Outcome::from(refusal.number()).into(),
         }

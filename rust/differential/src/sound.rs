@@ -25,6 +25,7 @@ pub fn sound(rng: &mut Rng, shape: Shape) -> Model {
     };
     set_window(rng, &mut state);
     set_times(rng, &mut state);
+    state.turn = within(rng, 0, shape.flows as u64 - 1);
     let mut model = shape.model(state.settings.ev_count as usize);
     let memory = &mut model.memory;
     let flows: Vec<Flow> = (0..shape.flows)

@@ -4,10 +4,11 @@ use crate::call::Call;
 use crate::numbers::{beside, least_base};
 use crate::profile::Profile;
 use crate::sides::Model;
+use crate::turns::choice;
 use model::bounds::{COUNT_END, SIZE_MIN, TIME_END, UNIT};
 use model::ring::{bit, resends_of, size_of, WORD};
 use model::{Flow, Memory, Name, Rng, State, Status};
-use nscc::{Ack, Nack};
+use nscc::{Ack, Nack, FLOW_WORDS};
 
 /// A sound state, one of its flows and that flow's ring, to choose fields by.
 pub struct View<'a> {
@@ -20,6 +21,18 @@ pub struct View<'a> {
 }
 
 impl View<'_> {
+    /// `None` for a flow that there is not.
+    pub fn of(model: &Model, at: usize) -> Option<View<'_>> {
+        let flows = model.flows().unwrap_or_default();
+        Some(View {
+            state: model.state().unwrap_or_default(),
+            flows: flows.len(),
+            at,
+            flow: *flows.get(at)?,
+            memory: &model.memory,
+        })
+    }
+
     /// Slots of the flow's ring.
     pub fn capacity(&self) -> usize {
         self.memory.sizes.len() / self.flows
@@ -50,7 +63,8 @@ impl View<'_> {
         Status::of(bit(outstanding, slot), bit(marked, slot))
     }
 
-    fn size(&self, psn: u32) -> u32 {
+    /// The size that the ring has of a PSN.
+    pub fn size(&self, psn: u32) -> u32 {
         size_of(self.memory.sizes[self.slot(psn)])
     }
 
@@ -128,27 +142,27 @@ impl Source {
     /// The next call; the model must be sound.
     pub fn next(&mut self, model: &Model) -> Call {
         let state = model.state().unwrap_or_default();
-        let flows = model.flows().unwrap_or_default();
-        let at = self.turn(&state, flows.len());
-        let Some(&flow) = flows.get(at) else {
+        let flows = model.table.len() / FLOW_WORDS;
+        let at = self.turn(&state, flows);
+        let Some(view) = View::of(model, at) else {
             return Call::Path { time: 0, flow: at };
         };
-        let view = View {
-            state,
-            flows: flows.len(),
-            at,
-            flow,
-            memory: &model.memory,
-        };
-        if self.profile.reads > 0 && self.rng.one_in(self.profile.reads) {
+        if self.one_call_in(self.profile.choices) {
+            choice(&mut self.rng)
+        } else if self.one_call_in(self.profile.reads) {
             let call = self.reading(&view);
             self.astray(&view, call)
-        } else if self.profile.edges > 0 && self.rng.one_in(self.profile.edges) {
+        } else if self.one_call_in(self.profile.edges) {
             let call = self.edge_call(&view);
             self.astray(&view, call)
         } else {
             self.good_call(&view)
         }
+    }
+
+    /// 0 is none.
+    fn one_call_in(&mut self, many: u64) -> bool {
+        many > 0 && self.rng.one_in(many)
     }
 
     /// The flow that the next call is for, of so many. What closes the window may fly on another one.
@@ -200,7 +214,7 @@ impl Source {
     }
 
     /// Now, or a little later. Streams that run late start near the end of time.
-    fn time(&mut self, view: &View) -> u64 {
+    pub(crate) fn time(&mut self, view: &View) -> u64 {
         let clock = view.state.clock;
         if self.profile.late && clock == 0 {
             return TIME_END - 1 - self.rng.below(1 << 14);

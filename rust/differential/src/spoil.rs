@@ -17,12 +17,13 @@ pub fn spoil(rng: &mut Rng, model: &mut Model) {
     let (Some(state), Some(flows)) = (model.state(), model.flows()) else {
         return;
     };
-    match rng.below(20) {
-        0..=6 => spoil_word(rng, model, &state),
+    match rng.below(21) {
+        0..=6 => spoil_word(rng, model, &state, flows.len()),
         7..=10 => spoil_flow(rng, model, &flows),
         11..=15 => spoil_element(rng, model, &state, &flows),
         16 => spoil_evs(rng, model),
         17 => return one_counted(rng, model, state, &flows),
+        18 => spoil_turn(rng, model, flows.len()),
         _ => spoil_length(rng, model),
     }
     if rng.one_in(2) {
@@ -38,9 +39,9 @@ fn settle_again(model: &mut Model) {
     model.set_state(&state);
 }
 
-fn spoil_word(rng: &mut Rng, model: &mut Model, state: &State) {
+fn spoil_word(rng: &mut Rng, model: &mut Model, state: &State, flows: usize) {
     let i = rng.below(WORDS as u64) as usize;
-    let (least, most) = limits(Word::ALL[i], state);
+    let (least, most) = limits(Word::ALL[i], state, flows);
     let any = instead_of(rng, model.words[i]);
     model.words[i] = rng.pick(&[
         least,
@@ -53,8 +54,8 @@ fn spoil_word(rng: &mut Rng, model: &mut Model, state: &State) {
     ]);
 }
 
-/// The least and the greatest number that a word may have in this state.
-fn limits(word: Word, state: &State) -> (u64, u64) {
+/// The least and the greatest number that a word may have in this state, of so many flows.
+fn limits(word: Word, state: &State, flows: usize) -> (u64, u64) {
     let settings = &state.settings;
     let ranges = Settings::ranges(settings.mtu);
     if let Some(range) = ranges.get(word as usize) {
@@ -75,6 +76,7 @@ fn limits(word: Word, state: &State) -> (u64, u64) {
         Word::Clock => (state.last_adjust.max(state.last_dec), TIME_END - 1),
         Word::Cursor => (0, u64::from(settings.ev_count).wrapping_sub(1)),
         Word::EvCount => (EVS_MIN.into(), EVS_MAX.into()),
+        Word::Turn => (0, (flows as u64).wrapping_sub(1)),
         Word::Phase => (0, 3),
         // The first PSN, and totals that have no bound of their own.
         _ => (0, u32::MAX.into()),
@@ -246,6 +248,14 @@ fn spoil_evs(rng: &mut Rng, model: &mut Model) {
     if let Some(word) = model.words.get_mut(Word::Cursor as usize) {
         *word = rng.pick(&[*word, *word, end, end.wrapping_sub(1)]);
     }
+}
+
+/// A held turn at the last of so many flows, one past it or far past it.
+fn spoil_turn(rng: &mut Rng, model: &mut Model, flows: usize) {
+    let end = flows as u64;
+    let turn = &mut model.words[Word::Turn as usize];
+    let any = instead_of(rng, *turn);
+    *turn = rng.pick(&[end.wrapping_sub(1), end, end, u64::MAX, any]);
 }
 
 /// One slice longer or shorter, or the whole ring buffer of a capacity that no ring has.

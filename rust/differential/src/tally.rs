@@ -1,6 +1,7 @@
 //! What was compared, so that one can see that it was worth something.
 
 use crate::call::{Answer, Call};
+use crate::choices::Choices;
 use crate::sides::Model;
 use crate::words::state_of;
 use model::{Flow, Outcome, Sampling};
@@ -26,6 +27,7 @@ pub struct Tally {
     pub samples: [u64; LETTERS.len()],
     /// What the ring showed of a PSN: none, flying, marked, done.
     pub statuses: [u64; 4],
+    pub choices: Choices,
     pub seen: Seen,
 }
 
@@ -61,16 +63,19 @@ pub struct Seen {
 /// What there was before a call.
 pub struct Before {
     words: [u64; WORDS],
-    flows: Vec<Flow>,
-    /// The flow that the call is for.
-    at: usize,
+    pub flows: Vec<Flow>,
+}
+
+impl Before {
+    pub fn word(&self, word: Word) -> u64 {
+        self.words[word as usize]
+    }
 }
 
 impl Tally {
-    /// `None` for setting up, and for words that no state or no table has.
-    pub fn before(call: &Call, model: &Model) -> Option<Before> {
+    /// `None` for words that no state or no table has.
+    pub fn before(model: &Model) -> Option<Before> {
         Some(Before {
-            at: call.flow()?,
             words: model.words.as_slice().try_into().ok()?,
             flows: model.flows()?,
         })
@@ -78,12 +83,16 @@ impl Tally {
 
     pub fn note(&mut self, call: &Call, answer: Answer, before: Option<Before>, after: &Model) {
         self.count(answer.outcome);
+        let slots = after.memory.sizes.len();
+        if let Call::Choose { .. } = call {
+            self.choices.note(answer, before.as_ref(), slots);
+        }
         let before = before.filter(|_| answer.outcome.number == 0);
-        let (Some(before), Some(flows)) = (before, after.flows()) else {
+        let (Some(at), Some(before), Some(flows)) = (call.flow(), before, after.flows()) else {
             return;
         };
-        let was = before.flows[before.at];
-        self.seen.note_flow(&before, after.memory.sizes.len());
+        let was = before.flows[at];
+        self.seen.note_flow(at, &before, slots);
         match (call, answer.shown) {
             (Call::Status { .. }, Some(status)) => self.statuses[status as usize] += 1,
             (Call::NextMarked { psn, .. }, Some(marked)) => {
@@ -92,7 +101,7 @@ impl Tally {
             }
             _ => {
                 self.seen.note(&before.words, &after.words);
-                self.seen.note_wraps(&was, &flows[before.at]);
+                self.seen.note_wraps(&was, &flows[at]);
             }
         }
     }
@@ -117,17 +126,17 @@ impl Tally {
 
 impl Seen {
     /// Which flow the call is for, and what its ring and the others' are like, in so many slots.
-    fn note_flow(&mut self, before: &Before, slots: usize) {
+    fn note_flow(&mut self, at: usize, before: &Before, slots: usize) {
         let capacity = slots / before.flows.len();
         let full = |flow: &Flow| flow.span() as usize == capacity;
-        let own = full(&before.flows[before.at]);
+        let own = full(&before.flows[at]);
         let beside = !own && before.flows.iter().any(full);
         self.full_rings += u64::from(own);
         self.full_beside += u64::from(beside);
         let mut nexts = before.flows.iter().map(|flow| flow.next);
         let half = nexts.clone().any(|next| next < NEAR) && nexts.any(|next| next >= !NEAR);
         self.half_wrapped += u64::from(half);
-        self.flows[before.at] += 1;
+        self.flows[at] += 1;
     }
 
     /// An event changes no flow but its own.
@@ -172,6 +181,7 @@ impl fmt::Display for Tally {
         if self.statuses.iter().any(|&times| times > 0) {
             write!(f, "; statuses {:?}", self.statuses)?;
         }
+        write!(f, "{}", self.choices)?;
         let seen = &self.seen;
         if seen.cuts > 0 {
             write!(

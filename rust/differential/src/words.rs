@@ -1,7 +1,7 @@
-//! The one place where the model's state and flows meet the header's words.
+//! The one place where the model's state, flows and turns meet the header's words.
 
-use model::{Flow, Name, Settings, State};
-use nscc::{FlowWord, Word, FLOW_WORDS, IN_FLIGHT_ADDED, SETTINGS, WORDS};
+use model::{Flow, Name, Settings, State, Turn};
+use nscc::{FlowWord, TurnWord, Word, FLOW_WORDS, IN_FLIGHT_ADDED, SETTINGS, TURN, WORDS};
 
 pub fn words_of(state: &State) -> [u64; WORDS] {
     let mut words = [0; WORDS];
@@ -32,6 +32,7 @@ pub fn words_of(state: &State) -> [u64; WORDS] {
         (Word::Cursor, state.cursor),
         (Word::Phase, phase_of(state.name)),
         (Word::EvCount, state.settings.ev_count.into()),
+        (Word::Turn, state.turn),
     ];
     for (word, number) in others {
         words[word as usize] = number;
@@ -66,6 +67,7 @@ pub fn state_of(words: &[u64]) -> Option<State> {
         last_adjust: number(Word::LastAdjust),
         last_dec: number(Word::LastDec),
         cursor: number(Word::Cursor),
+        turn: number(Word::Turn),
         name: name_of(number(Word::Phase))?,
     })
 }
@@ -101,6 +103,18 @@ fn flow_of(words: &[u64; FLOW_WORDS]) -> Option<Flow> {
         held: narrow(FlowWord::Held)?,
         backlog: number(FlowWord::Backlog),
     })
+}
+
+/// The words of what an accepted choice names, which may be nobody.
+pub fn turn_of(named: Option<Turn>) -> [u64; TURN] {
+    let mut words = [0; TURN];
+    if let Some(Turn { flow, resend, psn }) = named {
+        words[TurnWord::Named as usize] = 1;
+        words[TurnWord::Flow as usize] = flow;
+        words[TurnWord::Resend as usize] = resend.into();
+        words[TurnWord::Psn as usize] = psn.into();
+    }
+    words
 }
 
 struct Words<'a>(&'a [u64; WORDS]);

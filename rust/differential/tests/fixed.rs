@@ -35,10 +35,22 @@ fn often(tally: &Tally, times: &[u64], least: u64) {
     assert!(enough, "{least} times {times:?}: {tally}");
 }
 
+/// Each answer to a choice was met at least so often.
+fn all_chosen(tally: &Tally, least: u64) {
+    let choices = &tally.choices;
+    often(tally, &[choices.marked, choices.new], least);
+    let nobody = [choices.window_full, choices.none_ready];
+    often(tally, &nobody, least);
+    often(tally, &[choices.refused], least);
+}
+
 #[test]
 fn set_up() {
     let tally = run(Kind::SetUp, 800);
     all_met(&tally, &[0, 1, 2, 25], 100);
+    let choices = &tally.choices;
+    let fresh = [choices.new, choices.none_ready, choices.refused];
+    often(&tally, &fresh, 1_000);
 }
 
 #[test]
@@ -57,6 +69,11 @@ fn streams() {
     often(&tally, &tally.statuses, 300);
     let rings = [seen.full_rings, seen.full_beside, seen.marked_ahead];
     often(&tally, &rings, 300);
+    all_chosen(&tally, 300);
+    let choices = &tally.choices;
+    often(&tally, &[choices.sent], 10_000);
+    let rare = [choices.rounds, choices.crumbs, choices.held_back];
+    often(&tally, &rare, 100);
 }
 
 #[test]
@@ -69,6 +86,7 @@ fn logs() {
     often(&tally, &seen.flows, 1_000);
     let rings = [seen.full_rings, seen.full_beside, seen.half_wrapped];
     often(&tally, &rings, 1_000);
+    all_chosen(&tally, 300);
 }
 
 #[test]
@@ -86,6 +104,13 @@ fn states() {
     let rings = [seen.full_rings, seen.full_beside, seen.marked_ahead];
     often(&tally, &rings, 1_000);
     often(&tally, &seen.flows, 1_000);
+    all_chosen(&tally, 1_000);
+    let choices = &tally.choices;
+    often(&tally, &[choices.sent], 10_000);
+    let rings = [choices.full_rings, choices.held_back];
+    often(&tally, &rings, 1_000);
+    often(&tally, &[choices.rounds, choices.crumbs], 1_000);
+    often(&tally, &choices.flows, 1_000);
 }
 
 #[test]
@@ -94,6 +119,8 @@ fn spoilt() {
     all_met(&tally, &[0, 2, 3], 100);
     all_met(&tally, &FIELDS, 100);
     often(&tally, &tally.samples, 20);
+    all_chosen(&tally, 100);
+    often(&tally, &[tally.choices.no_flow], 1_000);
 }
 
 #[test]

@@ -1,7 +1,7 @@
-//! The words of the header and the model's state and flows, there and back.
+//! The words of the header and the model's state and flows, there and back, and its turns.
 
-use differential::{flows_of, state_of, table_of, words_of};
-use model::{Flow, Name, Rng, Settings, State};
+use differential::{flows_of, state_of, table_of, turn_of, words_of};
+use model::{Flow, Name, Rng, Settings, State, Turn};
 use nscc::{FlowWord, Word, FLOWS_MAX, FLOW_WORDS, WORDS};
 
 #[test]
@@ -9,7 +9,7 @@ fn every_word_is_named_in_its_place() {
     for (i, word) in Word::ALL.into_iter().enumerate() {
         assert_eq!(word as usize, i);
     }
-    assert_eq!(Word::EvCount as usize, WORDS - 1);
+    assert_eq!(Word::Turn as usize, WORDS - 1);
 }
 
 /// Words that all differ, so that no two can be exchanged unseen.
@@ -82,11 +82,12 @@ fn some_words_by_number() {
         cwnd: 19,
         clock: 33,
         cursor: 34,
+        turn: 37,
         name: Name::Active,
         ..State::default()
     };
     let words = words_of(&state);
-    for i in [14, 15, 16, 17, 19, 33, 34, 36] {
+    for i in [14, 15, 16, 17, 19, 33, 34, 36, 37] {
         assert_eq!(words[i], i as u64);
     }
     assert_eq!((words[18], words[35]), (16_777_211, 3));
@@ -98,4 +99,10 @@ fn some_words_by_number() {
     };
     let table = table_of(&[Flow::default(), flow]);
     assert_eq!(table, [0, 0, 0, 0, 4, 5, 6, 7]);
+    let (flow, psn) = (3, u32::MAX);
+    for resend in [false, true] {
+        let words = turn_of(Some(Turn { flow, resend, psn }));
+        assert_eq!(words, [1, 3, resend.into(), 4_294_967_295]);
+    }
+    assert_eq!(turn_of(None), [0, 0, 0, 0]);
 }

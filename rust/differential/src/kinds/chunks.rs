@@ -6,10 +6,11 @@ use crate::shape::Shape;
 use crate::sides::{same, Fenced, Model, Ours, ODD};
 use crate::spoil::{spoil, spoil_length};
 use crate::tally::Tally;
+use crate::turns::move_turn;
 use model::bounds::LOG_END;
 use model::chunks::Taken;
 use model::{Chunk, Outcome, Part, Refusal, Rng};
-use nscc::{PartWord, PART, PIECE, PLACE, WORDS};
+use nscc::{PartWord, Word, PART, PIECE, PLACE, WORDS};
 
 /// What stands in the answers' room before a call.
 const UNANSWERED: u64 = u64::MAX;
@@ -42,7 +43,7 @@ pub fn run(seed: u64, tally: &mut Tally) -> Result<(), String> {
 }
 
 /// Hands the log in by chunks, and what was not taken again; between them, spoilt states, parts and
-/// pieces are tried on the side. At last the joined log is replayed.
+/// pieces are tried on the side, and the turn moves. At last the joined log is replayed.
 fn compare(log: &[u8], start: &Model, cuts: u64, tally: &mut Tally) -> Result<(), String> {
     let mut rng = Rng::new(cuts);
     let (longest, most) = match log.len() {
@@ -57,6 +58,11 @@ fn compare(log: &[u8], start: &Model, cuts: u64, tally: &mut Tally) -> Result<()
     loop {
         if rng.one_in(8) {
             chunks.on_the_side(&log[at..], &mut rng, tally)?;
+        }
+        // Where there is a context.
+        if chunks.at(PartWord::Done) > 0 && rng.one_in(8) {
+            move_turn(&mut rng, &mut chunks.model);
+            chunks.ours = Ours::of(&chunks.model);
         }
         let to = log.len().min(at + rng.between(0, longest) as usize);
         let ended = to == log.len() && rng.one_in(2);
@@ -231,7 +237,8 @@ impl Chunks {
         words[word as usize] = rng.pick(&choices);
     }
 
-    /// `nscc_replay` answers the joined log alike, and leaves the same.
+    /// `nscc_replay` answers the joined log alike, and leaves the same but for the turn, which has
+    /// not moved there since setting up.
     fn compare_joined(&self, log: &[u8], start: &Model, answers: &[u64]) -> Result<(), String> {
         let mut ours = Ours::of(start);
         let mut place = [0; PLACE];
@@ -246,7 +253,11 @@ impl Chunks {
             [PartWord::At, PartWord::Done, PartWord::Stopped].map(|word| self.at(word));
         let there = [at, done, stopped, answers.len() as u64];
         same("word of the joined log's place", &place, &there)?;
-        ours.compare(&self.model)
+        let mut model = self.model.clone();
+        if done > 0 {
+            model.words[Word::Turn as usize] = 0;
+        }
+        ours.compare(&model)
     }
 }
 

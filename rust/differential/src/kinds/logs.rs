@@ -3,10 +3,11 @@ use crate::logs::generated;
 use crate::session::Session;
 use crate::shape::Shape;
 use crate::tally::Tally;
+use crate::turns::choice;
 use model::replay::evs_lent;
 use model::{Reader, Rng};
 
-/// The records as calls, up to the first that is malformed.
+/// The records as calls, up to the first that is malformed, with choices between them.
 pub fn run(seed: u64, tally: &mut Tally) -> Result<(), String> {
     let mut rng = Rng::new(seed);
     let log = generated(&mut rng, 1_500);
@@ -20,6 +21,9 @@ pub fn run(seed: u64, tally: &mut Tally) -> Result<(), String> {
         let event = record.event().map(|event| Call::of(&event));
         if let Some(call) = settings.or(event) {
             session.call(call, tally)?;
+        }
+        if rng.one_in(8) {
+            session.call(choice(&mut rng), tally)?;
         }
     }
     Ok(())

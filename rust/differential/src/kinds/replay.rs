@@ -7,6 +7,7 @@ use crate::shorten::{prefix, thin};
 use crate::sides::{Model, Ours};
 use crate::spoil::{spoil, spoil_length};
 use crate::tally::Tally;
+use crate::turns::move_turn;
 use model::replay::Replay;
 use model::{Outcome, Record, Rng};
 use nscc::{PlaceWord, PLACE, WORDS};
@@ -75,7 +76,8 @@ pub fn report(log: &[u8], difference: &str, fails: impl Fn(&[Vec<u8>]) -> bool) 
     report
 }
 
-/// Replays the log in batches; between them, spoilt states and places are tried on the side.
+/// Replays the log in batches; between them, spoilt states and places are tried on the side, and
+/// the turn moves, which a replay leaves where it is.
 fn compare(log: &[u8], start: &Model, rooms: u64, tally: &mut Tally) -> Result<(), String> {
     let mut rng = Rng::new(rooms);
     // A long log is handed in a few times only.
@@ -85,6 +87,10 @@ fn compare(log: &[u8], start: &Model, rooms: u64, tally: &mut Tally) -> Result<(
     loop {
         if rng.one_in(8) {
             batches.on_the_side(&mut rng, tally)?;
+        }
+        if rng.one_in(8) {
+            move_turn(&mut rng, &mut batches.model);
+            batches.ours = Ours::of(&batches.model);
         }
         let room = rng.between(0, most) as usize;
         let given = batches.next(room, tally)?;

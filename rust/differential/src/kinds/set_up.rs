@@ -5,6 +5,7 @@ use crate::session::Session;
 use crate::shape::Shape;
 use crate::spoil::spoil_length;
 use crate::tally::Tally;
+use crate::turns::choice;
 use model::{Rng, Settings};
 
 pub fn run(seed: u64, tally: &mut Tally) -> Result<(), String> {
@@ -33,6 +34,9 @@ fn one(rng: &mut Rng, tally: &mut Tally) -> Result<(), String> {
         let any = rng.below(10) as usize;
         let flow = rng.pick(&[shape.flows - 1, shape.flows, any]);
         session.call(Call::Path { time, flow }, tally)?;
+        let bytes = rng.between(1, 100);
+        session.call(Call::NewData { time, flow, bytes }, tally)?;
+        session.call(choice(rng), tally)?;
     }
     Ok(())
 }

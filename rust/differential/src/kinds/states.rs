@@ -30,8 +30,7 @@ fn one(mut rng: Rng, tally: &mut Tally) -> Result<(), String> {
     let mut session = Session::new(start);
     tally.cases += 1;
     for _ in 0..calls {
-        let call = source.next(&session.model);
-        session.call(call, tally)?;
+        session.step(&mut source, tally)?;
     }
     Ok(())
 }

@@ -27,9 +27,8 @@ pub fn run(seed: u64, tally: &mut Tally) -> Result<(), String> {
     tally.cases += 1;
     session.call(Call::set_up(&settings), tally)?;
     for _ in 0..calls {
-        let call = source.next(&session.model);
         session
-            .call(call, tally)
+            .step(&mut source, tally)
             .map_err(|report| format!("{}: {report}", profile.name))?;
     }
     Ok(())
