@@ -1,6 +1,6 @@
 /*
  * A card's first steps with nscc.h: the requirements' worked example by calls, then a packet that is trimmed, sent again and acknowledged twice, all on flow
- * 0; then a packet of flow 1 under the same window.
+ * 0; then a packet of flow 1 under the same window; then a send loop for both, by turns.
  *
  *     gcc -std=c99 -Wall -Wextra -Werror -Iinclude examples/card.c target/lib/libnscc.a
  *
@@ -95,7 +95,7 @@ static void refused_send(struct card *card)
 static void refused_flow(struct card *card)
 {
     const struct card before = *card;
-    show("flow-2-new-data", nscc_new_data(LENT(card), 470, FLOWS, 4096), card);
+    show("flow-2-new-data", nscc_new_data(LENT(card), 600, FLOWS, 4096), card);
     unchanged(&before, card);
 }
 
@@ -141,6 +141,44 @@ static void other_flow(struct card *card)
                (unsigned long long)flow_word(card, flow, NSCC_FLOW_HELD));
 }
 
+/* Sends what a choice has named, on the next path; whether that was accepted. All packets here have 4096 bytes. A new one may have any size up to the MTU
+   and its flow's backlog, a marked one has the size with which it was sent first. */
+static bool send_named(struct card *card, uint64_t time, const uint64_t *turn)
+{
+    size_t flow = (size_t)turn[NSCC_TURN_FLOW];
+    uint32_t psn = (uint32_t)turn[NSCC_TURN_PSN];
+    bool resend = turn[NSCC_TURN_RESEND] == 1;
+    uint32_t ev = (uint32_t)(nscc_path(LENT(card), time, flow) >> 32);
+    printf("flow %u: PSN %u%s on EV %u\n", (unsigned)flow, (unsigned)psn, resend ? " again" : "", (unsigned)ev);
+    uint32_t answer = nscc_send(LENT(card), time, flow, psn, 4096, resend);
+    show("send", answer, card);
+    return answer == NSCC_ACCEPTED;
+}
+
+/* The send loop, until nobody is named. A refused packet ends it too: a flow with less backlog than its packet has would be named again and again. */
+static void send_by_turns(struct card *card, uint64_t time)
+{
+    uint64_t turn[NSCC_TURN_WORDS];
+    uint32_t answer;
+    do
+        answer = nscc_choose(LENT(card), turn, NSCC_TURN_WORDS);
+    while (answer == NSCC_ACCEPTED && turn[NSCC_TURN_NAMED] == 1 && send_named(card, time, turn));
+    show("choose", answer, card);
+    printf("the next round starts with flow %llu\n", (unsigned long long)card->state[NSCC_STATE_TURN]);
+}
+
+/* Both flows have data. The receiver had no room for what flow 1 sent on EV 4: it goes first when flow 1 has its turn again. */
+static void both_flows(struct card *card)
+{
+    show("flow-0-new-data", nscc_new_data(LENT(card), 470, 0, 12288), card);
+    show("flow-1-new-data", nscc_new_data(LENT(card), 470, 1, 8192), card);
+    send_by_turns(card, 480);
+    show_sample("flow-1-nack-1", nscc_nack(LENT(card), 580, 1, 1, 4, 2, false, false), card);
+    show("flow-1-new-data", nscc_new_data(LENT(card), 585, 1, 4096), card);
+    show("flow-0-new-data", nscc_new_data(LENT(card), 585, 0, 4096), card);
+    send_by_turns(card, 590);
+}
+
 int main(void)
 {
     static struct card card;
@@ -172,12 +210,13 @@ int main(void)
     printf("base %llu, average %llu/1024 ticks\n", (unsigned long long)card.state[NSCC_STATE_BASE], (unsigned long long)card.state[NSCC_STATE_AVG]);
 
     other_flow(&card);
+    both_flows(&card);
     printf("samples %u, cut %u, gone %u, ambiguous %u, not positive %u\n", sampled[NSCC_SAMPLE_TAKEN], sampled[NSCC_SAMPLE_CUT], sampled[NSCC_SAMPLE_GONE],
            sampled[NSCC_SAMPLE_AMBIGUOUS], sampled[NSCC_SAMPLE_NOT_POSITIVE]);
 
     /* Firmware that hands in insane numbers is told so. */
     refused_flow(&card);
     card.state[NSCC_STATE_CWND] = 0;
-    printf("a window of 0: %u\n", (unsigned)nscc_new_data(LENT(&card), 470, 0, 1));
+    printf("a window of 0: %u\n", (unsigned)nscc_new_data(LENT(&card), 600, 0, 1));
     return EXIT_SUCCESS;
 }

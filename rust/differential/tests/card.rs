@@ -1,9 +1,9 @@
 //! What `examples/card.c` is to print, worked out by the model.
 
-use differential::{answer_of, Call, Model};
+use differential::{answer_of, Answer, Call, Model};
 use model::gen::E;
 use model::{Flow, Outcome, Settings};
-use nscc::{sampled, Ack, Nack, Sample, Status, Word};
+use nscc::{sampled, Ack, Nack, Sample, Status, Word, TURN};
 use std::fmt::Write;
 
 struct Card {
@@ -15,6 +15,11 @@ struct Card {
 impl Card {
     fn show(&mut self, name: &str, call: Call) -> Outcome {
         let outcome = self.model.answer(&call).outcome;
+        self.show_state(name, outcome);
+        outcome
+    }
+
+    fn show_state(&mut self, name: &str, outcome: Outcome) {
         let state = self.model.state().expect("words of a state");
         self.line(&format!(
             "{name} {} {} {} {} {} {} {}",
@@ -26,7 +31,6 @@ impl Card {
             state.backlog,
             state.name
         ));
-        outcome
     }
 
     /// An ACK or a NACK, which must be accepted.
@@ -90,6 +94,33 @@ impl Card {
         shown.expect("a sound state")
     }
 
+    fn new_data(&mut self, time: u64, flow: usize, bytes: u64) {
+        let name = format!("flow-{flow}-new-data");
+        self.show(&name, Call::NewData { time, flow, bytes });
+    }
+
+    fn choose(&mut self) -> Answer {
+        let turn = vec![0; TURN];
+        self.model.answer(&Call::Choose { turn })
+    }
+
+    /// Who is named takes a path and sends, until nobody is named.
+    fn send_by_turns(&mut self, time: u64) {
+        let mut answer = self.choose();
+        while let Some(turn) = answer.named {
+            let (flow, psn) = (turn.flow as usize, turn.psn);
+            let again = if turn.resend { " again" } else { "" };
+            let path = self.model.answer(&Call::Path { time, flow });
+            let ev = path.outcome.ev.expect("accepted");
+            self.line(&format!("flow {flow}: PSN {psn}{again} on EV {ev}"));
+            self.send("send", time, flow, psn, turn.resend);
+            answer = self.choose();
+        }
+        self.show_state("choose", answer.outcome);
+        let first = self.model.words[Word::Turn as usize];
+        self.line(&format!("the next round starts with flow {first}"));
+    }
+
     fn path(&mut self, time: u64, flow: usize) -> u32 {
         let outcome = self.show("path", Call::Path { time, flow });
         let ev = outcome.ev.expect("accepted");
@@ -140,8 +171,8 @@ fn trimmed(card: &mut Card) {
 
 /// A packet of flow 1.
 fn other(card: &mut Card) {
-    let (time, flow, bytes) = (350, 1, 4096);
-    card.show("flow-1-new-data", Call::NewData { time, flow, bytes });
+    let flow = 1;
+    card.new_data(350, flow, 4096);
     let ev = card.path(355, flow);
     card.send("flow-1-send-0", 360, flow, 0, false);
     card.status(flow, 0);
@@ -164,11 +195,30 @@ fn other(card: &mut Card) {
     }
 }
 
+/// Both flows by turns, and a packet that goes again.
+fn both(card: &mut Card) {
+    card.new_data(470, 0, 12_288);
+    card.new_data(470, 1, 8192);
+    card.send_by_turns(480);
+    let nack = Nack {
+        time: 580,
+        flow: 1,
+        psn: 1,
+        ev: 4,
+        reason: 2,
+        marked: false,
+        retx: false,
+    };
+    card.show_sample("flow-1-nack-1", Call::Nack(nack));
+    card.new_data(585, 1, 4096);
+    card.new_data(585, 0, 4096);
+    card.send_by_turns(590);
+}
+
 /// New data of a flow that there is not.
 fn no_flow(card: &mut Card) {
     let before = card.model.clone();
-    let (time, flow, bytes) = (470, 2, 4096);
-    card.show("flow-2-new-data", Call::NewData { time, flow, bytes });
+    card.new_data(600, 2, 4096);
     assert_eq!(card.model, before);
     card.line("refused, and nothing changed");
 }
@@ -196,10 +246,11 @@ fn card() {
     let (base, avg) = (state.base, state.avg);
     card.line(&format!("base {base}, average {avg}/1024 ticks"));
     other(&mut card);
+    both(&mut card);
     count(&mut card);
     no_flow(&mut card);
     card.model.words[Word::Cwnd as usize] = 0;
-    let (time, flow, bytes) = (470, 0, 1);
+    let (time, flow, bytes) = (600, 0, 1);
     let refused = card.model.answer(&Call::NewData { time, flow, bytes });
     card.line(&format!("a window of 0: {}", refused.outcome.number));
 
