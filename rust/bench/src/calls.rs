@@ -4,9 +4,9 @@ use crate::logs;
 use crate::sides::{assert_alike, set_up, set_up_model, set_up_ours, Model};
 use crate::table::Table;
 use crate::timing::{race, Clock, Times};
-use differential::{answer_of, Call};
+use differential::{answer_of, turn_of, Call};
 use model::{number_two, Event, NewData, Path, Send, Settings};
-use nscc::Context;
+use nscc::{Context, TURN};
 use std::hint::black_box;
 
 const ROUNDS: usize = 9;
@@ -111,6 +111,39 @@ fn test_of(flows: usize, capacity: usize, packets: usize) -> Times {
         many,
         |clock| clock.lap(|| (0..many).all(|_| lent.path(black_box(0), 0) == TIME)),
         |clock| clock.lap(|| (0..many).all(|_| number_two(black_box(state), black_box(&models)))),
+    )
+}
+
+/// (b) Choices. Half of each ring is full, and there is backlog for more: every flow is ready.
+pub fn choices(table: &mut Table) {
+    for (name, flows, capacity) in [
+        ("8 flows of 64 slots, all ready", 8, 64),
+        ("1024 slots, ready", 1, 1_024),
+    ] {
+        let times = choices_of(flows, capacity);
+        table.add(format!("(b) a choice, {name}"), times);
+    }
+}
+
+fn choices_of(flows: usize, capacity: usize) -> Times {
+    let (mut context, mut model) = filled(flows, capacity, capacity / 2);
+    let many = 160_000 / (flows * capacity);
+    let mut turn = [0; TURN];
+    for _ in 0..=flows {
+        let named = model.state.choose(&model.memory.lend());
+        assert_eq!(context.lend().choose(&mut turn), 0);
+        assert_eq!(turn, turn_of(named.expect("a sound context")));
+        assert_eq!(turn[0], 1, "nobody is ready");
+    }
+    assert_alike(&context, &model);
+    let mut lent = context.lend();
+    let Model { state, memory } = &mut model;
+    let models = memory.lend();
+    race(
+        TEST_ROUNDS,
+        many,
+        |clock| clock.lap(|| (0..many).all(|_| lent.choose(black_box(&mut turn)) == 0)),
+        |clock| clock.lap(|| (0..many).all(|_| state.choose(black_box(&models)).is_ok())),
     )
 }
 

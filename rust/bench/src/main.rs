@@ -38,6 +38,7 @@ fn main() {
     replays::lengths(&mut table);
     replays::acks(&mut table);
     calls::events(&mut table);
+    calls::choices(&mut table);
     calls::acks(&mut table);
     calls::full_test(&mut table);
     print!("{table}");
