@@ -9,9 +9,9 @@ use mathlib.Core.Option.{none, some}
 use Prim.Native.Nat.{ℕ, suc, _%_, _≤_, _<_}
 use native.Mathlib.Nat.{add-zero, mod-eq-of-lt}
 use native.Mathlib.Omega.{arith}
-use lib.Dec.{ltb, eqb}
+use lib.Dec.{ltb, eqb, leb·suc-suc}
 use lib.ListN.{length, getD}
-use borrow.Author.Tests.{ltb-true, ltb-false, eqb-true, not-false, lt-ltb, le-ltb, eq-eqb, ne-eqb}
+use borrow.Author.Tests.{ltb-true, ltb-false, eqb-true, not-false, lt-ltb, eq-eqb, ne-eqb}
 use Rattle.rules.specs.Branch.{ifSo, so-both, lt-both}
 use Rattle.serial.specs.Wrap.{minus}
 use Rattle.serial.specs.Psn.{psns, plus}
@@ -37,13 +37,6 @@ unfolding unmarkedRun
 run-le [] = omega arith
 run-le (p ∷ ps) = so-both (λ (n : ℕ). n ≤ suc (length ps)) (isMarked p) _ _ (λ _. omega arith) (λ _. omega (arith, run-le ps))
 
-ltb-next : (a b : ℕ) → ltb a b ≡ ltb (suc a) (suc b)
-ltb-next a b = by (ltb a b) refl
-  where
-    by : (t : Bool) → ltb a b ≡ t → ltb a b ≡ ltb (suc a) (suc b)
-    by true q = let h = ltb-true a b q in q ∙ sym (lt-ltb (suc a) (suc b) (omega arith))
-    by false q = let h = ltb-false a b q in q ∙ sym (le-ltb (suc a) (suc b) (omega arith))
-
 -- it has a marked packet exactly if one stands behind those that are not
 run-any : (ps : List Packet) → anyMarked ps ≡ ltb (unmarkedRun ps) (length ps)
 unfolding anyMarked unmarkedRun ifSo
@@ -53,7 +46,7 @@ run-any (p ∷ ps) = by (isMarked p) (run-any ps)
     by : (b : Bool) → anyMarked ps ≡ ltb (unmarkedRun ps) (length ps)
         → (b || anyMarked ps) ≡ ltb (ifSo b 0 (suc (unmarkedRun ps))) (suc (length ps))
     by true e = sym (lt-ltb 0 (suc (length ps)) (omega arith))
-    by false e = e ∙ ltb-next (unmarkedRun ps) (length ps)
+    by false e = e ∙ sym (leb·suc-suc (suc (unmarkedRun ps)) (length ps))
 
 -- and that one is marked
 run-marked : (ps : List Packet) → unmarkedRun ps < length ps → isMarked (getD ps (unmarkedRun ps) noPacket) ≡ true

@@ -68,17 +68,17 @@ namedBy x = ifSo (windowOpen x) (firstReady (isReady x) (roundOf (x .state .turn
 unfoldable pub turnOf : Context → ℕ → Turn
 turnOf x k = record { flow = k; resend = hasMarked x k; psn = markedFrom k (flowIn x k .low) x }
 
--- of the flow that is named, if any
+-- what the flow that is named sends, if one is
 unfoldable pub offeredBy : Context → Option ℕ → Option Turn
 offeredBy x none = none
 offeredBy x (some k) = some (turnOf x k)
 
--- a choice as that: for each case of the code's enum what is answered
+-- the code's answer, case by case
 unfoldable pub choiceOf : Choice → Option Turn
 choiceOf Nobody = none
 choiceOf (Named turn) = some turn
 
--- all else as it was
+-- the state with another turn, and all else as it was
 unfoldable pub withTurn : ℕ → Controller → Controller
 withTurn turn c =
     record {

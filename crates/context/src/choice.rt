@@ -7,14 +7,14 @@ use crate::sound::is_sound;
 use rules::verdict::Verdict;
 ghost use mathlib.Core.Path.{_≡_};
 ghost use mathlib.Core.Bool.{true};
-ghost use mathlib.Core.Option.{Option, none, some};
+ghost use mathlib.Core.Option.{none, some};
 ghost use Prim.Native.Nat.{_+_, _-_, _%_, _<_, _≤_};
 ghost use Rattle.rules.specs.Branch.{ifSo};
 ghost use Rattle.rules.specs.Verdict.{numberOf};
 ghost use Rattle.flow_table.specs.Words.{countOf};
 ghost use Rattle.context.specs.Lent.{contextGiven, contextBefore};
 ghost use Rattle.context.specs.Sound.{soundContext};
-ghost use Rattle.context.specs.Turns.{isReady, numbers, firstReady, namedBy, turnOf, offeredBy, choiceOf, withTurn, chose, onChoose};
+ghost use Rattle.context.specs.Turns.{isReady, numbers, firstReady, namedBy, offeredBy, choiceOf, withTurn, chose, onChoose};
 
 // What the flow that is named sends: its marked packet nearest to low, or else a new packet, whose PSN is next.
 pub struct Turn {
@@ -73,7 +73,7 @@ fn offer<'a>(
     Choice::Nobody
 }
 
-// The first ready flow of those from k to end - 1.
+// What the first ready flow of `from` to end - 1 sends.
 fn first_ready<'a>(
     c: Controller,
     flows: &'a [u64],

@@ -1,6 +1,5 @@
 -- `nscc_choose`: a wrong number of words to answer in, and words that are no state's, are refused with 2; else the context's choice is kept
 -- (proofs/Choosings).
-use mathlib.Core.Path.{_∙_}
 use borrow.Author.Needs.{needs}
 use Rattle.rules.specs.Verdict.{numberOf}
 use Rattle.c_api.proofs.Answers.{words-long}

@@ -1,7 +1,7 @@
 -- `words_of` is `turnWords`, by the two cases of a choice and of the flag.
 use mathlib.Core.Path.{sym, ap, _∙_}
 use mathlib.Core.Logic.{⊎-elim}
-use mathlib.Core.List.{List, [], _∷_}
+use mathlib.Core.List.{[], _∷_}
 use Prim.Native.Nat.{ℕ}
 use borrow.Author.Needs.{needs}
 use Rattle.context.specs.Turns.{choiceOf}

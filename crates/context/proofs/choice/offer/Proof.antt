@@ -11,7 +11,6 @@ use Rattle.context.specs.Context.{Context, flowIn}
 use Rattle.context.specs.Lent.{contextGiven}
 use Rattle.context.specs.Look.{markedFrom}
 use Rattle.context.specs.Turns.{hasMarked, isReady, turnOf}
-use Rattle.context.specs.declared.choice.Turn.{Turn}
 use Rattle.context.proofs.Sounds.{SoundContext, context-facts}
 use Rattle.context.proofs.Joins.{flow-fits}
 use Rattle.context.proofs.Offers.{offer-marked, offered-so, offered-none, ready-marked, ready-new}
