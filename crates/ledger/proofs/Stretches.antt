@@ -17,7 +17,7 @@ use Rattle.rules.specs.Branch.{ifSo, so-both}
 use Rattle.rules.specs.Test.{inside, both, whole}
 use Rattle.bits.specs.Bits.{bit, bitAt, one, wordOf, without, lowest, sumTo, countIn}
 use Rattle.bits.proofs.Digits.{bit-and, bit-ones, bit-above, bit-shl-above, bit-shl-below}
-use Rattle.bits.proofs.Words.{same-truth, zero-bit, or-below, value-lt, value-bit, word-is, word-true, without-bit, without-word}
+use Rattle.bits.proofs.Words.{same-truth, zero-bit, or-below, or-zero, value-lt, value-bit, word-is, word-true, without-bit, without-word}
 use Rattle.bits.proofs.Words.{sum-none as sum-zero}
 use Rattle.bits.proofs.Words.{lowest-before, lowest-at, sum-same, sum-join, sum-le}
 use Rattle.ledger.specs.Memory.{sizeIn, resentIn}
@@ -49,6 +49,24 @@ module _ (f : ℕ → Bool) (from : ℕ) where
   pub in-of : (to : ℕ) → ((i : ℕ) → from ≤ i → i < to → f i ≡ true) → allIn f from to ≡ true
   unfolding allIn
   in-of to h = all-of (λ k. f (from + k)) (to - from) (λ k l. h (from + k) (omega arith) (omega arith))
+
+-- a stretch, and the one behind it
+pub in-join : (f : ℕ → Bool) (from i to : ℕ) → from ≤ i → i ≤ to → (allIn f from i && allIn f i to) ≡ allIn f from to
+unfolding allIn
+in-join f from i to h l =
+    let long : to - from ≡ (i - from) + (to - i) = omega arith in
+    rw long
+    (sym
+    (all-join (λ k. f (from + k)) (λ k. f (from + k)) (λ k. f (i + k)) (i - from) (to - i) (λ k u. refl) (λ k u. ap f (omega arith))))
+
+-- a test that goes stretch by stretch: where all before i passed, the stretch from i on tells of all, and one that fails ends the test
+module _ (f : ℕ → Bool) (from i : ℕ) (h : from ≤ i) (before : true ≡ allIn f from i) where
+  pub in-last : (to : ℕ) (r : Bool) → i ≤ to → r ≡ allIn f i to → r ≡ allIn f from to
+  in-last to r l e = e ∙ ap (λ (b : Bool). b && allIn f i to) before ∙ in-join f from i to h l
+
+  pub in-stop : (j to : ℕ) (r : Bool) → i ≤ j → j ≤ to → r ≡ allIn f i j → r ≡ false → false ≡ allIn f from to
+  in-stop j to r l m e z =
+      in-last to false (omega arith) (ap (λ (b : Bool). b && allIn f j to) (sym z ∙ e) ∙ in-join f i j to l m)
 
 -- two tests made at every slot
 pub in-and : (f g h : ℕ → Bool) (from to : ℕ) → ((i : ℕ) → h i ≡ (f i && g i)) → (allIn f from to && allIn g from to) ≡ allIn h from to
@@ -152,6 +170,23 @@ word-none w h =
     off true e = sym e
     off false e = refl
 
+-- word q is 0 where the bits at its slots are clear
+word-clear : (ws : List ℕ) (q : ℕ) → getD ws q 0 < 2 ^ 64 → eqb (getD ws q 0) 0 ≡ allIn (clearAt ws) (q * 64) ((q + 1) * 64)
+unfolding allIn clearAt
+word-clear ws q h =
+    let w = getD ws q 0 in
+    let long : (q + 1) * 64 - q * 64 ≡ 64 = omega arith in
+    rw long
+    (word-none w h ∙ all-same (λ j. not (bit w j)) (λ j. clearAt ws (q * 64 + j)) 64 (λ j l. ap not (sym (word-at ws q j l))))
+
+-- a whole word more of those that are 0 together
+pub whole-word : (ws : List ℕ) (from q any : ℕ) → from ≤ q → getD ws q 0 < 2 ^ 64 → eqb any 0 ≡ allIn (clearAt ws) (from * 64) (q * 64)
+    → eqb (bitOr any (getD ws q 0)) 0 ≡ allIn (clearAt ws) (from * 64) ((q + 1) * 64)
+whole-word ws from q any l h e =
+    or-zero any (getD ws q 0)
+    ∙ ap₂ (λ (x y : Bool). x && y) e (word-clear ws q h)
+    ∙ in-join (clearAt ws) (from * 64) (q * 64) ((q + 1) * 64) (omega arith) (omega arith)
+
 -- the bits of a word that another has not
 pub rest-none : (a b : ℕ) → eqb (without a b) 0 ≡ allTo (λ j. not (bit a j && not (bit b j))) 64
 rest-none a b =
@@ -193,6 +228,13 @@ ones-word ws q a e =
     twice : (b : Bool) → b ≡ (b && b)
     twice true = refl
     twice false = refl
+
+-- a word that is 0 has none
+pub no-ones-word : (ws : List ℕ) (q a : ℕ) → getD ws q 0 ≡ 0 → a ≡ sumTo (oneAt ws) (q * 64) → a ≡ sumTo (oneAt ws) ((q + 1) * 64)
+unfolding countIn one ifSo
+no-ones-word ws q a z e =
+    let none : countIn 0 0 ≡ 0 = sum-zero (λ j. one (bit 0 j && bit 0 j)) 64 (λ j h. ap (λ (b : Bool). one (b && b)) (zero-bit j)) in
+    omega (arith, rw (z, none) at (ones-word ws q a e))
 
 pub bytes-word : (mark sizes : List ℕ) (q a : ℕ) → a ≡ sumTo (sizeAt mark sizes) (q * 64)
     → a + sizesOf (bit (getD mark q 0)) sizes q ≡ sumTo (sizeAt mark sizes) ((q + 1) * 64)

@@ -1,79 +1,64 @@
--- `none_set` looks at every word that has slots of the stretch: by its invariant those before word q are told by `all`.
-use mathlib.Core.Path.{_≡_, ap, ap₂, _∙_}
-use Prim.Native.Nat.{ℕ, _+_, _-_, _*_, _≤_, _<_, min}
-use mathlib.Core.Bool.{_&&_}
+-- `none_set` joins three stretches: up to the first whole word, the whole words, and what is behind them.
+use mathlib.Core.Bool.{Bool, _&&_}
+use mathlib.Core.Path.{ap₂, _∙_}
+use Prim.Native.Nat.{_+_, _-_, _*_, _/_}
 use native.Mathlib.Omega.{arith}
-use lib.ListN.{length}
-use lib.Dec.{eqb}
-use lib.Bits.{bitAnd}
-use Rattle.bits.specs.Bits.{without}
-use Rattle.ledger.specs.Stretch.{allIn, clearAt}
-use Rattle.ledger.proofs.Stretches.{in-none, none-word}
+use Rattle.ledger.specs.Stretch.{clearAt}
+use Rattle.ledger.proofs.Stretches.{in-join}
 use borrow.Author.Needs.{needs}
 use Rattle.ledger.proofs.stretch.none_set.Statement.{statement}
 use Rattle.ledger.proofs.stretch.none_set.Tie as tie
 
-abbrev Inv-loop : tie.InvT-loop
-Inv-loop words from to all₀ q₀ all q = (q ≤ length words) × (from < (q + 1) * 64) × (all ≡ allIn (clearAt words) from (min to (q * 64)))
+add-first : tie.Need-add-first
+add-first c = search needs
 
-abbrev μ-loop : tie.MeasureT-loop
-μ-loop words from to all₀ q₀ all q = to - q * 64
+sub-first : tie.Need-sub-first
+sub-first c = search needs
 
-loop-holds : tie.Need-loop-holds Inv-loop μ-loop
-loop-holds c = (omega arith, omega arith, in-none _ _ _ (omega arith))
+none-in-requires : tie.Need-none-in-requires
+none-in-requires c κs = search needs
 
-mul-loop : tie.Need-mul-loop Inv-loop μ-loop
-mul-loop c = search needs
+returns : tie.Need-returns
+returns c = search needs
 
-mul-clear : tie.Need-mul-clear Inv-loop μ-loop
-mul-clear c = search needs
+mul-none-in : tie.Need-mul-none-in
+mul-none-in c = search needs
 
-shared-slice-read-clear : tie.Need-shared-slice-read-clear Inv-loop μ-loop
-shared-slice-read-clear c = search needs
+none-in-requires-2 : tie.Need-none-in-requires-2
+none-in-requires-2 c κs = search needs
 
-below-requires : tie.Need-below-requires Inv-loop μ-loop
-below-requires c κs = search needs
+none-whole-requires : tie.Need-none-whole-requires
+none-whole-requires c κs = search needs
 
-clear-requires : tie.Need-clear-requires Inv-loop μ-loop
-clear-requires c κs = search needs
+mul-none-in-2 : tie.Need-mul-none-in-2
+mul-none-in-2 c = search needs
 
-below-requires-2 : tie.Need-below-requires-2 Inv-loop μ-loop
-below-requires-2 c κs = search needs
+none-in-requires-3 : tie.Need-none-in-requires-3
+none-in-requires-3 c κs = search needs
 
-add-q : tie.Need-add-q Inv-loop μ-loop
-add-q c = search needs
-
-loop-less : tie.Need-loop-less Inv-loop μ-loop
-loop-less c = search needs
-
-loop-again : tie.Need-loop-again Inv-loop μ-loop
-loop-again c =
-    let l = c .before .before .before .before .before .loop in
-    let a = c .before .before .before .before .before .before .before .args in (
-      omega arith,
-      omega arith,
-      ap₂ (λ (x y : ℕ). l .all && eqb (bitAnd x y) 0)
-          (c .before .clear .ensures ∙ ap (without _) (c .before .before .below .ensures)) (c .below2 .ensures)
-          ∙ none-word (a .words .now) (a .from) (a .to) (l .q) (l .all) (l .inv .2),
-    )
-
-returns : tie.Need-returns Inv-loop μ-loop
-returns c = c .before .loop .inv .2 ∙ ap (allIn _ _) (omega arith)
+returns-2 : tie.Need-returns-2
+returns-2 c =
+    let k = c .before .before in
+    let a = k .before .before .before .args in
+    let f = clearAt (a .words .now) in
+    let first = (a .from + 64 - 1) / 64 * 64 in
+    let end = a .to / 64 * 64 in
+    ap₂ (λ (x y : Bool). x && y)
+    (ap₂ (λ (x y : Bool). x && y) (k .none-in2 .ensures) (c .before .none-whole .ensures)
+    ∙ in-join f (a .from) first end (omega arith) (omega arith)) (c .none-in3 .ensures)
+    ∙ in-join f (a .from) end (a .to) (omega arith) (omega arith)
 
 pub none-set-spec : {M : Type 1} → statement M
 none-set-spec =
     tie.close
     (tie.spec
-    Inv-loop
-    μ-loop
-    loop-holds
-    mul-loop
-    mul-clear
-    shared-slice-read-clear
-    below-requires
-    clear-requires
-    below-requires-2
-    add-q
-    loop-less
-    loop-again
-    returns)
+    add-first
+    sub-first
+    none-in-requires
+    returns
+    mul-none-in
+    none-in-requires-2
+    none-whole-requires
+    mul-none-in-2
+    none-in-requires-3
+    returns-2)

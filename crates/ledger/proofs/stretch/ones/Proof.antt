@@ -1,11 +1,13 @@
--- `ones` counts word by word: by its invariant those before q are counted, and a turn is `ones-word`.
+-- `ones` counts word by word: by its invariant those before q are counted, and a turn is `ones-word`, or `no-ones-word` for a word
+-- that is 0.
 use mathlib.Core.Path.{_≡_, ap, _∙_}
+use mathlib.Core.Logic.{⊎-elim}
 use Prim.Native.Nat.{ℕ, _+_, _-_, _*_, _≤_}
 use native.Mathlib.Omega.{arith}
 use lib.ListN.{length}
 use Rattle.bits.specs.Bits.{sumTo}
 use Rattle.ledger.specs.Stretch.{oneAt, onesOf}
-use Rattle.ledger.proofs.Stretches.{sum-none, ones-word}
+use Rattle.ledger.proofs.Stretches.{sum-none, ones-word, no-ones-word}
 use borrow.Author.Needs.{needs}
 use Rattle.ledger.proofs.stretch.ones.Statement.{statement}
 use Rattle.ledger.proofs.stretch.ones.Tie as tie
@@ -40,11 +42,15 @@ loop-less c = search needs
 loop-again : tie.Need-loop-again Inv-loop μ-loop
 loop-again c =
     let l = c .before .before .before .loop in
-    let a = c .before .before .before .before .before .args in (
+    let a = c .before .before .before .before .before .args in
+    ⊎-elim
+    (λ w. (
       omega arith,
-      ap (λ (x : ℕ). l .count + x) (c .count .ensures .0) ∙ ones-word (a .words .now) (l .q) (l .count) (l .inv .1),
-      omega (arith, c .count .ensures .1),
-    )
+      w .2 ∙ ap (λ (x : ℕ). l .count + x) (w .1 .ensures .0) ∙ ones-word (a .words .now) (l .q) (l .count) (l .inv .1),
+      omega (arith, w .1 .ensures .1),
+    ))
+    (λ w. (omega arith, w .1 ∙ no-ones-word (a .words .now) (l .q) (l .count) (w .0 .left) (l .inv .1), omega arith))
+    (c .if1 .came)
 
 returns : tie.Need-returns Inv-loop μ-loop
 unfolding onesOf

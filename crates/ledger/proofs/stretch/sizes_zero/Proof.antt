@@ -1,30 +1,39 @@
--- `sizes_zero` puts them together: by its invariant they are 0 so far exactly where each is, and a turn is `or-zero`.
-use mathlib.Core.Path.{_≡_, sym, ap, _∙_}
-use Prim.Native.Nat.{_-_, _≤_}
+-- `sizes_zero` goes block by block: by its invariant each slot before i is zero. A block is `in-last` or `in-stop`.
+use mathlib.Core.Bool.{true}
+use mathlib.Core.Path.{_≡_, sym, _∙_}
+use Prim.Native.Nat.{_+_, _-_, _≤_}
 use native.Mathlib.Omega.{arith}
-use lib.Dec.{eqb}
-use lib.ListN.{getD}
-use Rattle.bits.proofs.Words.{or-zero}
 use Rattle.ledger.specs.Stretch.{allIn, sizedAt}
-use Rattle.ledger.proofs.Stretches.{in-none, in-more, none-sized}
+use Rattle.ledger.proofs.Stretches.{in-none, in-last, in-stop}
 use borrow.Author.Needs.{needs}
+use borrow.Author.Tests.{not-true, not-false}
 use Rattle.ledger.proofs.stretch.sizes_zero.Statement.{statement}
 use Rattle.ledger.proofs.stretch.sizes_zero.Tie as tie
 
 abbrev Inv-loop : tie.InvT-loop
-Inv-loop sizes from to any₀ i₀ any i = (from ≤ i) × (i ≤ to) × (eqb any 0 ≡ allIn (sizedAt 0 0 0 sizes) from i)
+Inv-loop sizes from to i₀ i = (from ≤ i) × (i ≤ to) × (true ≡ allIn (sizedAt 0 0 0 sizes) from i)
 
 abbrev μ-loop : tie.MeasureT-loop
-μ-loop sizes from to any₀ i₀ any i = to - i
+μ-loop sizes from to i₀ i = to - i
 
 loop-holds : tie.Need-loop-holds Inv-loop μ-loop
 loop-holds c = (omega arith, omega arith, in-none _ _ _ (omega arith))
 
-mul-any : tie.Need-mul-any Inv-loop μ-loop
-mul-any c = search needs
+sub-loop : tie.Need-sub-loop Inv-loop μ-loop
+sub-loop c = search needs
 
-shared-slice-read-any : tie.Need-shared-slice-read-any Inv-loop μ-loop
-shared-slice-read-any c = search needs
+add-sizes-zero-in : tie.Need-add-sizes-zero-in Inv-loop μ-loop
+add-sizes-zero-in c = search needs
+
+sizes-zero-in-requires : tie.Need-sizes-zero-in-requires Inv-loop μ-loop
+sizes-zero-in-requires c κs = search needs
+
+returns : tie.Need-returns Inv-loop μ-loop
+returns c =
+    let l = c .before .before .before .loop in
+    let a = c .before .before .before .before .before .args in
+    in-stop (sizedAt 0 0 0 (a .sizes .now)) (a .from) (l .i) (omega arith) (l .inv .2) (l .i + 64) (a .to) _ (omega arith) (omega arith)
+    (c .before .sizes-zero-in .ensures) (not-true _ (c .if1 .taken))
 
 add-i : tie.Need-add-i Inv-loop μ-loop
 add-i c = search needs
@@ -33,19 +42,24 @@ loop-less : tie.Need-loop-less Inv-loop μ-loop
 loop-less c = search needs
 
 loop-again : tie.Need-loop-again Inv-loop μ-loop
-unfolding sizedAt
 loop-again c =
-    let l = c .before .before .loop in
-    let a = c .before .before .before .args in
-    let x = getD (a .sizes .now) (l .i) 0 in (
+    let l = c .before .before .before .loop in
+    let a = c .before .before .before .before .before .args in (
       omega arith,
       omega arith,
-      or-zero (l .any) x
-          ∙ in-more (sizedAt 0 0 0 (a .sizes .now)) (a .from) (l .i) (omega arith) _ _ (l .inv .2) (sym (none-sized x)),
+      sym (not-false _ (c .if1 .left))
+          ∙ in-last (sizedAt 0 0 0 (a .sizes .now)) (a .from) (l .i) (omega arith) (l .inv .2) (l .i + 64) _ (omega arith)
+          (c .before .sizes-zero-in .ensures),
     )
 
-returns : tie.Need-returns Inv-loop μ-loop
-returns c = c .before .loop .inv .2 ∙ ap (allIn _ _) (omega arith)
+sizes-zero-in-requires-2 : tie.Need-sizes-zero-in-requires-2 Inv-loop μ-loop
+sizes-zero-in-requires-2 c κs = search needs
+
+returns-2 : tie.Need-returns-2 Inv-loop μ-loop
+returns-2 c =
+    let l = c .before .before .loop in
+    let a = c .before .before .before .before .args in
+    in-last (sizedAt 0 0 0 (a .sizes .now)) (a .from) (l .i) (omega arith) (l .inv .2) (a .to) _ (omega arith) (c .sizes-zero-in2 .ensures)
 
 pub sizes-zero-spec : {M : Type 1} → statement M
 sizes-zero-spec =
@@ -54,9 +68,12 @@ sizes-zero-spec =
     Inv-loop
     μ-loop
     loop-holds
-    mul-any
-    shared-slice-read-any
+    sub-loop
+    add-sizes-zero-in
+    sizes-zero-in-requires
+    returns
     add-i
     loop-less
     loop-again
-    returns)
+    sizes-zero-in-requires-2
+    returns-2)
