@@ -1,16 +1,15 @@
 -- What soundness (refusal 2) says, fact by fact, and the way back: a state that holds together, named by the rule, with EV times in their
 -- bounds, is sound (`stated-sound`, `settled-sound`). By the laws of `window` and `ledger`.
 -- Assumes nothing.
-use mathlib.Core.Path.{_≡_, refl, sym, ap, _∙_}
-use mathlib.Core.Bool.{Bool, true, false, not, _&&_}
-use mathlib.Core.List.{List, [], _∷_}
-use Prim.Native.Nat.{ℕ, zero, suc, _+_, _^_, _≤_, _<_}
+use mathlib.Core.Path.{_≡_, refl, sym, ap, ap₂, _∙_}
+use mathlib.Core.Bool.{Bool, true, false, not, _&&_, and-true, and-assoc}
+use mathlib.Core.List.{List, [], _∷_, _++_}
+use Prim.Native.Nat.{ℕ, zero, suc, _+_, _-_, _^_, _≤_, _<_}
 use native.Mathlib.Nat.{not-suc-le-zero, le-of-suc-le-suc}
-use native.Mathlib.Numerals.{add-one}
 use native.Mathlib.Omega.{arith}
 use lib.Dec.{ltb, eqb}
-use lib.ListN.{length, getD, set, drop, length-set, drop-of-length-le}
-use lib.Seq.{drop-cons}
+use lib.ListN.{length, getD, set, take, drop, length-set, length-drop, take-append-drop}
+use lib.Seq.{take-all, take-suc, getD-drop, drop-drop}
 use borrow.Author.Tests.{ltb-true, eqb-true, lt-ltb, le-ltb, eq-eqb, not-true, not-false}
 use Rattle.rules.specs.Branch.{so-both, eq-both}
 use Rattle.rules.specs.Test.{both, whole}
@@ -47,29 +46,44 @@ phase-high mtu cwnd t =
 
 -- ---- the EV times
 
-and-true : (b : Bool) → (b && true) ≡ b
-and-true true = refl
-and-true false = refl
-
 pub times-none : timesOk [] ≡ true
 unfolding timesOk
 times-none = refl
 
--- the times from k on: time k, and those after it
-pub times-here : (ts : List ℕ) (k : ℕ) → k < length ts → timesOk (drop k ts) ≡ (ltb (getD ts k 0) laterEnd && timesOk (drop (k + 1) ts))
+-- times behind others
+times-append : (ts us : List ℕ) → timesOk (ts ++ us) ≡ (timesOk ts && timesOk us)
 unfolding timesOk
-times-here ts k h = rw (add-one k, drop-cons ts k 0 h)
+times-append [] us = refl
+times-append (t ∷ ts) us = rw (times-append ts us) (sym (and-assoc (ltb t laterEnd) (timesOk ts) (timesOk us)))
 
--- so far so good, and the times from k on: one more is looked at
-pub times-more : (ts : List ℕ) (k : ℕ) (ok : Bool) → timesOk ts ≡ (ok && timesOk (drop k ts)) → k < length ts
-    → timesOk ts ≡ ((ok && ltb (getD ts k 0) laterEnd) && timesOk (drop (k + 1) ts))
-times-more ts k true e h = e ∙ times-here ts k h
-times-more ts k false e h = e
+-- the times from .. k - 1, and one more
+pub times-more : (ts : List ℕ) (from k : ℕ) (ok : Bool) → from ≤ k → k < length ts → ok ≡ timesOk (take (k - from) (drop from ts))
+    → (ok && ltb (getD ts k 0) laterEnd) ≡ timesOk (take (k + 1 - from) (drop from ts))
+unfolding timesOk
+times-more ts from k ok h l e =
+    let rest = drop from ts in
+    let next : k + 1 - from ≡ suc (k - from) = omega arith in
+    let here : from + (k - from) ≡ k = omega arith in
+    rw (next, take-suc rest (k - from) 0 (omega (arith, length-drop from ts)), getD-drop from ts (k - from) 0, here)
+    (ap₂ (λ (x y : Bool). x && y) e (sym (and-true (ltb (getD ts k 0) laterEnd)))
+    ∙ sym (times-append (take (k - from) rest) (getD ts k 0 ∷ [])))
 
-pub times-end : (ts : List ℕ) (k : ℕ) (ok : Bool) → timesOk ts ≡ (ok && timesOk (drop k ts)) → length ts ≤ k → ok ≡ timesOk ts
-times-end ts k ok e h =
-    let all : timesOk (drop k ts) ≡ true = ap timesOk (drop-of-length-le ts h) ∙ times-none in
-    sym (e ∙ ap (λ (b : Bool). ok && b) all ∙ and-true ok)
+-- so far so good, and the times from i on: those before `to` are looked at, and found good or not
+pub times-block : (ts : List ℕ) (i to : ℕ) (ok b : Bool) → i ≤ to → timesOk ts ≡ timesOk (drop i ts)
+    → ok ≡ timesOk (take (to - i) (drop i ts)) → ok ≡ b → timesOk ts ≡ (b && timesOk (drop to ts))
+times-block ts i to ok b h so e is =
+    let rest = drop i ts in
+    let here : i + (to - i) ≡ to = omega arith in
+    so
+    ∙ ap timesOk (sym (take-append-drop (to - i) rest))
+    ∙ times-append (take (to - i) rest) (drop (to - i) rest)
+    ∙ ap₂ (λ (x y : Bool). x && y) (sym e ∙ is) (ap timesOk (drop-drop (to - i) i ts ∙ ap (λ (n : ℕ). drop n ts) here))
+
+-- the rest is looked at
+pub times-end : (ts : List ℕ) (i : ℕ) (ok : Bool) → timesOk ts ≡ timesOk (drop i ts) → ok ≡ timesOk (take (length ts - i) (drop i ts))
+    → ok ≡ timesOk ts
+times-end ts i ok so e =
+    e ∙ ap timesOk (take-all (length ts - i) (drop i ts) (omega (arith, length-drop i ts))) ∙ sym so
 
 -- each of them is in its bound, which is what `paths` asks of them
 times-each : (ts : List ℕ) → timesOk ts ≡ true → (k : ℕ) → k < length ts → getD ts k 0 < laterEnd
