@@ -19,11 +19,22 @@ module _ (s : Settings) (sample : Sample) (w : Window) where
   unfolding updateBaseRttOf
   update-base-rtt-none e = simp e
 
-  pub update-base-rtt-by :
-      (t base top cwnd : ℕ) → sample ≡ Ticks t → base ≡ min (w .base) t → top ≡ maxWndOf s base → cwnd ≡ min (w .cwnd) top →
-      withCwnd cwnd (withBase base w) ≡ updateBaseRttOf s sample w
+  -- a sample that does not lower the base leaves the window as it was
+  pub update-base-rtt-same :
+      (t : ℕ) → sample ≡ Ticks t → w .base ≤ t → w .cwnd ≤ maxWndOf s (w .base) → w ≡ updateBaseRttOf s sample w
   unfolding updateBaseRttOf
-  update-base-rtt-by t base top cwnd e f g h = simp (e, h, g, f)
+  update-base-rtt-same t e f g =
+      let base : min (w .base) t ≡ w .base = omega arith in
+      let cwnd : min (w .cwnd) (maxWndOf s (w .base)) ≡ w .cwnd = omega arith in
+      simp (e, base, cwnd)
+
+  pub update-base-rtt-by :
+      (t top cwnd : ℕ) → sample ≡ Ticks t → t ≤ w .base → top ≡ maxWndOf s t → cwnd ≡ min (w .cwnd) top →
+      withCwnd cwnd (withBase t w) ≡ updateBaseRttOf s sample w
+  unfolding updateBaseRttOf
+  update-base-rtt-by t top cwnd e f g h =
+      let base : min (w .base) t ≡ t = omega arith in
+      simp (e, base, h, g)
 
   module _ (marked : Bool) where
     pub measure-none :

@@ -8,7 +8,7 @@ use crate::bounds::max_wnd;
 use rules::least;
 ghost use mathlib.Core.Path.{_≡_};
 ghost use Prim.Native.Nat.{_≤_};
-ghost use Rattle.window.specs.Limits.{delayMost, sampleMost, avgMost};
+ghost use Rattle.window.specs.Limits.{delayMost, sampleMost, avgMost, maxWndOf};
 ghost use Rattle.window.specs.Range.{InRange};
 ghost use Rattle.window.specs.Delays.{oneSend, takeSampleOf, samplingOf, sampleIn, Sampled};
 ghost use Rattle.window.specs.Delays.{avgDelayOf, updateDelayOf, feedOf, updateBaseRttOf, measureOf};
@@ -99,19 +99,22 @@ fn feed(target: u64, base: u64, marked: bool, delay: u64) -> u64
     delay
 }
 
-// base = min(base, sample), and cwnd = min(cwnd, max_wnd) at that base. UET 3.6.13.6, update_base_rtt.
+// base = min(base, sample), and cwnd = min(cwnd, max_wnd) at that base. UET 3.6.13.6, update_base_rtt. In a window that holds together cwnd
+// is at most max_wnd at the held base, so a sample that does not lower the base leaves all as it was.
 pub(crate) fn update_base_rtt(s: Settings, sample: Sample, w: Window) -> Window
     requires { ⌜ InRange s ⌝ }
-    requires { ⌜ w .base ≤ s .«config_base_rtt» ⌝ }
+    requires { ⌜ (w .base ≤ s .«config_base_rtt») × (w .cwnd ≤ maxWndOf s (w .base)) ⌝ }
     ensures { λ r. ⌜ r ≡ updateBaseRttOf s sample w ⌝ }
 {
     let Sample::Ticks(t) = sample else {
         return w;
     };
-    let base = least(w.base, t);
+    if w.base <= t {
+        return w;
+    }
     let mut n = w;
-    n.base = base;
-    n.cwnd = least(w.cwnd, max_wnd(s, base));
+    n.base = t;
+    n.cwnd = least(w.cwnd, max_wnd(s, t));
     n
 }
 
@@ -120,7 +123,7 @@ pub(crate) fn update_base_rtt(s: Settings, sample: Sample, w: Window) -> Window
 pub(crate) fn measure(s: Settings, marked: bool, sample: Sample, w: Window) -> Delayed
     requires { ⌜ InRange s ⌝ }
     requires { ⌜ Sampled sample ⌝ }
-    requires { ⌜ (w .base ≤ s .«config_base_rtt») × (w .avg ≤ avgMost) ⌝ }
+    requires { ⌜ (w .base ≤ s .«config_base_rtt») × (w .cwnd ≤ maxWndOf s (w .base)) × (w .avg ≤ avgMost) ⌝ }
     ensures { λ r. ⌜ r ≡ measureOf s marked sample w ⌝ }
 {
     let Sample::Ticks(t) = sample else {

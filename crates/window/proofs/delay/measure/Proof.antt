@@ -45,7 +45,7 @@ update-delay-requires c κs =
     let l = c .before in
     let s = l .before .before .before .before in
     let high = s .pre .1 .0 .high _ (l .before .before .sample .given .1) in
-    (s .pre .1 .1 .1, rw (c .feed .ensures) (feed-under _ _ _ _ _ (omega (arith, base-is l, high)) (omega (arith, high))))
+    (s .pre .1 .1 .2, rw (c .feed .ensures) (feed-under _ _ _ _ _ (omega (arith, base-is l, high)) (omega (arith, high))))
 
 returns-2 : tie.Need-returns-2
 returns-2 c =
