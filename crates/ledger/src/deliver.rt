@@ -24,7 +24,8 @@ ghost use Rattle.ledger.specs.Steps.{heldOf, acknowledgeOf};
 ghost use Rattle.ledger.specs.Rows.{ackRows};
 ghost use Rattle.ledger.specs.Delivery.{lessened, Counted, emptied, Standing, Reached, Covered, Retired};
 
-// The packets of word q that the mask covers are done, and have left the totals.
+// The packets of word q that the mask covers are done, and have left the totals. Mostly none of them is marked: then there is neither
+// a marked bit to clear nor a byte to add up.
 fn cover_word<'a, 'b, 'c>(
     outstanding: &'a mut [u64],
     marked: &'b mut [u64],
@@ -42,11 +43,16 @@ fn cover_word<'a, 'b, 'c>(
 {
     let out = outstanding[q];
     let mark = marked[q];
-    let waiting = bits::count(mark, mask);
     let flying = totals.flying;
+    outstanding[q] = bits::clear(out, mask);
+    if mark & mask == 0 {
+        let mut left = totals;
+        left.flying = flying - bits::count(out, mask);
+        return left;
+    }
+    let waiting = bits::count(mark, mask);
     let marks = totals.marked;
     let marked_bytes = totals.marked_bytes;
-    outstanding[q] = bits::clear(out, mask);
     marked[q] = bits::clear(mark, mask);
     Totals {
         flying: flying - (bits::count(out, mask) - waiting),
