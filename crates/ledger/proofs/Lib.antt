@@ -12,7 +12,6 @@ pub mod Fronts
 pub mod WordsShown
 pub mod WordsReached
 pub mod Covering
-pub mod Emptying
 pub mod Retiring
 pub mod Acked
 pub mod Signs

@@ -9,7 +9,7 @@ use native.Mathlib.Omega.{arith}
 use lib.Bits.{bitAnd}
 use lib.ListN.{getD}
 use Rattle.rules.specs.Branch.{ifSo}
-use Rattle.bits.specs.Bits.{bit, one, without, lowest, sumTo, countIn}
+use Rattle.bits.specs.Bits.{bit, one, without, sumTo, countIn}
 use Rattle.bits.proofs.Digits.{bit-and}
 use Rattle.bits.proofs.Words.{zero-bit, word-is, sum-same, sum-join, sum-none}
 use Rattle.ledger.specs.Memory.{sizeIn}

@@ -1,20 +1,21 @@
--- The done packets at the front leave the ring: how many they are, by the first outstanding bit; which slots are emptied; and the ring that
--- is left, slot by slot.
+-- The done packets at the front leave the ring: how many they are, by the first outstanding bit; which slots are emptied; the ring that is
+-- left, slot by slot; and the loop that does it.
 -- Assumes nothing.
 use mathlib.Core.Path.{_≡_, refl, sym, ap, _∙_}
 use mathlib.Core.Bool.{Bool, true, false, not, cond, false≢true}
 use mathlib.Core.List.{List, [], _∷_}
-use mathlib.Core.Logic.{_⊎_, inl, inr, ⊎-elim, by-cases}
+use mathlib.Core.Logic.{⊎-elim, by-cases}
 use Prim.Native.Nat.{ℕ, suc, _+_, _-_, _%_, _≤_, _<_}
-use native.Mathlib.Nat.{mod-eq-of-lt, mod-eq-sub-mod, add-mod-right}
+use native.Mathlib.Nat.{add-mod-right}
 use native.Mathlib.Decide.{decLt}
 use native.Mathlib.Omega.{arith}
+use borrow.Author.Count.{below-more}
 use lib.Dec.{eqb}
-use lib.ListN.{length, getD, drop, List·getD-eq-default}
-use lib.Seq.{getD-drop}
+use lib.ListN.{length, getD, set, drop, length-set, List·getD-eq-default}
+use lib.Seq.{getD-drop, getD-set-same, getD-set-other}
 use Rattle.rules.specs.Branch.{ifSo, ifEq}
 use Rattle.bits.specs.Bits.{bitAt, lowest}
-use Rattle.bits.proofs.Words.{lowest-le, lowest-before, lowest-same}
+use Rattle.bits.proofs.Words.{same-or-not, lowest-le, lowest-before, lowest-is, lowest-same}
 use Rattle.serial.specs.Wrap.{minus}
 use Rattle.serial.specs.Psn.{psns, plus}
 use Rattle.serial.proofs.Cover.{minus-step}
@@ -22,14 +23,13 @@ use Rattle.ledger.specs.Packets.{doneStatus, noPacket, isDone, doneRun}
 use Rattle.ledger.specs.Ring.{Ring, ageOf, placeOf, capOf, packetAt, laid, queueOf, longOf, packets}
 use Rattle.ledger.specs.Memory.{Memory, memory, slotsOf, sizeIn, resentIn, inWindow, statusOf, shown, Words}
 use Rattle.ledger.specs.Sound.{Lengths}
-use Rattle.ledger.specs.Delivery.{emptied, slots, Standing, Retired}
+use Rattle.ledger.specs.Delivery.{slots, Standing, Retired}
 use Rattle.ledger.specs.declared.Flow.{Flow}
 use Rattle.ledger.specs.declared.Packet.{Packet}
-use Rattle.ledger.proofs.Geometry.{Cap, place-flat, place-plus, age-lt, place-age, laid-cap, laid-even, laid-at, laid-queue}
+use Rattle.ledger.proofs.Geometry.{Cap, place-flat, place-plus, age-lt, age-place, place-age, laid-cap, laid-even, laid-at, laid-queue}
 use Rattle.ledger.proofs.Facts.{packets-long}
 use Rattle.ledger.proofs.Shows.{slots-even, shown-even, shown-is}
 use Rattle.ledger.proofs.Queues.{plus-none}
-use Rattle.ledger.proofs.Emptying.{run-yes, run-before, run-after, empty-long, empty-yes, empty-no}
 use Rattle.ledger.proofs.Fronts.{bitOfAge}
 use Rattle.ledger.proofs.WordsShown.{slotShown, even-cap, slot-shows, in-window, out-window, caps, age-of, live-shows}
 use Rattle.ledger.proofs.WordsShown.{packet-at, lengths-kept, words-kept}
@@ -67,65 +67,36 @@ pub record Cut (cap low gone : ℕ) (xs ys : List ℕ) : Type 0 where
   pub emptied-at : (x : ℕ) → x < cap → ageOf cap low x < gone → getD ys x 0 ≡ 0
   pub kept-at : (x : ℕ) → x < cap → gone ≤ ageOf cap low x → getD ys x 0 ≡ getD xs x 0
 
-module _ (low : ℕ) {cap i : ℕ} (C : Cap cap) (e : i ≡ low % cap) (l : i < cap) where
-  -- the slot of packet a, before the ring's end or behind it
-  place-is : (a : ℕ) → a < cap → ((i + a < cap) × (placeOf cap low a ≡ i + a)) ⊎ ((cap ≤ i + a) × (placeOf cap low a + cap ≡ i + a))
-  place-is a h =
-      let p : placeOf cap low a ≡ (i + a) % cap = place-flat cap C low a ∙ ap (λ (x : ℕ). (x + a) % cap) (sym e) in
-      by-cases (decLt (i + a) cap) (λ y. inl (y, p ∙ mod-eq-of-lt y))
-      (λ n.
-      let g : cap ≤ i + a = omega arith in
-      let s : (i + a) % cap ≡ i + a - cap = mod-eq-sub-mod g ∙ mod-eq-of-lt (omega arith) in
-      inr (g, omega arith))
+-- of none ..
+pub cut-none : (cap low : ℕ) (xs : List ℕ) → Cut cap low 0 xs xs
+cut-none cap low xs = record { long = refl; emptied-at = λ x h a. absurd (omega arith); kept-at = λ x h a. refl }
 
-  -- slot x, by its age
-  slot-is : (x : ℕ) → x < cap → let a = ageOf cap low x in ((i + a < cap) × (x ≡ i + a)) ⊎ ((cap ≤ i + a) × (x + cap ≡ i + a))
-  slot-is x h =
-      let b = place-age cap C low x h in
-      ⊎-elim (λ p. inl (p .0, sym b ∙ p .1)) (λ p. inr (p .0, omega (arith, p .1)))
-      (place-is (ageOf cap low x) (age-lt cap C low x))
+-- .. and of one more: slot i, that of packet `gone`, becomes zero
+module _ {cap low gone i : ℕ} {xs ys : List ℕ} (D : Cut cap low gone xs ys) (C : Cap cap) (h : gone < cap)
+    (e : i ≡ placeOf cap low gone) where
+  age-is : ageOf cap low i ≡ gone
+  age-is = ap (ageOf cap low) e ∙ age-place cap C low gone h
 
-  module _ {gone : ℕ} (few : gone ≤ cap) (xs : List ℕ) where
-    -- one run up to the ring's end ..
-    pub cut-one : {ys : List ℕ} → i + gone ≤ cap → ys ≡ emptied i (i + gone) xs → Cut cap low gone xs ys
-    cut-one fits is =
-        rw is (record {
-          long = empty-long i (i + gone) xs;
-          emptied-at =
-              λ x h a.
-              empty-yes i (i + gone) xs x
-              (⊎-elim (λ p. run-yes i (i + gone) x (omega arith) (omega arith)) (λ p. absurd (omega arith)) (slot-is x h));
-          kept-at =
-              λ x h a.
-              let lt = age-lt cap C low x in
-              empty-no i (i + gone) xs x
-              (⊎-elim (λ p. run-after i (i + gone) x (omega arith)) (λ p. run-before i (i + gone) x (omega arith)) (slot-is x h));
-        })
+  -- no other slot is that old
+  only-slot : (x : ℕ) → x < cap → ageOf cap low x ≡ gone → x ≡ i
+  only-slot x l a = sym (place-age cap C low x l) ∙ ap (placeOf cap low) a ∙ sym e
 
-    -- .. or one up to it, and one from the ring's start on
-    pub cut-two : {ys zs : List ℕ} → cap < i + gone → ys ≡ emptied i cap xs → zs ≡ emptied 0 (i + gone - cap) ys → Cut cap low gone xs zs
-    cut-two over first second =
-        let end : ℕ = i + gone - cap in
-        rw (second, first) (record {
-          long = empty-long 0 end (emptied i cap xs) ∙ empty-long i cap xs;
-          emptied-at =
-              λ x h a.
-              ⊎-elim
-              (λ p.
-              empty-no 0 end (emptied i cap xs) x (run-after 0 end x (omega arith))
-              ∙ empty-yes i cap xs x (run-yes i cap x (omega arith) h))
-              (λ p. empty-yes 0 end (emptied i cap xs) x (run-yes 0 end x (omega arith) (omega arith)))
-              (slot-is x h);
-          kept-at =
-              λ x h a.
-              let lt = age-lt cap C low x in
-              ⊎-elim
-              (λ p. absurd (omega arith))
-              (λ p.
-              empty-no 0 end (emptied i cap xs) x (run-after 0 end x (omega arith))
-              ∙ empty-no i cap xs x (run-before i cap x (omega arith)))
-              (slot-is x h);
-        })
+  pub cut-more : length xs ≡ cap → Cut cap low (gone + 1) xs (set ys i 0)
+  cut-more long =
+      record {
+        long = length-set ys i 0 ∙ D .long;
+        emptied-at =
+            λ x l a.
+            ⊎-elim
+            (λ s. ap (λ (j : ℕ). getD (set ys i 0) j 0) s ∙ getD-set-same ys i 0 0 (omega (arith, D .long)))
+            (λ n.
+            getD-set-other ys i x 0 0 n
+            ∙ by-cases (decLt (ageOf cap low x) gone) (λ y. D .emptied-at x l y) (λ y. absurd (n (only-slot x l (omega arith)))))
+            (same-or-not x i);
+        kept-at =
+            λ x l a.
+            getD-set-other ys i x 0 0 (λ s. omega (arith, ap (ageOf cap low) s, age-is)) ∙ D .kept-at x l (omega arith);
+      }
 
 -- ---- the ring that is left
 
@@ -303,6 +274,46 @@ module _ {m : Memory} {f : Flow} {gone : ℕ} {sizes sent : List ℕ} (S : Stand
         run = run-is;
         ring-is = ring-left ∙ ap (λ (c : ℕ). laid c new (drop gone xs)) (sym (even-cap (f .low) (f .next) (S .lengths)));
       })
+
+-- ---- the loop
+
+-- the first `gone` packets are not outstanding, and their slots are empty
+pub record Gone (m : Memory) (f : Flow) (gone : ℕ) (sizes sent : List ℕ) : Type 0 where
+  pub most : gone ≤ longOf f
+  pub none : (j : ℕ) → j < gone → bitOfAge (m .outstanding) (f .low) j ≡ false
+  pub sizes-cut : Cut (slots m) (f .low) gone (m .sizes) sizes
+  pub sent-cut : Cut (slots m) (f .low) gone (m .sent) sent
+
+pub starts : (m : Memory) (f : Flow) → Gone m f 0 (m .sizes) (m .sent)
+starts m f =
+    record {
+      most = omega arith;
+      none = λ j h. absurd (omega arith);
+      sizes-cut = cut-none (slots m) (f .low) (m .sizes);
+      sent-cut = cut-none (slots m) (f .low) (m .sent);
+    }
+
+module _ {m : Memory} {f : Flow} {gone : ℕ} {sizes sent : List ℕ} (S : Standing m f) (G : Gone m f gone sizes sent) where
+  -- a turn: packet `gone` is not outstanding, and its slot i becomes zero
+  pub again : {i : ℕ} → i ≡ placeOf (slots m) (f .low) gone → gone < longOf f → bitAt (m .outstanding) i ≡ false
+      → Gone m f (gone + 1) (set sizes i 0) (set sent i 0)
+  again e h clear =
+      let l : gone < slots m = omega (arith, S .fits) in
+      record {
+        most = omega arith;
+        none =
+            below-more (λ j. bitOfAge (m .outstanding) (f .low) j ≡ false) gone (G .none) (ap (bitAt (m .outstanding)) (sym e) ∙ clear);
+        sizes-cut = cut-more (G .sizes-cut) (caps S) l e (S .lengths .sizes);
+        sent-cut = cut-more (G .sent-cut) (caps S) l e (S .lengths .sent);
+      }
+
+  -- the end: where a packet is left, it is outstanding
+  pub ends : {n : ℕ} → f .low < psns → n ≡ longOf f → (gone < longOf f → bitOfAge (m .outstanding) (f .low) gone ≡ true)
+      → Retired (shown (f .low) (f .next) m) (f .low) n gone
+      (shown (plus (f .low) gone) (f .next) (memory (m .outstanding) (m .marked) sizes sent))
+  ends b e there =
+      retires S b (sym (lowest-is (bitOfAge (m .outstanding) (f .low)) (longOf f) gone (G .most) (G .none) there))
+      (G .sizes-cut) (G .sent-cut) e
 
 -- where low is not done, none leaves and the ring stays as it is
 pub none-retires : {m : Memory} {f : Flow} {n : ℕ} → Standing m f → f .low < psns → n ≡ longOf f

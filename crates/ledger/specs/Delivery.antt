@@ -5,14 +5,13 @@ use mathlib.Core.Bool.{Bool, true, false, _&&_}
 use mathlib.Core.List.{List}
 use mathlib.Core.Logic.{_⊎_}
 use Prim.Native.Nat.{ℕ, _+_, _-_, _*_, _≤_, _<_}
-use lib.Dec.{leb, ltb}
 use lib.ListN.{length, drop, getD}
 use Rattle.rules.specs.Branch.{ifSo}
 use Rattle.bits.specs.Bits.{wordBits, bit, bitAt, countIn, sumTo}
 use Rattle.serial.specs.Wrap.{minus}
 use Rattle.serial.specs.Psn.{psns, reach, plus, covered}
 use Rattle.ledger.specs.Packets.{noPacket, flyingOne, markedOne, markedSize, sumOf, coverAll, coveredSum, doneRun}
-use Rattle.ledger.specs.Ring.{Ring, Ledger, tabulate, capOf, packetAt, placeOf, laid, queueOf, longOf, packets}
+use Rattle.ledger.specs.Ring.{Ring, Ledger, capOf, packetAt, placeOf, laid, queueOf, longOf, packets}
 use Rattle.ledger.specs.Memory.{Memory, sizeIn, shown, Words}
 use Rattle.ledger.specs.Sound.{Lengths}
 use Rattle.ledger.specs.declared.Flow.{Flow}
@@ -45,10 +44,6 @@ pub record Counted (out mark mask : ℕ) (sizes : List ℕ) (q : ℕ) (t : Total
   pub flying : countIn out mask ≤ t .flying + countIn mark mask
   pub marked : countIn mark mask ≤ t .marked
   pub bytes : bytesIn mark mask sizes q ≤ t .«marked_bytes»
-
--- the slots from..to-1 of a slice, zero
-unfoldable pub emptied : ℕ → ℕ → List ℕ → List ℕ
-emptied from to xs = tabulate (λ i. ifSo (leb from i && ltb i to) 0 (getD xs i 0)) (length xs)
 
 -- ---- the memory
 

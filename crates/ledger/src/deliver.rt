@@ -1,11 +1,10 @@
-// An ACK's ledger step: what it covers is done, done packets at the front leave the ring, the count is taken in. The packets are looked at
-// 64 at a time, those of one word of the bits.
+// An ACK's ledger step: what it covers is done, done packets at the front leave the ring, the count is taken in. The packets that it can
+// cover are looked at 64 at a time, those of one word of the bits.
 use crate::Books;
 use crate::Flow;
 use crate::Totals;
 use crate::judge::less;
 use crate::judge::newly;
-use crate::seek::front;
 use crate::slots::long;
 use crate::slots::place;
 use crate::stretch::bytes_in;
@@ -22,7 +21,7 @@ ghost use Rattle.ledger.specs.Ring.{queueOf, longOf};
 ghost use Rattle.ledger.specs.Sound.{SoundLedger};
 ghost use Rattle.ledger.specs.Steps.{heldOf, acknowledgeOf};
 ghost use Rattle.ledger.specs.Rows.{ackRows};
-ghost use Rattle.ledger.specs.Delivery.{lessened, Counted, emptied, Standing, Reached, Covered, Retired};
+ghost use Rattle.ledger.specs.Delivery.{lessened, Counted, Standing, Reached, Covered, Retired};
 
 // The packets of word q that the mask covers are done, and have left the totals. Mostly none of them is marked: then there is neither
 // a marked bit to clear nor a byte to add up.
@@ -95,22 +94,7 @@ fn cover<'a, 'b, 'c>(
     left
 }
 
-// The slots from..to-1 become zero.
-fn empty_run<'a, 'b>(sizes: &'a mut [u32], sent: &'b mut [u64], from: usize, to: usize)
-    requires { ⌜ (from ≤ to) × (to ≤ length (now sizes)) × (to ≤ length (now sent)) ⌝ }
-    ensures { λ _. ⌜ (now (sizes .exit) ≡ emptied from to (now (sizes .entry)))
-        × (now (sent .exit) ≡ emptied from to (now (sent .entry))) ⌝ }
-{
-    let mut i = from;
-    while i < to {
-        sizes[i] = 0;
-        sent[i] = 0;
-        i += 1;
-    }
-}
-
-// The done packets at the front leave the ring, at most n; how many. Their slots lie in one run, or in one up to the ring's end and one
-// from its start on.
+// The done packets at the front leave the ring, at most n; how many. Mostly one or two do, so they are looked at one by one.
 fn retire<'a, 'b, 'c>(
     outstanding: &'a [u64],
     marked: &'a [u64],
@@ -124,16 +108,17 @@ fn retire<'a, 'b, 'c>(
     ensures { λ r. ⌜ Retired (shown (flow .low) (flow .next) (memoryBefore outstanding marked sizes sent)) (flow .low) n r
         (shown (plus (flow .low) r) (flow .next) (memoryAfter outstanding marked sizes sent)) ⌝ }
 {
-    let gone = front(outstanding, flow.low, n);
     let cap = sent.len();
-    let i = place(cap, flow.low);
-    let end = i + gone as usize;
-    if end <= cap {
-        empty_run(sizes, sent, i, end);
-        return gone;
+    let mut gone: u32 = 0;
+    while gone < n {
+        let i = place(cap, serial::psn_plus(flow.low, gone));
+        if bits::is_set(outstanding, i) {
+            return gone;
+        }
+        sizes[i] = 0;
+        sent[i] = 0;
+        gone += 1;
     }
-    empty_run(sizes, sent, i, cap);
-    empty_run(sizes, sent, 0, end - cap);
     gone
 }
 

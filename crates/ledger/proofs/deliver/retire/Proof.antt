@@ -1,128 +1,141 @@
--- `deliver::retire` meets its contract: by the laws of proofs/Retiring, from what its runs leave.
-use mathlib.Core.Path.{_≡_, ap, _∙_}
-use Prim.Native.Nat.{_+_, _%_, _≤_, _<_}
+-- `deliver::retire` meets its contract: the loop's invariant is `Gone` of proofs/Retiring, whose laws give its start, a turn and the end.
+use mathlib.Core.Path.{sym, ap, _∙_}
+use Prim.Native.Nat.{ℕ, _-_, _%_, _<_}
 use native.Mathlib.Omega.{arith}
-use borrow.Author.Needs.{needs}
-use Rattle.bits.specs.Bits.{lowest}
+use Rattle.bits.specs.Bits.{bitAt}
 use Rattle.serial.specs.Psn.{psns}
 use Rattle.ledger.specs.Memory.{Memory, memory}
+use Rattle.ledger.specs.Ring.{placeOf}
 use Rattle.ledger.specs.Delivery.{slots}
-use Rattle.ledger.specs.Ring.{longOf}
-use Rattle.ledger.proofs.Fronts.{bitOfAge}
+use Rattle.ledger.proofs.Fronts.{Slot}
 use Rattle.ledger.proofs.WordsShown.{caps}
-use Rattle.ledger.proofs.Retiring.{cut-one, cut-two, retires}
+use Rattle.ledger.proofs.Retiring.{Gone, starts, again, ends}
 use Rattle.ledger.proofs.deliver.retire.Statement.{statement}
 use Rattle.ledger.proofs.deliver.retire.Tie as tie
 
-abbrev given : tie.Start → Memory
+abbrev Inv-loop : tie.InvT-loop
+Inv-loop outstanding marked sizes₀ sent₀ flow n cap gone₀ sizes sent gone =
+    Gone (memory outstanding marked sizes₀ sent₀) flow gone sizes sent
+
+abbrev μ-loop : tie.MeasureT-loop
+μ-loop outstanding marked sizes₀ sent₀ flow n cap gone₀ sizes sent gone = n - gone
+
+abbrev given : tie.Start Inv-loop μ-loop → Memory
 given s = memory (s .args .outstanding .now) (s .args .marked .now) (s .args .sizes .now) (s .args .sent .now)
 
--- from the place after `place` back to the entry
-abbrev entry : tie.After-place → tie.Start
-entry v = v .before .before .before .before .before .before
+-- from the loop's head back to the entry, and from the place after `place` back to the loop's head
+abbrev entry : tie.At-loop Inv-loop μ-loop → tie.Start Inv-loop μ-loop
+entry l = l .before .before .before .before .before
 
-low-fits : (s : tie.Start) → s .args .flow .low < psns
+abbrev head : tie.After-place Inv-loop μ-loop → tie.At-loop Inv-loop μ-loop
+head v = v .before .before .before
+
+low-fits : (s : tie.Start Inv-loop μ-loop) → s .args .flow .low < psns
 low-fits s = omega arith
 
--- the slot of low
-slot : (v : tie.After-place) → let s = entry v in
-    (v .place .result ≡ s .args .flow .low % slots (given s)) × (v .place .result < slots (given s))
-slot v =
-    let e = entry v .pre .1 .lengths .sent in
-    (rw e at (v .place .ensures .0), omega (arith, v .place .ensures .1, e))
+loop-holds : tie.Need-loop-holds Inv-loop μ-loop
+loop-holds c = let s = c .before .before .before .before in starts (given s) (s .args .flow)
 
--- how many packets leave
-gone-is : (v : tie.After-place)
-    → v .before .front .result ≡ lowest (bitOfAge (given (entry v) .outstanding) (entry v .args .flow .low)) (longOf (entry v .args .flow))
-gone-is v =
-    let s = entry v in
-    v .before .front .ensures .0 ∙ ap (lowest (bitOfAge (given s .outstanding) (s .args .flow .low))) (s .pre .0)
+psn-plus-requires : tie.Need-psn-plus-requires Inv-loop μ-loop
+psn-plus-requires c κs = tt
 
-few : (v : tie.After-place) → v .before .front .result ≤ slots (given (entry v))
-few v = omega (arith, v .before .front .ensures .1, entry v .pre .0, entry v .pre .1 .fits)
-
-front-requires : tie.Need-front-requires
-front-requires c κs = search needs
-
-place-requires : tie.Need-place-requires
+place-requires : tie.Need-place-requires Inv-loop μ-loop
 place-requires c κs =
-    let L = c .before .before .before .before .before .pre .1 .lengths in
+    let L = entry (c .before .before) .pre .1 .lengths in
     rw (L .sent) (L .cap)
 
-cast-end : tie.Need-cast-end
-cast-end c = search needs
+-- the slot of packet `gone`
+slot : (v : tie.After-place Inv-loop μ-loop)
+    → Slot (given (entry (head v)) .outstanding) (entry (head v) .args .flow .low) (head v .loop .gone) (v .place .result)
+unfolding placeOf
+slot v =
+    let s = entry (head v) in
+    let n = s .pre .1 .lengths .sent in
+    record {
+      caps = caps (s .pre .1);
+      place = rw n at (v .place .ensures .0) ∙ ap (λ (p : ℕ). p % slots (given s)) (v .before .psn-plus .ensures);
+      inside = omega (arith, v .place .ensures .1, n);
+    }
 
-add-end : tie.Need-add-end
-add-end c = search needs
+is-set-requires : tie.Need-is-set-requires Inv-loop μ-loop
+is-set-requires c κs = slot c .inside
 
-empty-run-requires : tie.Need-empty-run-requires
-empty-run-requires c κs = search needs
+same-length : tie.Need-same-length Inv-loop μ-loop
+same-length c = head (c .before .before) .loop .inv .sizes-cut .long
 
-same-length : tie.Need-same-length
-same-length c = search needs
+same-length-2 : tie.Need-same-length-2 Inv-loop μ-loop
+same-length-2 c = head (c .before .before) .loop .inv .sent-cut .long
 
-same-length-2 : tie.Need-same-length-2
-same-length-2 c = search needs
-
-returns : tie.Need-returns
+returns : tie.Need-returns Inv-loop μ-loop
 returns c =
-    let r = c .before .before .before .before in
-    let v = r .before .before .before .before in
-    let s = entry v in
-    let m = given s in
-    let n = s .pre .1 .lengths .sent in
-    let fits : v .place .result + v .before .front .result ≤ slots m = omega (arith, r .before .before .before .if1 .taken, n) in
-    retires (s .pre .1) (low-fits s) (gone-is v)
-    (cut-one (s .args .flow .low) (caps (s .pre .1)) (slot v .0) (slot v .1) (few v) (m .sizes) fits (r .empty-run .ensures .0))
-    (cut-one (s .args .flow .low) (caps (s .pre .1)) (slot v .0) (slot v .1) (few v) (m .sent) fits (r .empty-run .ensures .1))
-    (s .pre .0)
+    let v = c .before .before in
+    let l = head v in
+    let s = entry l in
+    ends (s .pre .1) (l .loop .inv) (low-fits s) (s .pre .0)
+    (λ h. ap (bitAt (given s .outstanding)) (sym (slot v .place)) ∙ sym (c .before .is-set .ensures) ∙ c .if1 .taken)
 
-empty-run-requires-2 : tie.Need-empty-run-requires-2
-empty-run-requires-2 c κs = search needs
+mul-sizes : tie.Need-mul-sizes Inv-loop μ-loop
+mul-sizes c = let v = c .before .before in omega (arith, slot v .inside, slot v .caps .most)
 
-sub-empty-run : tie.Need-sub-empty-run
-sub-empty-run c = search needs
+slice-write-sizes : tie.Need-slice-write-sizes Inv-loop μ-loop
+slice-write-sizes c =
+    let v = c .before .before in
+    omega (arith, slot v .inside, head v .loop .inv .sizes-cut .long, entry (head v) .pre .1 .lengths .sizes)
 
-empty-run-requires-3 : tie.Need-empty-run-requires-3
-empty-run-requires-3 c κs = search needs
+mul-sent : tie.Need-mul-sent Inv-loop μ-loop
+mul-sent c = let v = c .before .before in omega (arith, slot v .inside, slot v .caps .most)
 
-same-length-3 : tie.Need-same-length-3
-same-length-3 c = search needs
+slice-write-sent : tie.Need-slice-write-sent Inv-loop μ-loop
+slice-write-sent c =
+    let v = c .before .before in
+    omega (arith, slot v .inside, head v .loop .inv .sent-cut .long, entry (head v) .pre .1 .lengths .sent)
 
-same-length-4 : tie.Need-same-length-4
-same-length-4 c = search needs
+add-gone : tie.Need-add-gone Inv-loop μ-loop
+add-gone c = omega (arith, c .before .before .before .before .loop-test .taken)
 
-returns-2 : tie.Need-returns-2
+loop-less : tie.Need-loop-less Inv-loop μ-loop
+loop-less c = omega (arith, c .before .before .before .before .loop-test .taken)
+
+loop-again : tie.Need-loop-again Inv-loop μ-loop
+loop-again c =
+    let v = c .before .before in
+    let l = head v in
+    let s = entry l in
+    again (s .pre .1) (l .loop .inv) (slot v .place) (omega (arith, v .before .before .loop-test .taken, s .pre .0))
+    (sym (c .before .is-set .ensures) ∙ c .if1 .left)
+
+same-length-3 : tie.Need-same-length-3 Inv-loop μ-loop
+same-length-3 c = c .before .loop .inv .sizes-cut .long
+
+same-length-4 : tie.Need-same-length-4 Inv-loop μ-loop
+same-length-4 c = c .before .loop .inv .sent-cut .long
+
+returns-2 : tie.Need-returns-2 Inv-loop μ-loop
 returns-2 c =
-    let q = c .before .before .before .before in
-    let r = q .before .before .before .before .before .before .before in
-    let v = r .before .before .before .before in
-    let s = entry v in
-    let m = given s in
-    let n = s .pre .1 .lengths .sent in
-    let over : slots m < v .place .result + v .before .front .result = omega (arith, r .before .before .before .if1 .left, n) in
-    retires (s .pre .1) (low-fits s) (gone-is v)
-    (cut-two (s .args .flow .low) (caps (s .pre .1)) (slot v .0) (slot v .1) (few v) (m .sizes) over
-    (rw n at (r .empty-run2 .ensures .0)) (rw n at (q .empty-run3 .ensures .0)))
-    (cut-two (s .args .flow .low) (caps (s .pre .1)) (slot v .0) (slot v .1) (few v) (m .sent) over
-    (rw n at (r .empty-run2 .ensures .1)) (rw n at (q .empty-run3 .ensures .1)))
-    (s .pre .0)
+    let l = c .before in
+    let s = entry l in
+    ends (s .pre .1) (l .loop .inv) (low-fits s) (s .pre .0) (λ h. absurd (omega (arith, c .loop-test .left, s .pre .0)))
 
 pub retire-spec : {M : Type 1} → statement M
 retire-spec =
     tie.close
     (tie.spec
-    front-requires
+    Inv-loop
+    μ-loop
+    loop-holds
+    psn-plus-requires
     place-requires
-    cast-end
-    add-end
-    empty-run-requires
+    is-set-requires
     same-length
     same-length-2
     returns
-    empty-run-requires-2
-    sub-empty-run
-    empty-run-requires-3
+    mul-sizes
+    slice-write-sizes
+    mul-sent
+    slice-write-sent
+    add-gone
+    loop-less
+    loop-again
     same-length-3
     same-length-4
     returns-2)
