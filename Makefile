@@ -7,6 +7,10 @@ LOG = examples/worked.log
 # For how long `make fuzz` runs.
 SECONDS = 60
 
+# Logs for `make bench`, with blanks between, and a program that it times beside the library over them.
+LOGS =
+ANCHOR =
+
 # What the archive and the program are made of.
 SOURCES := crates.txt $(shell find crates -name must-fail -prune -o -type f -print)
 
@@ -27,9 +31,11 @@ fuzz: target/lib/libnscc.a target/bin/nscc
 	@$(RUN) -p differential --bin fuzz -- $(SECONDS)
 
 # What the library costs beside the model, as a table. On a processor other than x86-64 the same code is compiled for that processor first.
+# With LOGS="a.log b.log" these are replayed instead, a line each: name, records, nanoseconds a record, FNV-1a sum of all answers.
+# With ANCHOR=program too, `program time LOG` is run in turn with ours, and the ratio printed; sums that differ are an error.
 bench: target/lib/libnscc.a
 	@tools/native-archive target/native >target/native.log 2>&1 || { cat target/native.log >&2; exit 1; }
-	@NSCC_ARCHIVE_DIR=$(CURDIR)/target/native $(RUN) -p bench
+	@NSCC_ARCHIVE_DIR=$(CURDIR)/target/native $(RUN) -p bench -- $(if $(ANCHOR),--anchor "$(ANCHOR)") $(LOGS)
 
 target/lib/libnscc.a: $(SOURCES)
 	@tools/library

@@ -1,17 +1,30 @@
-//! `bench`: times the proved library against the model and prints one table in Markdown.
+//! `bench`: times the proved library against the model and prints one table in Markdown. Both sides
+//! get the same logs and events in the same run. What they answer and leave is compared before
+//! anything is timed.
 //!
-//! Both sides get the same logs and events in the same run. What they answer and leave is compared
-//! before anything is timed.
+//! `bench [--anchor PROGRAM] LOG..`: times the library over these logs instead, and beside it a
+//! program that replays them too. Then the sums of their answers are compared.
 
+mod anchor;
 mod calls;
 mod chunks;
+mod given;
 mod logs;
 mod replays;
 mod sides;
+mod sum;
 mod table;
 mod timing;
+mod whole;
 
+use given::{Asked, Given};
+use std::env;
+use std::process::ExitCode;
 use table::Table;
+
+const USAGE: &str = "\
+usage: bench
+       bench [--anchor PROGRAM] LOG..";
 
 const EMULATED: &str = "\
 The library runs under an emulator here, where a time says nothing. To measure, name a folder with
@@ -22,11 +35,34 @@ Both sides gave the same answers and left the same memory before anything was ti
 clears the buffers first, on both. Times are the best of several rounds, ours and the model's in turn.
 ";
 
-fn main() {
-    println!("Processor architecture: {}.", std::env::consts::ARCH);
+fn main() -> ExitCode {
+    match Asked::of(env::args_os().skip(1)) {
+        Some(Asked::Table) => print_table(),
+        Some(Asked::Logs(given)) => print_logs(&given),
+        None => {
+            eprintln!("{USAGE}");
+            ExitCode::from(2)
+        }
+    }
+}
+
+fn print_logs(given: &Given) -> ExitCode {
+    if nscc::raw::EMULATED {
+        eprintln!("{EMULATED}");
+        return ExitCode::FAILURE;
+    }
+    if given.print() {
+        ExitCode::SUCCESS
+    } else {
+        ExitCode::FAILURE
+    }
+}
+
+fn print_table() -> ExitCode {
+    println!("Processor architecture: {}.", env::consts::ARCH);
     if nscc::raw::EMULATED {
         println!("{EMULATED}");
-        return;
+        return ExitCode::SUCCESS;
     }
     println!("{HOW}");
     let mut table = Table::default();
@@ -42,4 +78,5 @@ fn main() {
     calls::acks(&mut table);
     calls::full_test(&mut table);
     print!("{table}");
+    ExitCode::SUCCESS
 }
