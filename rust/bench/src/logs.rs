@@ -1,5 +1,7 @@
 //! The logs that are replayed.
 
+mod mixed;
+
 use model::log::{append, M, QUICK_ADAPT_OFF};
 use model::replay::CAPACITY;
 use model::{gen, Event, Reader, Record, Settings};
@@ -26,6 +28,11 @@ pub fn traffic(records: usize) -> Vec<u8> {
 /// Traffic that a ring of so many slots has room for. The generator's are at most the program's.
 pub fn traffic_for(capacity: usize, records: usize) -> (Settings, Vec<Event>) {
     apart(&gen::narrow(SEED, records, capacity.min(CAPACITY)))
+}
+
+/// Traffic of eight flows.
+pub fn mixed(records: usize) -> Vec<u8> {
+    mixed::mixed(SEED, records)
 }
 
 /// ACKs of a round of bulk, as many as the greatest number of flows, and packets of each.

@@ -5,6 +5,7 @@ use crate::sides::{assert_alike, Model, CAPACITY};
 use crate::table::Table;
 use crate::timing::{race, Clock, Times};
 use differential::answer_of;
+use model::bounds::FLOWS_MAX;
 use model::replay::{self, Replay};
 use nscc::{Context, Place};
 
@@ -28,8 +29,11 @@ pub fn kinds(table: &mut Table) {
     }
 }
 
-/// (a) The program's eight flows, and one flow with as many slots in all and the same events.
+/// (a) Traffic of eight flows. Then the program's eight flows, and one flow with as many slots in
+/// all and the same events.
 pub fn flows(table: &mut Table) {
+    let times = replay(ROUNDS, &logs::mixed(RECORDS), (FLOWS_MAX, CAPACITY), LAP);
+    table.add("(a) a record replayed, traffic of eight flows", times);
     let program = (replay::FLOWS, replay::CAPACITY);
     let slots = program.0 * program.1;
     for (name, shape) in [("one flow", (1, slots)), ("eight flows", program)] {

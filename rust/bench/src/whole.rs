@@ -126,6 +126,7 @@ impl<'a> Whole<'a> {
 #[cfg(test)]
 mod tests {
     use super::{Needs, Whole, CAPACITY, ROOM};
+    use crate::logs;
     use crate::sum::Sum;
     use differential::answer_of;
     use model::log::append;
@@ -241,6 +242,9 @@ mod tests {
         assert_models(&gen::traffic(1, many), many);
         assert_models(&gen::traffic(1, ROOM), ROOM);
         assert_models(&gen::flows(1, many), many);
+        let eight = logs::mixed(many);
+        assert_eq!(Needs::of(&eight), Needs { flows: 8, evs: 256 });
+        assert_models(&eight, many);
         for seed in 0..4 {
             assert_models(&gen::wide(seed, 3_000), 3_000);
         }
