@@ -5,6 +5,7 @@ use crate::sides::{assert_alike, set_up, set_up_model, set_up_ours, Model};
 use crate::table::Table;
 use crate::timing::{race, Clock, Times};
 use differential::{answer_of, turn_of, Call};
+use model::bounds::{EVS_MAX, EVS_USUAL};
 use model::{number_two, Event, NewData, Path, Send, Settings};
 use nscc::{Context, TURN};
 use std::hint::black_box;
@@ -14,12 +15,16 @@ const TEST_ROUNDS: usize = 200;
 /// The refusal of a time before the clock.
 const TIME: u64 = 3;
 
-/// (b) A mix of all events.
+/// (b) A mix of all events. With more EVs there are more times to test, and the events are the same:
+/// those that name an EV name one of the first 256.
 pub fn events(table: &mut Table) {
     for (capacity, many) in [(64, 100_000), (1_024, 30_000)] {
         let (settings, events) = logs::traffic_for(capacity, many);
-        let times = calls(&settings, &events, capacity);
-        table.add(format!("(b) a call, traffic, {capacity} slots"), times);
+        for evs in [EVS_USUAL, EVS_MAX] {
+            let times = calls(&settings.with_evs(evs), &events, capacity);
+            let what = format!("(b) a call, traffic, {capacity} slots, {evs} EVs");
+            table.add(what, times);
+        }
     }
 }
 
@@ -38,7 +43,9 @@ pub fn acks(table: &mut Table) {
 /// The time of a call.
 fn calls(settings: &Settings, events: &[Event], capacity: usize) -> Times {
     let calls: Vec<Call> = events.iter().map(Call::of).collect();
-    let (mut context, mut model) = (Context::empty(1, capacity), Model::empty(1, capacity));
+    let evs = settings.ev_count as usize;
+    let mut context = Context::with_evs(1, capacity, evs);
+    let mut model = Model::with_evs(1, capacity, evs);
     set_up(&mut context, &mut model, settings);
     take(&mut context, &mut model, events);
     assert_alike(&context, &model);

@@ -15,11 +15,16 @@ pub struct Model {
 }
 
 impl Model {
-    /// So many flows, each with a ring of so many slots.
+    /// So many flows, each with a ring of so many slots, and 256 EVs.
     pub fn empty(flows: usize, capacity: usize) -> Model {
+        Model::with_evs(flows, capacity, EVS_USUAL as usize)
+    }
+
+    /// The same with so many EVs.
+    pub fn with_evs(flows: usize, capacity: usize, evs: usize) -> Model {
         Model {
             state: State::default(),
-            memory: Memory::with_flows(flows, capacity, EVS_USUAL as usize),
+            memory: Memory::with_flows(flows, capacity, evs),
         }
     }
 }
