@@ -19,22 +19,18 @@ pub fn has_room(mtu: u64, cwnd: u64, in_flight: i64) -> bool
     in_flight + mtu as i64 <= cwnd as i64
 }
 
-// The name that the rule gives, over the totals of all flows. An inner step: the caller proves the bounds.
+// The name that the rule gives, over the totals of all flows: READY or ACTIVE where something waits, else IDLE or PENDING, and the second of
+// the two where there is no room, or where something flies. Without a branch a replay can leave it out of its loop (docs/PERFORMANCE.md).
+// An inner step: the caller proves the bounds.
 pub fn phase_of(mtu: u64, cwnd: u64, totals: Totals) -> u32
     requires { ⌜ Flown (2 ^ 26) (totals .«in_flight») ⌝ }
     requires { ⌜ (mtu ≤ 2 ^ 14) × (cwnd ≤ 2 ^ 26) ⌝ }
     ensures { λ r. ⌜ r ≡ phaseOf mtu cwnd totals ⌝ }
 {
-    if (totals.backlog == 0) & (totals.marked == 0) {
-        if totals.flying == 0 {
-            return crate::IDLE;
-        }
-        return crate::PENDING;
-    }
-    if has_room(mtu, cwnd, totals.in_flight) {
-        return crate::READY;
-    }
-    crate::ACTIVE
+    let waits = (totals.backlog != 0) | (totals.marked != 0);
+    let room = has_room(mtu, cwnd, totals.in_flight);
+    let second = (waits & !room) | (!waits & (totals.flying != 0));
+    crate::READY * rules::mode_of(waits) + rules::mode_of(second)
 }
 
 // The state at a time, named.
