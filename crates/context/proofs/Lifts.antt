@@ -1,29 +1,36 @@
 -- The answer of flow k's step, lifted to the context: number and context are those of the event's definition.
 -- Assumes nothing.
 use mathlib.Core.Path.{_≡_, refl, sym, ap, _∙_}
-use mathlib.Core.Bool.{Bool}
+use mathlib.Core.Bool.{Bool, true, false}
 use mathlib.Core.List.{List, _∷_}
 use mathlib.Core.Option.{Option, none, some}
 use Prim.Native.Nat.{ℕ, _≤_, _<_}
 use native.Mathlib.Omega.{arith}
-use lib.Dec.{leb}
-use borrow.Author.Tests.{le-leb, lt-leb}
+use lib.Dec.{leb, eqb}
+use borrow.Author.Tests.{le-leb, lt-leb, eqb-true, eqb-false}
 use Rattle.rules.specs.Branch.{ifSo, ifEq, eq-yes, eq-no, so-both, eq-both}
 use Rattle.rules.specs.Rows.{Row, row, firstOf, first-here, first-later}
 use Rattle.window.specs.declared.Sampling.{Sampling}
 use Rattle.ledger.specs.Memory.{Memory}
-use Rattle.sender.specs.World.{World}
+use Rattle.ledger.specs.Ring.{Ledger}
+use Rattle.ledger.specs.Steps.{supplied, pushOf, resendOf, markOf, acknowledgeOf}
+use Rattle.ledger.specs.declared.Flow.{Flow}
+use Rattle.sender.specs.World.{World, View}
 use Rattle.sender.specs.World.{Answered as OneAnswered, answered as oneAnswered, Routing as OneRouting, routed as oneRouted}
 use Rattle.sender.specs.Events.{says}
 use Rattle.sender.specs.Events.{decided as oneDecided, pastPath as onePath}
 use Rattle.sender.specs.Rows.{pathRows}
-use Rattle.sender.specs.Steps.{stateOf, pathState, pathStep}
+use Rattle.sender.specs.Steps.{stateOf, settled, newDataState, newDataStep, sendStep, ackStep, nackStep, lossStep, pathState, pathStep}
+use Rattle.sender.specs.declared.Send.{Send}
+use Rattle.sender.specs.declared.Ack.{Ack}
+use Rattle.sender.specs.declared.Nack.{Nack}
+use Rattle.sender.specs.declared.Loss.{Loss}
 use Rattle.sender.specs.declared.Controller.{Controller as Sender}
-use Rattle.flow_table.specs.Words.{withFlow}
+use Rattle.flow_table.specs.Words.{flowAt, withFlow, withBacklog, withSent, withAcked}
 use Rattle.flow_table.specs.Parts.{putPart}
 use Rattle.flow_table.proofs.Places.{with-same}
 use Rattle.context.specs.Context.{Context, Answered, answered, Routing, routed, flowCount, capIn}
-use Rattle.context.specs.Context.{joinedOf, sharedOf, worldAt, putWorld}
+use Rattle.context.specs.Context.{joinedOf, sharedOf, Leaves, worldAt, putWorld}
 use Rattle.context.specs.Rows.{flowRow}
 use Rattle.context.specs.Events.{decided, chosen}
 use Rattle.context.specs.declared.Controller.{Controller}
@@ -97,14 +104,70 @@ module _ (k : ℕ) (x : Context) (same : putWorld k x (worldAt k x) ≡ x) where
       (λ z. eq-yes n 0 _ _ _ z refl)
       (λ z. eq-no n 0 _ _ _ z (ap (λ (y : Context). record { number = n; ev = 0; after = y }) same))
 
--- a refused event leaves the flow's record as it was
-pub refused-flow : {m : ℕ} {s : Sender} {p : Memory} {times : List ℕ} (n : ℕ) (u w : World)
-    → oneAnswered m s p times ≡ oneDecided n u w → (m ≡ 0 → ⊥) → s .flow ≡ u .state .flow
-unfolding oneDecided
-refused-flow {m} {s} {p} {times} n u w e h =
-    eq-both (λ (a : OneAnswered). oneAnswered m s p times ≡ a → s .flow ≡ u .state .flow) n 0 _ _
-    (λ _ q. absurd (h (ap (λ (a : OneAnswered). a .number) q)))
-    (λ _ q. ap (λ (a : OneAnswered). a .after .state .flow) q) e
+-- ---- the flow's record
+
+-- what each step can change of it: new data the backlog, a send next and backlog, an ACK low and the held count, a NACK and a loss nothing
+module _ (time : ℕ) (v : View) where
+  pub new-data-changes : (bytes : ℕ)
+      → newDataStep time bytes v .state .flow ≡ withBacklog (v .state .flow) (newDataStep time bytes v .state .flow)
+  unfolding newDataStep newDataState stateOf supplied
+  new-data-changes bytes = refl
+
+  pub send-changes : (a : Send) → sendStep time a v .state .flow ≡ withSent (v .state .flow) (sendStep time a v .state .flow)
+  unfolding sendStep settled stateOf resendOf pushOf
+  send-changes a =
+      so-both (λ (l : Ledger). l .flow ≡ withSent (v .state .flow) (l .flow)) (a .resend) _ _ (λ _. refl) (λ _. refl)
+
+  pub ack-changes : (a : Ack) → ackStep time a v .state .flow ≡ withAcked (v .state .flow) (ackStep time a v .state .flow)
+  unfolding ackStep settled stateOf acknowledgeOf
+  ack-changes a = refl
+
+  pub nack-changes : (a : Nack) → nackStep time a v .state .flow ≡ v .state .flow
+  unfolding nackStep settled stateOf markOf
+  nack-changes a = refl
+
+  pub loss-changes : (a : Loss) → lossStep time a v .state .flow ≡ v .state .flow
+  unfolding lossStep settled stateOf markOf
+  loss-changes a = refl
+
+-- so what the event leaves of it, whatever is answered
+module _ {m : ℕ} {s : Sender} {p : Memory} {times : List ℕ} (n : ℕ) (u w : World) (e : oneAnswered m s p times ≡ oneDecided n u w) where
+  pub flow-left : (change : Flow → Flow → Flow) → w .state .flow ≡ change (u .state .flow) (w .state .flow)
+      → Leaves change m (u .state .flow) (s .flow)
+  unfolding oneDecided
+  flow-left change step =
+      eq-both (λ (a : OneAnswered). oneAnswered m s p times ≡ a → Leaves change m (u .state .flow) (s .flow)) n 0 _ _
+      (λ _ q. record {
+        accepted = λ _. rw (ap (λ (a : OneAnswered). a .after .state .flow) q) step;
+        refused = λ h. absurd (h (ap (λ (a : OneAnswered). a .number) q));
+      })
+      (λ h q. record {
+        accepted = λ z. absurd (h (sym (ap (λ (a : OneAnswered). a .number) q) ∙ z));
+        refused = λ _. ap (λ (a : OneAnswered). a .after .state .flow) q;
+      }) e
+
+  pub flow-stays : w .state .flow ≡ u .state .flow → s .flow ≡ u .state .flow
+  unfolding oneDecided
+  flow-stays step =
+      eq-both (λ (a : OneAnswered). oneAnswered m s p times ≡ a → s .flow ≡ u .state .flow) n 0 _ _
+      (λ _ q. ap (λ (a : OneAnswered). a .after .state .flow) q ∙ step)
+      (λ _ q. ap (λ (a : OneAnswered). a .after .state .flow) q) e
+
+-- and the table with that put back: as it is where the record stays, else as it is once the words that can change are stored
+module _ (ws : List ℕ) (k : ℕ) {f : Flow} where
+  same-kept : f ≡ flowAt ws k → ws ≡ withFlow ws k f
+  same-kept e = sym (ap (withFlow ws k) e ∙ with-same ws k)
+
+  module _ {change : Flow → Flow → Flow} {n : ℕ} (L : Leaves change n (flowAt ws k) f) {accepted : Bool} (e : accepted ≡ eqb n 0) where
+    pub stored-kept : {after : List ℕ} → accepted ≡ true → after ≡ withFlow ws k (change (flowAt ws k) f) → after ≡ withFlow ws k f
+    stored-kept t q = q ∙ ap (withFlow ws k) (sym (L .accepted (eqb-true n 0 (sym e ∙ t))))
+
+    pub refused-kept : accepted ≡ false → ws ≡ withFlow ws k f
+    refused-kept t = same-kept (L .refused (eqb-false n 0 (sym e ∙ t)))
+
+pub same-table : (k : ℕ) (x : Context) {f : Flow} → f ≡ worldAt k x .state .flow → x .flows ≡ withFlow (x .flows) k f
+unfolding worldAt joinedOf
+same-table k x e = same-kept (x .flows) k e
 
 -- AN EVENT OF FLOW k, as the code leaves the context: the step's answer on what flow k sees, put back
 module _ {x : Context} {k from end at to : ℕ} (H : Here x k from end at to) (late : Bool) (rows : List Row) (w : World)
@@ -132,13 +195,9 @@ unfolding onePath pathStep pathState stateOf
 path-keeps time w =
     eq-both (λ (r : OneRouting). r .after .state .flow ≡ w .state .flow) (firstOf (pathRows time (w .state))) 0 _ _ (λ _. refl) (λ _. refl)
 
--- so the table is the one with what it leaves put back
 pub path-flow : (k : ℕ) (x : Context) (time : ℕ) {m ev : ℕ} {s : Sender} {p : Memory} {times : List ℕ}
     → oneRouted m ev s p times ≡ onePath time (worldAt k x) → x .flows ≡ withFlow (x .flows) k (s .flow)
-unfolding worldAt joinedOf
-path-flow k x time e =
-    let kept = ap (λ (r : OneRouting). r .after .state .flow) e ∙ path-keeps time (worldAt k x) in
-    sym (ap (withFlow (x .flows) k) kept ∙ with-same (x .flows) k)
+path-flow k x time e = same-table k x (ap (λ (r : OneRouting). r .after .state .flow) e ∙ path-keeps time (worldAt k x))
 
 -- what an ACK or a NACK says: by the number, which is the step's
 pub lift-says : {m : ℕ} {a : OneAnswered} {b : Answered} {s : Sender} {p slots : Memory} {times ys flows : List ℕ} {c : Controller}

@@ -1,6 +1,7 @@
 -- A context of one to eight flows under one window (request M-107): everything that an event is handed, and everything that it hands back;
 -- and what one flow's step sees of it.
 -- Assumes nothing.
+use mathlib.Core.Path.{_≡_}
 use mathlib.Core.List.{List}
 use Prim.Native.Nat.{ℕ, _/_}
 use lib.ListN.{length}
@@ -85,6 +86,11 @@ sharedOf turn s =
       phase = s .phase;
       turn = turn;
     }
+
+-- f is what an event of this answer leaves of a flow's record g: g where it was refused; else g but for the words that the event can change
+pub record Leaves (change : Flow → Flow → Flow) (number : ℕ) (g f : Flow) : Type 0 where
+  pub accepted : number ≡ 0 → f ≡ change g f
+  pub refused : (number ≡ 0 → ⊥) → f ≡ g
 
 -- what flow k's step sees of the context
 unfoldable pub worldAt : ℕ → Context → World

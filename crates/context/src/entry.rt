@@ -131,13 +131,13 @@ pub fn ack<'a, 'b, 'c, 'd, 'e, 'f>(
 
 // A NACK of a flow came. 2, 3, 25, 22, 23, 10, 11; else its packet waits to be sent again, then come the window's rules, and the EV's time
 // where it is marked or the packet was trimmed on its way.
-pub fn nack<'a, 'b, 'c, 'd>(
+pub fn nack<'a, 'b, 'c>(
     c: Controller,
-    flows: &'a mut [u64],
-    outstanding: &'d [u64],
+    flows: &'a [u64],
+    outstanding: &'a [u64],
     marked: &'b mut [u64],
-    sizes: &'d [u32],
-    sent: &'d [u64],
+    sizes: &'a [u32],
+    sent: &'a [u64],
     evs: &'c mut [u64],
     time: u64,
     flow: usize,
@@ -170,13 +170,13 @@ pub fn nack<'a, 'b, 'c, 'd>(
 
 // A packet of a flow is taken for lost. 2, 3, 25, 23, 10, 11; else it waits to be sent again, then come the window's rules, and the EV's
 // time.
-pub fn loss<'a, 'b, 'c, 'd>(
+pub fn loss<'a, 'b, 'c>(
     c: Controller,
-    flows: &'a mut [u64],
-    outstanding: &'d [u64],
+    flows: &'a [u64],
+    outstanding: &'a [u64],
     marked: &'b mut [u64],
-    sizes: &'d [u32],
-    sent: &'d [u64],
+    sizes: &'a [u32],
+    sent: &'a [u64],
     evs: &'c mut [u64],
     time: u64,
     flow: usize,

@@ -13,8 +13,8 @@ ghost use lib.Dec.{ltb, leb};
 ghost use Rattle.window.specs.Limits.{timeEnd};
 ghost use Rattle.ledger.specs.Sound.{isCapacity};
 ghost use Rattle.flow_table.specs.Parts.{wordsIn};
-ghost use Rattle.flow_table.specs.Words.{flowsMost, countOf, flowAt, withFlow};
-ghost use Rattle.context.specs.Context.{joinedOf, sharedOf};
+ghost use Rattle.flow_table.specs.Words.{flowsMost, countOf, flowAt, withFlow, withBacklog, withSent, withAcked};
+ghost use Rattle.context.specs.Context.{joinedOf, sharedOf, Leaves};
 
 // What is shared, with a flow's record: what the step of one flow works on.
 pub(crate) fn joined(c: Controller, flow: Flow) -> sender::Controller
@@ -120,14 +120,38 @@ pub(crate) fn no_flow(time: u64, clock: u64) -> Verdict
 }
 
 // The record of flow k becomes f where its event was accepted; a refused one leaves it as it was. Behind a store that both make, the
-// compiler would no longer know of any answer whether it is 0. An inner step: the caller proves that there is such a flow, and that f is
-// the record that stands there where the event was refused.
-pub(crate) fn keep(flows: &mut [u64], k: usize, f: Flow, verdict: Verdict)
+// compiler would no longer know of any answer whether it is 0. Only the words that the event can change are stored (docs/DECISIONS.md).
+// Inner steps: the caller proves that there is such a flow, and that f is what the event leaves of the record that stands there.
+
+// After new data.
+pub(crate) fn keep_backlog(flows: &mut [u64], k: usize, f: Flow, verdict: Verdict)
     requires { ⌜ k < countOf (now flows) ⌝ }
-    requires { ⌜ ((numberOf verdict ≡ 0 → ⊥) → f ≡ flowAt (now flows) k) ⌝ }
+    requires { ⌜ Leaves withBacklog (numberOf verdict) (flowAt (now flows) k) f ⌝ }
     ensures { λ _. ⌜ now (flows .exit) ≡ withFlow (now (flows .entry)) k f ⌝ }
 {
     if is_accepted(verdict) {
-        flow_table::put(flows, k, f);
+        flow_table::put_backlog(flows, k, f);
+    }
+}
+
+// After a send.
+pub(crate) fn keep_sent(flows: &mut [u64], k: usize, f: Flow, verdict: Verdict)
+    requires { ⌜ k < countOf (now flows) ⌝ }
+    requires { ⌜ Leaves withSent (numberOf verdict) (flowAt (now flows) k) f ⌝ }
+    ensures { λ _. ⌜ now (flows .exit) ≡ withFlow (now (flows .entry)) k f ⌝ }
+{
+    if is_accepted(verdict) {
+        flow_table::put_sent(flows, k, f);
+    }
+}
+
+// After an ACK.
+pub(crate) fn keep_acked(flows: &mut [u64], k: usize, f: Flow, verdict: Verdict)
+    requires { ⌜ k < countOf (now flows) ⌝ }
+    requires { ⌜ Leaves withAcked (numberOf verdict) (flowAt (now flows) k) f ⌝ }
+    ensures { λ _. ⌜ now (flows .exit) ≡ withFlow (now (flows .entry)) k f ⌝ }
+{
+    if is_accepted(verdict) {
+        flow_table::put_acked(flows, k, f);
     }
 }

@@ -6,7 +6,9 @@ use crate::Heard;
 use crate::Routed;
 use crate::join::cut_of;
 use crate::join::joined;
-use crate::join::keep;
+use crate::join::keep_acked;
+use crate::join::keep_backlog;
+use crate::join::keep_sent;
 use crate::join::no_flow;
 use crate::join::shared;
 use sender::Ack;
@@ -64,7 +66,7 @@ pub fn new_data<'a, 'b>(
     );
     let after = told.state;
     let verdict = told.verdict;
-    keep(flows, flow, after.flow, verdict);
+    keep_backlog(flows, flow, after.flow, verdict);
     Answer {
         state: shared(c.turn, after),
         verdict,
@@ -113,7 +115,7 @@ pub fn send<'a, 'b, 'c, 'd, 'e, 'f>(
     );
     let after = told.state;
     let verdict = told.verdict;
-    keep(flows, flow, after.flow, verdict);
+    keep_sent(flows, flow, after.flow, verdict);
     Answer {
         state: shared(c.turn, after),
         verdict,
@@ -165,7 +167,7 @@ pub fn ack<'a, 'b, 'c, 'd, 'e, 'f>(
     let after = heard.state;
     let verdict = heard.verdict;
     let feedback = heard.feedback;
-    keep(flows, flow, after.flow, verdict);
+    keep_acked(flows, flow, after.flow, verdict);
     Heard {
         state: shared(c.turn, after),
         verdict,
@@ -173,15 +175,15 @@ pub fn ack<'a, 'b, 'c, 'd, 'e, 'f>(
     }
 }
 
-// A NACK of a flow.
-pub fn nack<'a, 'b, 'c, 'd>(
+// A NACK of a flow. It changes no flow's record: the table is only read.
+pub fn nack<'a, 'b, 'c>(
     c: Controller,
-    flows: &'a mut [u64],
-    outstanding: &'c [u64],
+    flows: &'a [u64],
+    outstanding: &'a [u64],
     marked: &'b mut [u64],
-    sizes: &'c [u32],
-    sent: &'c [u64],
-    evs: &'d mut [u64],
+    sizes: &'a [u32],
+    sent: &'a [u64],
+    evs: &'c mut [u64],
     time: u64,
     flow: usize,
     a: Nack,
@@ -218,7 +220,6 @@ pub fn nack<'a, 'b, 'c, 'd>(
     let after = heard.state;
     let verdict = heard.verdict;
     let feedback = heard.feedback;
-    keep(flows, flow, after.flow, verdict);
     Heard {
         state: shared(c.turn, after),
         verdict,
@@ -226,15 +227,15 @@ pub fn nack<'a, 'b, 'c, 'd>(
     }
 }
 
-// A loss of a flow.
-pub fn loss<'a, 'b, 'c, 'd>(
+// A loss of a flow. Like a NACK, it only reads the table.
+pub fn loss<'a, 'b, 'c>(
     c: Controller,
-    flows: &'a mut [u64],
-    outstanding: &'c [u64],
+    flows: &'a [u64],
+    outstanding: &'a [u64],
     marked: &'b mut [u64],
-    sizes: &'c [u32],
-    sent: &'c [u64],
-    evs: &'d mut [u64],
+    sizes: &'a [u32],
+    sent: &'a [u64],
+    evs: &'c mut [u64],
     time: u64,
     flow: usize,
     a: Loss,
@@ -268,14 +269,13 @@ pub fn loss<'a, 'b, 'c, 'd>(
     );
     let after = told.state;
     let verdict = told.verdict;
-    keep(flows, flow, after.flow, verdict);
     Answer {
         state: shared(c.turn, after),
         verdict,
     }
 }
 
-// A flow's next path. It changes no flow: the table is only read.
+// A flow's next path. It changes no flow: all that is lent is only read.
 pub fn path<'a>(
     c: Controller,
     flows: &'a [u64],

@@ -197,7 +197,7 @@ pub(crate) fn nack<'a, 'b, 'c, 'd, 'e>(
     let end = flow_table::FLOW_WORDS * n;
     let answer = entry::nack(
         c,
-        &mut words[0..end],
+        &words[0..end],
         outstanding,
         marked,
         sizes,
@@ -239,7 +239,7 @@ pub(crate) fn loss<'a, 'b, 'c, 'd, 'e>(
     let end = flow_table::FLOW_WORDS * n;
     let answer = entry::loss(
         c,
-        &mut words[0..end],
+        &words[0..end],
         outstanding,
         marked,
         sizes,

@@ -1,10 +1,10 @@
 -- Laws of the table as words: a record that is stored is read back, and no other changes.
 -- Assumes nothing.
-use mathlib.Core.Path.{_≡_, refl, _∙_}
+use mathlib.Core.Path.{_≡_, refl, sym, ap, _∙_}
 use mathlib.Core.Bool.{Bool, true, false}
 use mathlib.Core.Logic.{_≢_}
-use mathlib.Core.List.{List}
-use Prim.Native.Nat.{ℕ, _*_, _<_}
+use mathlib.Core.List.{List, [], _∷_}
+use Prim.Native.Nat.{ℕ, zero, suc, _*_, _<_}
 use native.Mathlib.Omega.{arith}
 use lib.Dec.{ltb, eqb}
 use lib.ListN.{length, getD, set, length-set}
@@ -14,7 +14,7 @@ use Rattle.rules.specs.Test.{both, whole, inside, inside-tells, inside-yes}
 use Rattle.serial.specs.Psn.{psns}
 use Rattle.ledger.specs.declared.Flow.{Flow}
 use Rattle.flow_table.specs.Words.{flowWords, flowsMost, lowPlace, nextPlace, heldPlace, backlogPlace, wordPlace, countOf, isTable}
-use Rattle.flow_table.specs.Words.{flowAt, withFlow, fitsAt, Table, Fits}
+use Rattle.flow_table.specs.Words.{flowAt, withFlow, withBacklog, withSent, withAcked, fitsAt, Table, Fits}
 
 -- ---- a test, and what it tells
 
@@ -101,6 +101,53 @@ module _ (ws : List ℕ) (k : ℕ) (f : Flow) where
 pub with-same : (ws : List ℕ) (k : ℕ) → withFlow ws k (flowAt ws k) ≡ ws
 unfolding flowAt withFlow
 with-same ws k = simp set-getD
+
+-- so it is enough to store the words of f that an event can change
+module _ (ws : List ℕ) (k : ℕ) (f : Flow) where
+  pub with-backlog : set ws (wordPlace k backlogPlace) (f .backlog) ≡ withFlow ws k (withBacklog (flowAt ws k) f)
+  unfolding flowAt withFlow
+  with-backlog = simp set-getD
+
+  pub with-sent : set (set ws (wordPlace k nextPlace) (f .next)) (wordPlace k backlogPlace) (f .backlog)
+      ≡ withFlow ws k (withSent (flowAt ws k) f)
+  unfolding flowAt withFlow
+  with-sent =
+      let w = set ws (wordPlace k nextPlace) (f .next) in
+      let h = getD-set-other ws (wordPlace k nextPlace) (wordPlace k heldPlace) (f .next) 0 (λ e. omega arith) in
+      rw (set-getD ws, ← h, set-getD w)
+
+  pub with-acked : set (set ws (wordPlace k lowPlace) (f .low)) (wordPlace k heldPlace) (f .held)
+      ≡ withFlow ws k (withAcked (flowAt ws k) f)
+  unfolding flowAt withFlow
+  with-acked =
+      let w₁ = set ws (wordPlace k lowPlace) (f .low) in
+      let w₂ = set w₁ (wordPlace k heldPlace) (f .held) in
+      let n = getD-set-other ws (wordPlace k lowPlace) (wordPlace k nextPlace) (f .low) 0 (λ e. omega arith) in
+      let b = getD-set-other w₁ (wordPlace k heldPlace) (wordPlace k backlogPlace) (f .held) 0 (λ e. omega arith)
+      ∙ getD-set-other ws (wordPlace k lowPlace) (wordPlace k backlogPlace) (f .low) 0 (λ e. omega arith) in
+      rw (← n, set-getD w₁, ← b, set-getD w₂)
+
+-- stores at two places, in either order
+set-swap : (ws : List ℕ) (i j a b : ℕ) → i ≢ j → set (set ws i a) j b ≡ set (set ws j b) i a
+set-swap [] i j a b ne = refl
+set-swap (w ∷ ws) zero zero a b ne = absurd (ne refl)
+set-swap (w ∷ ws) zero (suc j) a b ne = refl
+set-swap (w ∷ ws) (suc i) zero a b ne = refl
+set-swap (w ∷ ws) (suc i) (suc j) a b ne = ap (λ (l : List ℕ). w ∷ l) (set-swap ws i j a b (λ e. ne (ap suc e)))
+
+-- the words that a send can change and those that an ACK can are the whole record
+pub with-whole : (ws : List ℕ) (k : ℕ) (f : Flow) {u v : List ℕ} → u ≡ withFlow ws k (withSent (flowAt ws k) f)
+    → v ≡ withFlow u k (withAcked (flowAt u k) f) → v ≡ withFlow ws k f
+unfolding withFlow
+with-whole ws k f {u} {v} sent acked =
+    let w = set ws (wordPlace k nextPlace) (f .next) in
+    let x = set (set ws (wordPlace k lowPlace) (f .low)) (wordPlace k nextPlace) (f .next) in
+    acked ∙ sym (with-acked u k f) ∙ rw (sent ∙ sym (with-sent ws k f))
+    (rw (
+      set-swap w (wordPlace k backlogPlace) (wordPlace k lowPlace) (f .backlog) (f .low) (λ e. omega arith),
+      set-swap ws (wordPlace k nextPlace) (wordPlace k lowPlace) (f .next) (f .low) (λ e. omega arith),
+      set-swap x (wordPlace k backlogPlace) (wordPlace k heldPlace) (f .backlog) (f .held) (λ e. omega arith),
+    ))
 
 -- where f's low and next are PSNs, flow j's are too, whether it is the flow that becomes f or another
 module _ (ws : List ℕ) (k : ℕ) (f : Flow) (there : wordPlace k backlogPlace < length ws) (low : f .low < psns) (next : f .next < psns)

@@ -63,6 +63,17 @@ withFlow ws k f =
     let w₃ = set w₂ (wordPlace k heldPlace) (f .held) in
     set w₃ (wordPlace k backlogPlace) (f .backlog)
 
+-- a record with the words of another that an event can change, and its own for the others: new data the backlog, a send next and backlog,
+-- an ACK low and the held count
+abbrev pub withBacklog : Flow → Flow → Flow
+withBacklog g f = record { low = g .low; next = g .next; held = g .held; backlog = f .backlog }
+
+abbrev pub withSent : Flow → Flow → Flow
+withSent g f = record { low = g .low; next = f .next; held = g .held; backlog = f .backlog }
+
+abbrev pub withAcked : Flow → Flow → Flow
+withAcked g f = record { low = f .low; next = g .next; held = f .held; backlog = g .backlog }
+
 -- low and next of flow k are PSNs: "PSN: 32 bits"
 unfoldable pub fitsAt : List ℕ → ℕ → Bool
 fitsAt ws k = ltb (flowAt ws k .low) psns && ltb (flowAt ws k .next) psns

@@ -6,7 +6,7 @@ pub mod lent;
 use ledger::Flow;
 ghost use mathlib.Core.Path.{_≡_};
 ghost use Prim.Native.Nat.{_<_};
-ghost use Rattle.flow_table.specs.Words.{countOf, isTable, fitsAt, Fits, flowAt, withFlow};
+ghost use Rattle.flow_table.specs.Words.{countOf, isTable, fitsAt, Fits, flowAt, withFlow, withBacklog, withSent, withAcked};
 
 // The words of a flow.
 pub const FLOW_WORDS: usize = 4;
@@ -65,14 +65,40 @@ pub fn flow_at(words: &[u64], k: usize) -> Flow
     }
 }
 
-// The record of flow k becomes f, and no other changes.
+// After an event only the words of flow k that it can change are stored, and the others stay. New data: the backlog.
+pub fn put_backlog(words: &mut [u64], k: usize, f: Flow)
+    requires { ⌜ k < countOf (now words) ⌝ }
+    ensures { λ _. ⌜ now (words .exit) ≡ withFlow (now (words .entry)) k (withBacklog (flowAt (now (words .entry)) k) f) ⌝ }
+{
+    let at = FLOW_WORDS * k;
+    words[at + BACKLOG] = f.backlog;
+}
+
+// A send: next and the backlog.
+pub fn put_sent(words: &mut [u64], k: usize, f: Flow)
+    requires { ⌜ k < countOf (now words) ⌝ }
+    ensures { λ _. ⌜ now (words .exit) ≡ withFlow (now (words .entry)) k (withSent (flowAt (now (words .entry)) k) f) ⌝ }
+{
+    let at = FLOW_WORDS * k;
+    words[at + NEXT] = f.next as u64;
+    words[at + BACKLOG] = f.backlog;
+}
+
+// An ACK: low and the held count.
+pub fn put_acked(words: &mut [u64], k: usize, f: Flow)
+    requires { ⌜ k < countOf (now words) ⌝ }
+    ensures { λ _. ⌜ now (words .exit) ≡ withFlow (now (words .entry)) k (withAcked (flowAt (now (words .entry)) k) f) ⌝ }
+{
+    let at = FLOW_WORDS * k;
+    words[at + LOW] = f.low as u64;
+    words[at + HELD] = f.held;
+}
+
+// The record of flow k becomes f, and no other changes: what a send can change and what an ACK can are all of its words.
 pub fn put(words: &mut [u64], k: usize, f: Flow)
     requires { ⌜ k < countOf (now words) ⌝ }
     ensures { λ _. ⌜ now (words .exit) ≡ withFlow (now (words .entry)) k f ⌝ }
 {
-    let at = FLOW_WORDS * k;
-    words[at + LOW] = f.low as u64;
-    words[at + NEXT] = f.next as u64;
-    words[at + HELD] = f.held;
-    words[at + BACKLOG] = f.backlog;
+    put_sent(words, k, f);
+    put_acked(words, k, f);
 }

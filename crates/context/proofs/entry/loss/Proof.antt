@@ -19,10 +19,10 @@ handed s =
 
 -- from either answer to the test back to the entry
 abbrev start : tie.Then1 → tie.Start
-start c = c .before .before .before .before .before .before .before .before .before .before .before
+start c = c .before .before .before .before .before .before .before .before .before .before
 
 abbrev startOf : tie.Else1 → tie.Start
-startOf c = c .before .before .before .before .before .before .before .before .before .before .before
+startOf c = c .before .before .before .before .before .before .before .before .before .before
 
 is-sound-requires : tie.Need-is-sound-requires
 is-sound-requires c κs = search needs
@@ -32,9 +32,6 @@ same-length c = search needs
 
 same-length-2 : tie.Need-same-length-2
 same-length-2 c = search needs
-
-same-length-3 : tie.Need-same-length-3
-same-length-3 c = search needs
 
 returns : tie.Need-returns
 unfolding numberOf onLoss
@@ -46,22 +43,19 @@ returns c =
 
 loss-requires : tie.Need-loss-requires
 loss-requires c κs =
-    let e = c .before .before .before in
+    let e = c .before .before in
     sym (e .before .is-sound .ensures) ∙ not-false _ (e .if1 .left)
+
+same-length-3 : tie.Need-same-length-3
+same-length-3 c = search needs
 
 same-length-4 : tie.Need-same-length-4
 same-length-4 c = search needs
 
-same-length-5 : tie.Need-same-length-5
-same-length-5 c = search needs
-
-same-length-6 : tie.Need-same-length-6
-same-length-6 c = search needs
-
 returns-2 : tie.Need-returns-2
 returns-2 c =
-    let k = c .before .before .before .before .before .before in
-    let e = c .before .before .before .before .before .before .before .before .before .before in
+    let k = c .before .before .before .before in
+    let e = c .before .before .before .before .before .before .before in
     let s = startOf e in
     let so = sym (e .before .is-sound .ensures) ∙ not-false _ (e .if1 .left) in
     k .loss .ensures ∙ past-loss (handed s) so (s .args .time) (s .args .flow) (s .args .a)
@@ -73,10 +67,8 @@ loss-spec =
     is-sound-requires
     same-length
     same-length-2
-    same-length-3
     returns
     loss-requires
+    same-length-3
     same-length-4
-    same-length-5
-    same-length-6
     returns-2)

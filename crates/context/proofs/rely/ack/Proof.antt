@@ -4,6 +4,7 @@ use Prim.Native.Nat.{_≤_}
 use native.Mathlib.Omega.{arith}
 use borrow.Author.Needs.{needs}
 use Rattle.window.specs.declared.Sampling.{Sampling}
+use Rattle.flow_table.specs.Words.{withAcked}
 use Rattle.sender.specs.World.{World, View, viewOf, worldOf}
 use Rattle.sender.specs.Events.{saysOf}
 use Rattle.sender.specs.Events.{pastAck as oneAck, pastAckSays as oneSays}
@@ -12,7 +13,7 @@ use Rattle.context.specs.Context.{Context, joinedOf, worldAt, flowCount}
 use Rattle.context.specs.Events.{pastAck}
 use Rattle.context.specs.Lent.{contextGiven}
 use Rattle.context.proofs.Joins.{Here, cut-asks, cut-here, here-fits, here-holds, lent-world, put-slots}
-use Rattle.context.proofs.Lifts.{no-flow-decided, not-zero, refused-flow, lift-answer, lift-says, no-flow-says}
+use Rattle.context.proofs.Lifts.{no-flow-decided, not-zero, ack-changes, flow-left, lift-answer, lift-says, no-flow-says}
 use Rattle.context.proofs.rely.ack.Statement.{statement}
 use Rattle.context.proofs.rely.ack.Tie as tie
 
@@ -46,7 +47,7 @@ here p =
     cut-here (handed s) (s .pre) (p .before .before .count .ensures) (p .before .if1 .left) (p .cut-of .ensures)
 
 -- from the flow's record that is put back to the step
-abbrev called : tie.After-keep-arg → tie.After-ack
+abbrev called : tie.After-keep-acked-arg → tie.After-ack
 called c = c .before .before .before .before .before .before .before .before .before .before .before .before
 
 count-requires : tie.Need-count-requires
@@ -131,9 +132,9 @@ ack-requires c κs =
     let H = here (j .before .before .before) in
     here-holds H (lent-world (H .lies) (j .before .flow-at .ensures) (j .joined .ensures))
 
-keep-requires : tie.Need-keep-requires
+keep-acked-requires : tie.Need-keep-acked-requires
 unfolding oneAck worldAt joinedOf
-keep-requires c κs =
+keep-acked-requires c κs =
     let k = called c in
     let j = k .before .before .before .before .before .before in
     let p = j .before .before .before in
@@ -141,7 +142,7 @@ keep-requires c κs =
     let H = here p in
     let seen = lent-world (H .lies) (j .before .flow-at .ensures) (j .joined .ensures) in
     let e = k .ack .ensures .0 ∙ ap (oneAck (s .args .time) (s .args .a)) seen in
-    (H .inside, refused-flow _ _ _ e)
+    (H .inside, flow-left _ _ _ e withAcked (ack-changes (s .args .time) (sees s) (s .args .a)))
 
 shared-requires : tie.Need-shared-requires
 shared-requires c κs = search needs
@@ -179,7 +180,7 @@ returns-2 c =
     let l = k .ack .last in
     let seen = lent-world (H .lies) (j .before .flow-at .ensures) (j .joined .ensures) in
     let e = k .ack .ensures .0 ∙ ap (oneAck (s .args .time) (s .args .a)) seen in
-    let answer = lift-answer H _ _ (stepped s) (c .shared .ensures) (c .before .before .before .keep .ensures)
+    let answer = lift-answer H _ _ (stepped s) (c .shared .ensures) (c .before .before .before .keep-acked .ensures)
     (put-slots (H .lies) (l .1 .0) (l .1 .1 .0) (l .1 .1 .1 .0) (l .1 .1 .1 .1 .0)) e in
     (answer, lift-says (sampled s) e answer (k .ack .ensures .1 ∙ ap (oneSays (s .args .time) (s .args .a)) seen))
 
@@ -211,7 +212,7 @@ ack-spec =
     part-ack-start-4
     part-ack-end-4
     ack-requires
-    keep-requires
+    keep-acked-requires
     shared-requires
     same-length-2
     same-length-3

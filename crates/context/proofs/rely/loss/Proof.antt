@@ -1,5 +1,5 @@
--- `loss` lends flow k's part to the sender's step, its marked bits to be changed, and puts back what it leaves (`lift-answer`); a flow out
--- of range is 3 or 25.
+-- `loss` lends flow k's part to the sender's step, its marked bits to be changed, and puts back what it leaves (`lift-answer`); the flow's
+-- record stays (`same-table`). A flow out of range is 3 or 25.
 use mathlib.Core.Path.{ap, _∙_}
 use Prim.Native.Nat.{_≤_}
 use native.Mathlib.Omega.{arith}
@@ -11,7 +11,7 @@ use Rattle.context.specs.Context.{Context, joinedOf, worldAt, flowCount}
 use Rattle.context.specs.Events.{pastLoss}
 use Rattle.context.specs.Lent.{contextGiven}
 use Rattle.context.proofs.Joins.{Here, cut-asks, cut-here, here-fits, here-holds, lent-world, put-marked}
-use Rattle.context.proofs.Lifts.{no-flow-decided, refused-flow, lift-answer}
+use Rattle.context.proofs.Lifts.{no-flow-decided, loss-changes, flow-stays, same-table, lift-answer}
 use Rattle.context.proofs.rely.loss.Statement.{statement}
 use Rattle.context.proofs.rely.loss.Tie as tie
 
@@ -29,7 +29,7 @@ stepped s = worldOf (lossStep (s .args .time) (s .args .a) (sees s))
 
 -- from the count back to the entry
 abbrev start : tie.After-count → tie.Start
-start n = n .before .before .before .before .before .before .before .before
+start n = n .before .before .before .before .before .before .before
 
 -- flow k of the context, once its part is cut
 abbrev entry : tie.After-cut-of → tie.Start
@@ -41,8 +41,8 @@ here p =
     let s = entry p in
     cut-here (handed s) (s .pre) (p .before .before .count .ensures) (p .before .if1 .left) (p .cut-of .ensures)
 
--- from the flow's record that is put back to the step
-abbrev called : tie.After-keep-arg → tie.After-loss
+-- from the answer back to the step
+abbrev called : tie.After-shared → tie.After-loss
 called c = c .before .before .before .before .before .before
 
 count-requires : tie.Need-count-requires
@@ -50,9 +50,6 @@ count-requires c κs = search needs
 
 no-flow-requires : tie.Need-no-flow-requires
 no-flow-requires c κs = search needs
-
-same-length : tie.Need-same-length
-same-length c = search needs
 
 returns : tie.Need-returns
 unfolding pastLoss worldAt joinedOf
@@ -66,13 +63,13 @@ cut-of-requires : tie.Need-cut-of-requires
 cut-of-requires c κs = let s = start (c .before) in cut-asks (handed s) (s .pre) (c .before .count .ensures) (c .if1 .left)
 
 flow-at-requires : tie.Need-flow-at-requires
-flow-at-requires c κs = let H = here (c .before) in (H .inside, here-fits H)
+flow-at-requires c κs = let H = here c in (H .inside, here-fits H)
 
 joined-requires : tie.Need-joined-requires
 joined-requires c κs = search needs
 
 mul-loss : tie.Need-mul-loss
-mul-loss c = let H = here (c .before .before .before) in record { fits = omega (arith, H .lies) }
+mul-loss c = let H = here (c .before .before) in record { fits = omega (arith, H .lies) }
 
 sub-loss : tie.Need-sub-loss
 sub-loss c = search needs
@@ -81,10 +78,10 @@ part-loss-start : tie.Need-part-loss-start
 part-loss-start c = search needs
 
 part-loss-end : tie.Need-part-loss-end
-part-loss-end c = here (c .before .before .before) .lies .outstanding
+part-loss-end c = here (c .before .before) .lies .outstanding
 
 mul-loss-2 : tie.Need-mul-loss-2
-mul-loss-2 c = let H = here (c .before .before .before .before) in record { fits = omega (arith, H .lies) }
+mul-loss-2 c = let H = here (c .before .before .before) in record { fits = omega (arith, H .lies) }
 
 sub-loss-2 : tie.Need-sub-loss-2
 sub-loss-2 c = search needs
@@ -93,10 +90,10 @@ part-loss-start-2 : tie.Need-part-loss-start-2
 part-loss-start-2 c = search needs
 
 part-loss-end-2 : tie.Need-part-loss-end-2
-part-loss-end-2 c = here (c .before .before .before .before) .lies .marked
+part-loss-end-2 c = here (c .before .before .before) .lies .marked
 
 mul-loss-3 : tie.Need-mul-loss-3
-mul-loss-3 c = let H = here (c .before .before .before .before .before) in record { fits = omega (arith, H .lies) }
+mul-loss-3 c = let H = here (c .before .before .before .before) in record { fits = omega (arith, H .lies) }
 
 sub-loss-3 : tie.Need-sub-loss-3
 sub-loss-3 c = search needs
@@ -105,10 +102,10 @@ part-loss-start-3 : tie.Need-part-loss-start-3
 part-loss-start-3 c = search needs
 
 part-loss-end-3 : tie.Need-part-loss-end-3
-part-loss-end-3 c = here (c .before .before .before .before .before) .lies .sizes
+part-loss-end-3 c = here (c .before .before .before .before) .lies .sizes
 
 mul-loss-4 : tie.Need-mul-loss-4
-mul-loss-4 c = let H = here (c .before .before .before .before .before .before) in record { fits = omega (arith, H .lies) }
+mul-loss-4 c = let H = here (c .before .before .before .before .before) in record { fits = omega (arith, H .lies) }
 
 sub-loss-4 : tie.Need-sub-loss-4
 sub-loss-4 c = search needs
@@ -117,51 +114,36 @@ part-loss-start-4 : tie.Need-part-loss-start-4
 part-loss-start-4 c = search needs
 
 part-loss-end-4 : tie.Need-part-loss-end-4
-part-loss-end-4 c = here (c .before .before .before .before .before .before) .lies .sent
+part-loss-end-4 c = here (c .before .before .before .before .before) .lies .sent
 
 loss-requires : tie.Need-loss-requires
 loss-requires c κs =
     let j = c .before .before .before .before .before in
-    let H = here (j .before .before .before) in
+    let H = here (j .before .before) in
     here-holds H (lent-world (H .lies) (j .before .flow-at .ensures) (j .joined .ensures))
-
-keep-requires : tie.Need-keep-requires
-unfolding oneLoss worldAt joinedOf
-keep-requires c κs =
-    let k = called c in
-    let j = k .before .before .before .before .before .before in
-    let p = j .before .before .before in
-    let s = entry p in
-    let H = here p in
-    let seen = lent-world (H .lies) (j .before .flow-at .ensures) (j .joined .ensures) in
-    let e = k .loss .ensures ∙ ap (oneLoss (s .args .time) (s .args .a)) seen in
-    (H .inside, refused-flow _ _ _ e)
 
 shared-requires : tie.Need-shared-requires
 shared-requires c κs = search needs
 
+same-length : tie.Need-same-length
+same-length c = search needs
+
 same-length-2 : tie.Need-same-length-2
 same-length-2 c = search needs
-
-same-length-3 : tie.Need-same-length-3
-same-length-3 c = search needs
-
-same-length-4 : tie.Need-same-length-4
-same-length-4 c = search needs
 
 returns-2 : tie.Need-returns-2
 unfolding pastLoss oneLoss
 returns-2 c =
-    let k = called (c .before .before .before .before) in
+    let k = called c in
     let j = k .before .before .before .before .before .before in
-    let p = j .before .before .before in
+    let p = j .before .before in
     let s = entry p in
     let H = here p in
     let l = k .loss .last in
     let seen = lent-world (H .lies) (j .before .flow-at .ensures) (j .joined .ensures) in
     let e = k .loss .ensures ∙ ap (oneLoss (s .args .time) (s .args .a)) seen in
-    lift-answer H _ _ (stepped s) (c .shared .ensures) (c .before .before .before .keep .ensures)
-    (put-marked (H .lies) (l .1 .1 .0)) e
+    let stays = same-table (s .args .flow) (handed s) (flow-stays _ _ _ e (loss-changes (s .args .time) (sees s) (s .args .a))) in
+    lift-answer H _ _ (stepped s) (c .shared .ensures) stays (put-marked (H .lies) (l .1 .1 .0)) e
 
 pub loss-spec : {M : Type 1} → statement M
 loss-spec =
@@ -169,7 +151,6 @@ loss-spec =
     (tie.spec
     count-requires
     no-flow-requires
-    same-length
     returns
     cut-of-requires
     flow-at-requires
@@ -191,9 +172,7 @@ loss-spec =
     part-loss-start-4
     part-loss-end-4
     loss-requires
-    keep-requires
     shared-requires
+    same-length
     same-length-2
-    same-length-3
-    same-length-4
     returns-2)

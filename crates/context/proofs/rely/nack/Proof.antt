@@ -1,5 +1,5 @@
--- `nack` lends flow k's part to the sender's step, its marked bits to be changed, and puts back what it leaves (`lift-answer`); a flow out
--- of range is 3 or 25.
+-- `nack` lends flow k's part to the sender's step, its marked bits to be changed, and puts back what it leaves (`lift-answer`); the flow's
+-- record stays (`same-table`). A flow out of range is 3 or 25.
 use mathlib.Core.Path.{ap, _∙_}
 use Prim.Native.Nat.{_≤_}
 use native.Mathlib.Omega.{arith}
@@ -13,7 +13,8 @@ use Rattle.context.specs.Context.{Context, joinedOf, worldAt, flowCount}
 use Rattle.context.specs.Events.{pastNack}
 use Rattle.context.specs.Lent.{contextGiven}
 use Rattle.context.proofs.Joins.{Here, cut-asks, cut-here, here-fits, here-holds, lent-world, put-marked}
-use Rattle.context.proofs.Lifts.{no-flow-decided, not-zero, refused-flow, lift-answer, lift-says, no-flow-says}
+use Rattle.context.proofs.Lifts.{no-flow-decided, not-zero, nack-changes, flow-stays, same-table}
+use Rattle.context.proofs.Lifts.{lift-answer, lift-says, no-flow-says}
 use Rattle.context.proofs.rely.nack.Statement.{statement}
 use Rattle.context.proofs.rely.nack.Tie as tie
 
@@ -34,7 +35,7 @@ sampled s = nackSampling (s .args .time) (s .args .a) (sees s)
 
 -- from the count back to the entry
 abbrev start : tie.After-count → tie.Start
-start n = n .before .before .before .before .before .before .before .before
+start n = n .before .before .before .before .before .before .before
 
 -- flow k of the context, once its part is cut
 abbrev entry : tie.After-cut-of → tie.Start
@@ -46,8 +47,8 @@ here p =
     let s = entry p in
     cut-here (handed s) (s .pre) (p .before .before .count .ensures) (p .before .if1 .left) (p .cut-of .ensures)
 
--- from the flow's record that is put back to the step
-abbrev called : tie.After-keep-arg → tie.After-nack
+-- from the answer back to the step
+abbrev called : tie.After-shared → tie.After-nack
 called c = c .before .before .before .before .before .before
 
 count-requires : tie.Need-count-requires
@@ -55,9 +56,6 @@ count-requires c κs = search needs
 
 no-flow-requires : tie.Need-no-flow-requires
 no-flow-requires c κs = search needs
-
-same-length : tie.Need-same-length
-same-length c = search needs
 
 returns : tie.Need-returns
 unfolding pastNack worldAt joinedOf saysOf
@@ -73,13 +71,13 @@ cut-of-requires : tie.Need-cut-of-requires
 cut-of-requires c κs = let s = start (c .before) in cut-asks (handed s) (s .pre) (c .before .count .ensures) (c .if1 .left)
 
 flow-at-requires : tie.Need-flow-at-requires
-flow-at-requires c κs = let H = here (c .before) in (H .inside, here-fits H)
+flow-at-requires c κs = let H = here c in (H .inside, here-fits H)
 
 joined-requires : tie.Need-joined-requires
 joined-requires c κs = search needs
 
 mul-nack : tie.Need-mul-nack
-mul-nack c = let H = here (c .before .before .before) in record { fits = omega (arith, H .lies) }
+mul-nack c = let H = here (c .before .before) in record { fits = omega (arith, H .lies) }
 
 sub-nack : tie.Need-sub-nack
 sub-nack c = search needs
@@ -88,10 +86,10 @@ part-nack-start : tie.Need-part-nack-start
 part-nack-start c = search needs
 
 part-nack-end : tie.Need-part-nack-end
-part-nack-end c = here (c .before .before .before) .lies .outstanding
+part-nack-end c = here (c .before .before) .lies .outstanding
 
 mul-nack-2 : tie.Need-mul-nack-2
-mul-nack-2 c = let H = here (c .before .before .before .before) in record { fits = omega (arith, H .lies) }
+mul-nack-2 c = let H = here (c .before .before .before) in record { fits = omega (arith, H .lies) }
 
 sub-nack-2 : tie.Need-sub-nack-2
 sub-nack-2 c = search needs
@@ -100,10 +98,10 @@ part-nack-start-2 : tie.Need-part-nack-start-2
 part-nack-start-2 c = search needs
 
 part-nack-end-2 : tie.Need-part-nack-end-2
-part-nack-end-2 c = here (c .before .before .before .before) .lies .marked
+part-nack-end-2 c = here (c .before .before .before) .lies .marked
 
 mul-nack-3 : tie.Need-mul-nack-3
-mul-nack-3 c = let H = here (c .before .before .before .before .before) in record { fits = omega (arith, H .lies) }
+mul-nack-3 c = let H = here (c .before .before .before .before) in record { fits = omega (arith, H .lies) }
 
 sub-nack-3 : tie.Need-sub-nack-3
 sub-nack-3 c = search needs
@@ -112,10 +110,10 @@ part-nack-start-3 : tie.Need-part-nack-start-3
 part-nack-start-3 c = search needs
 
 part-nack-end-3 : tie.Need-part-nack-end-3
-part-nack-end-3 c = here (c .before .before .before .before .before) .lies .sizes
+part-nack-end-3 c = here (c .before .before .before .before) .lies .sizes
 
 mul-nack-4 : tie.Need-mul-nack-4
-mul-nack-4 c = let H = here (c .before .before .before .before .before .before) in record { fits = omega (arith, H .lies) }
+mul-nack-4 c = let H = here (c .before .before .before .before .before) in record { fits = omega (arith, H .lies) }
 
 sub-nack-4 : tie.Need-sub-nack-4
 sub-nack-4 c = search needs
@@ -124,51 +122,36 @@ part-nack-start-4 : tie.Need-part-nack-start-4
 part-nack-start-4 c = search needs
 
 part-nack-end-4 : tie.Need-part-nack-end-4
-part-nack-end-4 c = here (c .before .before .before .before .before .before) .lies .sent
+part-nack-end-4 c = here (c .before .before .before .before .before) .lies .sent
 
 nack-requires : tie.Need-nack-requires
 nack-requires c κs =
     let j = c .before .before .before .before .before in
-    let H = here (j .before .before .before) in
+    let H = here (j .before .before) in
     here-holds H (lent-world (H .lies) (j .before .flow-at .ensures) (j .joined .ensures))
-
-keep-requires : tie.Need-keep-requires
-unfolding oneNack worldAt joinedOf
-keep-requires c κs =
-    let k = called c in
-    let j = k .before .before .before .before .before .before in
-    let p = j .before .before .before in
-    let s = entry p in
-    let H = here p in
-    let seen = lent-world (H .lies) (j .before .flow-at .ensures) (j .joined .ensures) in
-    let e = k .nack .ensures .0 ∙ ap (oneNack (s .args .time) (s .args .a)) seen in
-    (H .inside, refused-flow _ _ _ e)
 
 shared-requires : tie.Need-shared-requires
 shared-requires c κs = search needs
 
+same-length : tie.Need-same-length
+same-length c = search needs
+
 same-length-2 : tie.Need-same-length-2
 same-length-2 c = search needs
-
-same-length-3 : tie.Need-same-length-3
-same-length-3 c = search needs
-
-same-length-4 : tie.Need-same-length-4
-same-length-4 c = search needs
 
 returns-2 : tie.Need-returns-2
 unfolding pastNack oneNack
 returns-2 c =
-    let k = called (c .before .before .before .before) in
+    let k = called c in
     let j = k .before .before .before .before .before .before in
-    let p = j .before .before .before in
+    let p = j .before .before in
     let s = entry p in
     let H = here p in
     let l = k .nack .last in
     let seen = lent-world (H .lies) (j .before .flow-at .ensures) (j .joined .ensures) in
     let e = k .nack .ensures .0 ∙ ap (oneNack (s .args .time) (s .args .a)) seen in
-    let answer = lift-answer H _ _ (stepped s) (c .shared .ensures) (c .before .before .before .keep .ensures)
-    (put-marked (H .lies) (l .1 .1 .0)) e in
+    let stays = same-table (s .args .flow) (handed s) (flow-stays _ _ _ e (nack-changes (s .args .time) (sees s) (s .args .a))) in
+    let answer = lift-answer H _ _ (stepped s) (c .shared .ensures) stays (put-marked (H .lies) (l .1 .1 .0)) e in
     (answer, lift-says (sampled s) e answer (k .nack .ensures .1 ∙ ap (oneSays (s .args .time) (s .args .a)) seen))
 
 pub nack-spec : {M : Type 1} → statement M
@@ -177,7 +160,6 @@ nack-spec =
     (tie.spec
     count-requires
     no-flow-requires
-    same-length
     returns
     cut-of-requires
     flow-at-requires
@@ -199,9 +181,7 @@ nack-spec =
     part-nack-start-4
     part-nack-end-4
     nack-requires
-    keep-requires
     shared-requires
+    same-length
     same-length-2
-    same-length-3
-    same-length-4
     returns-2)

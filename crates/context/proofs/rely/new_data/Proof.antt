@@ -4,6 +4,7 @@ use mathlib.Core.Path.{ap, _∙_}
 use Prim.Native.Nat.{_≤_}
 use native.Mathlib.Omega.{arith}
 use borrow.Author.Needs.{needs}
+use Rattle.flow_table.specs.Words.{withBacklog}
 use Rattle.sender.specs.World.{World, View, viewOf, worldOf}
 use Rattle.sender.specs.Events.{pastNewData as oneNewData}
 use Rattle.sender.specs.Steps.{newDataStep}
@@ -11,7 +12,7 @@ use Rattle.context.specs.Context.{Context, joinedOf, worldAt, flowCount}
 use Rattle.context.specs.Events.{pastNewData}
 use Rattle.context.specs.Lent.{contextGiven}
 use Rattle.context.proofs.Joins.{Here, cut-asks, cut-here, here-fits, here-holds, lent-world, put-none}
-use Rattle.context.proofs.Lifts.{no-flow-decided, refused-flow, lift-answer}
+use Rattle.context.proofs.Lifts.{no-flow-decided, new-data-changes, flow-left, lift-answer}
 use Rattle.context.proofs.rely.new_data.Statement.{statement}
 use Rattle.context.proofs.rely.new_data.Tie as tie
 
@@ -42,7 +43,7 @@ here p =
     cut-here (handed s) (s .pre) (p .before .before .count .ensures) (p .before .if1 .left) (p .cut-of .ensures)
 
 -- from the flow's record that is put back to the step
-abbrev called : tie.After-keep-arg → tie.After-new-data
+abbrev called : tie.After-keep-backlog-arg → tie.After-new-data
 called c = c .before .before
 
 count-requires : tie.Need-count-requires
@@ -125,9 +126,9 @@ new-data-requires c κs =
     let H = here (j .before .before .before) in
     here-holds H (lent-world (H .lies) (j .before .flow-at .ensures) (j .joined .ensures))
 
-keep-requires : tie.Need-keep-requires
+keep-backlog-requires : tie.Need-keep-backlog-requires
 unfolding oneNewData worldAt joinedOf
-keep-requires c κs =
+keep-backlog-requires c κs =
     let k = called c in
     let j = k .before .before .before .before .before in
     let p = j .before .before .before in
@@ -135,7 +136,7 @@ keep-requires c κs =
     let H = here p in
     let seen = lent-world (H .lies) (j .before .flow-at .ensures) (j .joined .ensures) in
     let e = k .new-data .ensures ∙ ap (oneNewData (s .args .time) (s .args .bytes)) seen in
-    (H .inside, refused-flow _ _ _ e)
+    (H .inside, flow-left _ _ _ e withBacklog (new-data-changes (s .args .time) (sees s) (s .args .bytes)))
 
 shared-requires : tie.Need-shared-requires
 shared-requires c κs = search needs
@@ -153,7 +154,7 @@ returns-2 c =
     let H = here p in
     let seen = lent-world (H .lies) (j .before .flow-at .ensures) (j .joined .ensures) in
     let e = k .new-data .ensures ∙ ap (oneNewData (s .args .time) (s .args .bytes)) seen in
-    lift-answer H _ _ (stepped s) (c .shared .ensures) (c .before .before .before .keep .ensures)
+    lift-answer H _ _ (stepped s) (c .shared .ensures) (c .before .before .before .keep-backlog .ensures)
     (put-none (H .lies)) e
 
 pub new-data-spec : {M : Type 1} → statement M
@@ -184,7 +185,7 @@ new-data-spec =
     part-new-data-start-4
     part-new-data-end-4
     new-data-requires
-    keep-requires
+    keep-backlog-requires
     shared-requires
     same-length-2
     returns-2)

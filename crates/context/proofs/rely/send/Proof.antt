@@ -3,6 +3,7 @@ use mathlib.Core.Path.{ap, _∙_}
 use Prim.Native.Nat.{_≤_}
 use native.Mathlib.Omega.{arith}
 use borrow.Author.Needs.{needs}
+use Rattle.flow_table.specs.Words.{withSent}
 use Rattle.sender.specs.World.{World, View, viewOf, worldOf}
 use Rattle.sender.specs.Events.{pastSend as oneSend}
 use Rattle.sender.specs.Steps.{sendStep}
@@ -10,7 +11,7 @@ use Rattle.context.specs.Context.{Context, joinedOf, worldAt, flowCount}
 use Rattle.context.specs.Events.{pastSend}
 use Rattle.context.specs.Lent.{contextGiven}
 use Rattle.context.proofs.Joins.{Here, cut-asks, cut-here, here-fits, here-holds, lent-world, put-slots}
-use Rattle.context.proofs.Lifts.{no-flow-decided, refused-flow, lift-answer}
+use Rattle.context.proofs.Lifts.{no-flow-decided, send-changes, flow-left, lift-answer}
 use Rattle.context.proofs.rely.send.Statement.{statement}
 use Rattle.context.proofs.rely.send.Tie as tie
 
@@ -41,7 +42,7 @@ here p =
     cut-here (handed s) (s .pre) (p .before .before .count .ensures) (p .before .if1 .left) (p .cut-of .ensures)
 
 -- from the flow's record that is put back to the step
-abbrev called : tie.After-keep-arg → tie.After-send
+abbrev called : tie.After-keep-sent-arg → tie.After-send
 called c = c .before .before .before .before .before .before .before .before .before .before
 
 count-requires : tie.Need-count-requires
@@ -124,9 +125,9 @@ send-requires c κs =
     let H = here (j .before .before .before) in
     here-holds H (lent-world (H .lies) (j .before .flow-at .ensures) (j .joined .ensures))
 
-keep-requires : tie.Need-keep-requires
+keep-sent-requires : tie.Need-keep-sent-requires
 unfolding oneSend worldAt joinedOf
-keep-requires c κs =
+keep-sent-requires c κs =
     let k = called c in
     let j = k .before .before .before .before .before in
     let p = j .before .before .before in
@@ -134,7 +135,7 @@ keep-requires c κs =
     let H = here p in
     let seen = lent-world (H .lies) (j .before .flow-at .ensures) (j .joined .ensures) in
     let e = k .send .ensures ∙ ap (oneSend (s .args .time) (s .args .a)) seen in
-    (H .inside, refused-flow _ _ _ e)
+    (H .inside, flow-left _ _ _ e withSent (send-changes (s .args .time) (sees s) (s .args .a)))
 
 shared-requires : tie.Need-shared-requires
 shared-requires c κs = search needs
@@ -167,7 +168,7 @@ returns-2 c =
     let l = k .send .last in
     let seen = lent-world (H .lies) (j .before .flow-at .ensures) (j .joined .ensures) in
     let e = k .send .ensures ∙ ap (oneSend (s .args .time) (s .args .a)) seen in
-    lift-answer H _ _ (stepped s) (c .shared .ensures) (c .before .before .before .keep .ensures)
+    lift-answer H _ _ (stepped s) (c .shared .ensures) (c .before .before .before .keep-sent .ensures)
     (put-slots (H .lies) (l .1 .0) (l .1 .1 .0) (l .1 .1 .1 .0) (l .1 .1 .1 .1 .0)) e
 
 pub send-spec : {M : Type 1} → statement M
@@ -198,7 +199,7 @@ send-spec =
     part-send-start-4
     part-send-end-4
     send-requires
-    keep-requires
+    keep-sent-requires
     shared-requires
     same-length-2
     same-length-3

@@ -1,34 +1,39 @@
--- `loss` over the table by value: the records' words are lent to the entry point, and what it leaves is read as records
+-- `loss` over the table by value: its records' words are lent to the entry point, which only reads them, and read as records again
 -- (proofs/Tables).
-use mathlib.Core.Path.{refl, sym}
+use mathlib.Core.Path.{refl, sym, ap, _∙_}
+use mathlib.Core.List.{List}
+use Prim.Native.Nat.{ℕ, _-_, _*_}
+use lib.ListN.{take, take-append-drop}
 use borrow.Author.Needs.{needs}
 use Rattle.rules.specs.Branch.{lt-yes}
 use Rattle.rules.specs.Verdict.{numberOf}
 use Rattle.ledger.specs.Memory.{memory}
+use Rattle.flow_table.specs.Words.{flowWords}
+use Rattle.flow_table.specs.Lent.{valueFrom}
 use Rattle.flow_table.proofs.Eight.{eight}
 use Rattle.context.specs.Context.{answered}
 use Rattle.context.specs.Events.{onLoss}
 use Rattle.context.proofs.Events.{loss-event}
-use Rattle.context.proofs.Tables.{Lends, step-long, step-fits, step-answer}
+use Rattle.context.proofs.Tables.{Lends, step-fits, step-answer}
 use Rattle.context.proofs.table.loss.Statement.{statement}
 use Rattle.context.proofs.table.loss.Tie as tie
 
 -- from the entry point's answer back to the words, and to the entry
 abbrev spelt : tie.After-loss → tie.After-to-words
-spelt k = k .before .before .before .before .before .before .before
+spelt k = k .before .before .before .before .before .before .before .before
 
 abbrev start : tie.After-loss → tie.Start
 start k = spelt k .before .before .before .before .before .before .before
 
 -- from where the words are read back to the answer
-abbrev answer : tie.After-words3 → tie.After-loss
-answer c = c .before .before .before .before .before .before
+abbrev answer : tie.After-words2 → tie.After-loss
+answer c = c .before .before .before .before .before
 
 -- the words of the records that there are, lent to the entry point
 lends : (k : tie.After-loss) → let a = start k .args in let r = k .loss .result in let l = k .loss .last .1 in
     Lends (onLoss (a .time) (a .flow) (a .a)) (a .fs) (spelt k .to-words .result) (a .c)
     (memory (a .outstanding .now) (a .marked .now) (a .sizes .now) (a .sent .now)) (a .evs .now)
-    (answered (numberOf (r .verdict)) (r .state) (l .0)
+    (answered (numberOf (r .verdict)) (r .state) (take (flowWords * a .fs .n - 0) (spelt k .to-words .result))
     (memory (a .outstanding .now) (l .1 .1 .0) (a .sizes .now) (a .sent .now)) (l .1 .1 .1 .1 .1 .0))
 lends k =
     let s = start k in
@@ -53,20 +58,23 @@ mul-end c = search needs
 sub-loss : tie.Need-sub-loss
 sub-loss c = search needs
 
-part-words-start : tie.Need-part-words-start
-part-words-start c = search needs
+part-loss-start : tie.Need-part-loss-start
+part-loss-start c = search needs
 
-part-words-end : tie.Need-part-words-end
-part-words-end c = search needs
+part-loss-end : tie.Need-part-loss-end
+part-loss-end c = search needs
 
 loss-requires : tie.Need-loss-requires
 loss-requires c κs = search needs
 
 slice-aggregate-from-words : tie.Need-slice-aggregate-from-words
-slice-aggregate-from-words c = sym (step-long (lends (answer c)))
+slice-aggregate-from-words c = search needs
 
 from-words-requires : tie.Need-from-words-requires
-from-words-requires c κs = let k = answer c in step-fits (lends k) (spelt k .to-words .ensures .1)
+from-words-requires c κs =
+    let k = answer c in
+    let a = start k .args in
+    rw (take-append-drop (flowWords * a .fs .n - 0) (spelt k .to-words .result)) at (step-fits (lends k) (spelt k .to-words .ensures .1))
 
 same-length : tie.Need-same-length
 same-length c = search needs
@@ -84,7 +92,11 @@ same-length-5 : tie.Need-same-length-5
 same-length-5 c = search needs
 
 returns-2 : tie.Need-returns-2
-returns-2 c = let k = answer (c .before) in step-answer (lends k) (c .from-words .result) (c .from-words .ensures)
+returns-2 c =
+    let k = answer (c .before) in
+    let a = start k .args in
+    let whole = take-append-drop (flowWords * a .fs .n - 0) (spelt k .to-words .result) in
+    step-answer (lends k) (c .from-words .result) (c .from-words .ensures ∙ ap (λ (ws : List ℕ). valueFrom (a .fs .n) ws) (sym whole))
 
 pub loss-spec : {M : Type 1} → statement M
 loss-spec =
@@ -94,8 +106,8 @@ loss-spec =
     to-words-requires
     mul-end
     sub-loss
-    part-words-start
-    part-words-end
+    part-loss-start
+    part-loss-end
     loss-requires
     slice-aggregate-from-words
     from-words-requires

@@ -1,36 +1,41 @@
--- `nack` over the table by value: the records' words are lent to the entry point, and what it leaves is read as records
+-- `nack` over the table by value: its records' words are lent to the entry point, which only reads them, and read as records again
 -- (proofs/Tables).
-use mathlib.Core.Path.{refl, sym}
+use mathlib.Core.Path.{refl, sym, ap, _∙_}
+use mathlib.Core.List.{List}
 use mathlib.Core.Option.{none}
+use Prim.Native.Nat.{ℕ, _-_, _*_}
+use lib.ListN.{take, take-append-drop}
 use borrow.Author.Needs.{needs}
 use Rattle.rules.specs.Branch.{lt-yes}
 use Rattle.rules.specs.Verdict.{numberOf}
 use Rattle.ledger.specs.Memory.{memory}
+use Rattle.flow_table.specs.Words.{flowWords}
+use Rattle.flow_table.specs.Lent.{valueFrom}
 use Rattle.flow_table.proofs.Eight.{eight}
 use Rattle.sender.specs.Events.{saysOf}
 use Rattle.context.specs.Context.{answered}
 use Rattle.context.specs.Events.{onNack, nackSays}
 use Rattle.context.proofs.Events.{nack-event}
-use Rattle.context.proofs.Tables.{Lends, step-long, step-fits, step-answer, step-said}
+use Rattle.context.proofs.Tables.{Lends, step-fits, step-answer, step-said}
 use Rattle.context.proofs.table.nack.Statement.{statement}
 use Rattle.context.proofs.table.nack.Tie as tie
 
 -- from the entry point's answer back to the words, and to the entry
 abbrev spelt : tie.After-nack → tie.After-to-words
-spelt k = k .before .before .before .before .before .before .before
+spelt k = k .before .before .before .before .before .before .before .before
 
 abbrev start : tie.After-nack → tie.Start
 start k = spelt k .before .before .before .before .before .before .before
 
 -- from where the words are read back to the answer
-abbrev answer : tie.After-words3 → tie.After-nack
-answer c = c .before .before .before .before .before .before
+abbrev answer : tie.After-words2 → tie.After-nack
+answer c = c .before .before .before .before .before
 
 -- the words of the records that there are, lent to the entry point
 lends : (k : tie.After-nack) → let a = start k .args in let r = k .nack .result in let l = k .nack .last .1 in
     Lends (onNack (a .time) (a .flow) (a .a)) (a .fs) (spelt k .to-words .result) (a .c)
     (memory (a .outstanding .now) (a .marked .now) (a .sizes .now) (a .sent .now)) (a .evs .now)
-    (answered (numberOf (r .verdict)) (r .state) (l .0)
+    (answered (numberOf (r .verdict)) (r .state) (take (flowWords * a .fs .n - 0) (spelt k .to-words .result))
     (memory (a .outstanding .now) (l .1 .1 .0) (a .sizes .now) (a .sent .now)) (l .1 .1 .1 .1 .1 .0))
 lends k =
     let s = start k in
@@ -55,20 +60,23 @@ mul-end c = search needs
 sub-nack : tie.Need-sub-nack
 sub-nack c = search needs
 
-part-words-start : tie.Need-part-words-start
-part-words-start c = search needs
+part-nack-start : tie.Need-part-nack-start
+part-nack-start c = search needs
 
-part-words-end : tie.Need-part-words-end
-part-words-end c = search needs
+part-nack-end : tie.Need-part-nack-end
+part-nack-end c = search needs
 
 nack-requires : tie.Need-nack-requires
 nack-requires c κs = search needs
 
 slice-aggregate-from-words : tie.Need-slice-aggregate-from-words
-slice-aggregate-from-words c = sym (step-long (lends (answer c)))
+slice-aggregate-from-words c = search needs
 
 from-words-requires : tie.Need-from-words-requires
-from-words-requires c κs = let k = answer c in step-fits (lends k) (spelt k .to-words .ensures .1)
+from-words-requires c κs =
+    let k = answer c in
+    let a = start k .args in
+    rw (take-append-drop (flowWords * a .fs .n - 0) (spelt k .to-words .result)) at (step-fits (lends k) (spelt k .to-words .ensures .1))
 
 same-length : tie.Need-same-length
 same-length c = search needs
@@ -88,8 +96,9 @@ same-length-5 c = search needs
 returns-2 : tie.Need-returns-2
 returns-2 c =
     let k = answer (c .before) in
-    let a = start k .args in (
-      step-answer (lends k) (c .from-words .result) (c .from-words .ensures),
+    let a = start k .args in
+    let whole = take-append-drop (flowWords * a .fs .n - 0) (spelt k .to-words .result) in (
+      step-answer (lends k) (c .from-words .result) (c .from-words .ensures ∙ ap (λ (ws : List ℕ). valueFrom (a .fs .n) ws) (sym whole)),
       step-said (lends k) (nackSays (a .time) (a .flow) (a .a)) none (k .nack .ensures .1),
     )
 
@@ -101,8 +110,8 @@ nack-spec =
     to-words-requires
     mul-end
     sub-nack
-    part-words-start
-    part-words-end
+    part-nack-start
+    part-nack-end
     nack-requires
     slice-aggregate-from-words
     from-words-requires
