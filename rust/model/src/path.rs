@@ -14,7 +14,8 @@ impl State {
         } else {
             first_free(lent, now, cursor)
         };
-        self.cursor = (ev as u64 + 1) % u64::from(self.settings.ev_count);
+        // The number of EVs is a power of two: a mask, and no division.
+        self.cursor = (ev as u64 + 1) & (u64::from(self.settings.ev_count) - 1);
         ev as u16
     }
 }
