@@ -109,6 +109,18 @@ fn land(cursor: usize, s: usize, n: usize) -> Choice
     Choice { ev, cursor: next }
 }
 
+// The cursor's own EV, which is 0 steps away, and the cursor after it.
+fn stay(cursor: usize, n: usize) -> Choice
+    requires { ⌜ (cursor < n) × (n < 2 ^ 60) ⌝ }
+    ensures { λ r. ⌜ r ≡ landed cursor 0 n ⌝ }
+{
+    let next = wrap(cursor + 1, n);
+    Choice {
+        ev: cursor,
+        cursor: next,
+    }
+}
+
 // The next path. An inner step: its caller proves that the cursor is an EV, and that no time is 2^63 or more.
 pub fn choose(evs: &[u64], cursor: usize, time: u64) -> Choice
     requires { ⌜ cursor < length (now evs) ⌝ }
@@ -118,11 +130,11 @@ pub fn choose(evs: &[u64], cursor: usize, time: u64) -> Choice
     // A cursor that is not avoided is taken whatever the count says: more than half avoided takes it too.
     let n = evs.len();
     if evs[cursor] <= time {
-        return land(cursor, 0, n);
+        return stay(cursor, n);
     }
     let round = go_round(&evs[cursor..], &evs[0..cursor], time);
     if n < 2 * round.avoided {
-        return land(cursor, 0, n);
+        return stay(cursor, n);
     }
     land(cursor, round.passed, n)
 }

@@ -15,8 +15,8 @@ mul-if1 c = search needs
 shared-slice-read-if1 : tie.Need-shared-slice-read-if1
 shared-slice-read-if1 c = search needs
 
-land-requires : tie.Need-land-requires
-land-requires c κs = search needs
+stay-requires : tie.Need-stay-requires
+stay-requires c κs = search needs
 
 returns : tie.Need-returns
 returns c =
@@ -24,7 +24,7 @@ returns c =
     let cursor = start .args .cursor in
     let evs = start .args .evs .now in
     let time = start .args .time in
-    c .land .ensures ∙ lands-on cursor evs (start .pre .0) time 0 (cursor-free cursor evs (start .pre .0) time (omega arith))
+    c .stay .ensures ∙ lands-on cursor evs (start .pre .0) time 0 (cursor-free cursor evs (start .pre .0) time (omega arith))
 
 mul-go-round : tie.Need-mul-go-round
 mul-go-round c = search needs
@@ -66,8 +66,8 @@ mul-if2 c =
     let counted = avoided-parts cursor evs (start .pre .0) time (round .result .avoided) (round .ensures .1) in
     search needs
 
-land-requires-2 : tie.Need-land-requires-2
-land-requires-2 c κs = search needs
+stay-requires-2 : tie.Need-stay-requires-2
+stay-requires-2 c κs = search needs
 
 returns-2 : tie.Need-returns-2
 returns-2 c =
@@ -77,10 +77,10 @@ returns-2 c =
     let time = start .args .time in
     let round = c .before .before .before .go-round in
     let counted = avoided-parts cursor evs (start .pre .0) time (round .result .avoided) (round .ensures .1) in
-    c .land2 .ensures ∙ lands-on cursor evs (start .pre .0) time 0 (over-half cursor evs (start .pre .0) time (omega arith))
+    c .stay2 .ensures ∙ lands-on cursor evs (start .pre .0) time 0 (over-half cursor evs (start .pre .0) time (omega arith))
 
-land-requires-3 : tie.Need-land-requires-3
-land-requires-3 c κs =
+land-requires : tie.Need-land-requires
+land-requires c κs =
     let start = c .before .before .before .before .before .before .before .before in
     let cursor = start .args .cursor in
     let evs = start .args .evs .now in
@@ -102,7 +102,7 @@ returns-3 c =
     let time = start .args .time in
     let round = c .before .before .before .go-round in
     let counted = avoided-parts cursor evs (start .pre .0) time (round .result .avoided) (round .ensures .1) in
-    c .land3 .ensures
+    c .land .ensures
     ∙ lands-on cursor evs (start .pre .0) time (round .result .passed)
     (free-parts cursor evs (start .pre .0) time (round .result .passed) (round .ensures .0)
     ∙ half-or-less cursor evs (start .pre .0) time (omega arith))
@@ -113,7 +113,7 @@ choose-spec =
     (tie.spec
     mul-if1
     shared-slice-read-if1
-    land-requires
+    stay-requires
     returns
     mul-go-round
     sub-go-round
@@ -124,7 +124,7 @@ choose-spec =
     part-go-round-end-2
     go-round-requires
     mul-if2
-    land-requires-2
+    stay-requires-2
     returns-2
-    land-requires-3
+    land-requires
     returns-3)
