@@ -19,8 +19,8 @@ pub fn has_room(mtu: u64, cwnd: u64, in_flight: i64) -> bool
     in_flight + mtu as i64 <= cwnd as i64
 }
 
-// The name that the rule gives, over the totals of all flows: READY or ACTIVE where something waits, else IDLE or PENDING, and the second of
-// the two where there is no room, or where something flies. Without a branch a replay can leave it out of its loop (docs/PERFORMANCE.md).
+// The name that the rule gives, over the totals of all flows: READY or ACTIVE where something waits, else IDLE or PENDING, and the second
+// of the two where there is no room, or where something flies. Without a branch a replay can leave it out of its loop (docs/DECISIONS.md).
 // An inner step: the caller proves the bounds.
 pub fn phase_of(mtu: u64, cwnd: u64, totals: Totals) -> u32
     requires { ⌜ Flown (2 ^ 26) (totals .«in_flight») ⌝ }
