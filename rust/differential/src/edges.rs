@@ -78,7 +78,10 @@ impl Source {
         let left = BACKLOG_MAX - view.flow.backlog;
         let any = edge(&mut self.rng);
         let rare = self.rng.one_in(8);
-        let bytes = [0, 1, 41, left + 1, any, if rare { left } else { 1 << 20 }];
+        // Around what a record's field holds: beyond it a call is no longer a log of one record.
+        let field = self.rng.pick(&[(1 << 32) - 1, 1 << 32, (1 << 32) + 1]);
+        let most = if rare { left } else { 1 << 20 };
+        let bytes = [0, 1, 41, left + 1, any, most, field];
         self.rng.pick(&bytes)
     }
 
@@ -105,7 +108,9 @@ impl Source {
     fn edge_ev(&mut self, view: &View) -> u32 {
         let evs = view.evs();
         let any = self.ev(view);
-        let wide = self.rng.pick(&[1 << 16, evs << 16, u32::MAX]);
+        let wide = self
+            .rng
+            .pick(&[(1 << 16) - 1, 1 << 16, evs << 16, u32::MAX]);
         let edges = [0, 255, 256, evs - 1, evs - 1, evs, evs + 1, wide];
         let edge = self.rng.pick(&edges);
         self.rng.pick(&[edge, any])
