@@ -10,7 +10,7 @@ use Rattle.rules.specs.Unique.{Tells}
 use Rattle.rules.specs.declared.verdict.Verdict.{Verdict}
 use Rattle.rules.specs.declared.verdict.Verdict.the-variants.{Accepted, Setting, Unsound, Time, Size, Backlog, WindowFull, RingFull}
 use Rattle.rules.specs.declared.verdict.Verdict.the-variants.{WrongPsn, UnsentOrOld, NotFlying, Sinks, Malformed, NoRoom}
-use Rattle.rules.specs.declared.verdict.Verdict.the-variants.{Bytes, Count, Reason, Ev, Trigger, Flow, LogTooLong}
+use Rattle.rules.specs.declared.verdict.Verdict.the-variants.{Bytes, Count, Reason, Ev, Trigger, Flow, PlanTooLong, LogTooLong}
 
 unfoldable pub numberOf : Verdict → ℕ
 numberOf Accepted = 0
@@ -33,6 +33,7 @@ numberOf Reason = 22
 numberOf Ev = 23
 numberOf Trigger = 24
 numberOf Flow = 25
+numberOf PlanTooLong = 27
 numberOf LogTooLong = 28
 
 -- the verdict of a number: for the laws that read an outcome back, no code does
@@ -57,7 +58,8 @@ verdictOf n =
     (cond (eqb n 22) Reason
     (cond (eqb n 23) Ev
     (cond (eqb n 24) Trigger
-    (cond (eqb n 25) Flow LogTooLong)))))))))))))))))))
+    (cond (eqb n 25) Flow
+    (cond (eqb n 27) PlanTooLong LogTooLong))))))))))))))))))))
 
 pub number-back : (v : Verdict) → verdictOf (numberOf v) ≡ v
 unfolding numberOf verdictOf
@@ -81,6 +83,7 @@ number-back Reason = refl
 number-back Ev = refl
 number-back Trigger = refl
 number-back Flow = refl
+number-back PlanTooLong = refl
 number-back LogTooLong = refl
 
 -- no two verdicts have one number
@@ -110,6 +113,7 @@ number-most Reason = omega arith
 number-most Ev = omega arith
 number-most Trigger = omega arith
 number-most Flow = omega arith
+number-most PlanTooLong = omega arith
 number-most LogTooLong = omega arith
 
 -- what a test of a verdict tells: `is_accepted` answers b

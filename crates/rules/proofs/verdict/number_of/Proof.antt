@@ -68,6 +68,9 @@ enum-told-20 c = search needs
 enum-told-21 : tie.Need-enum-told-21
 enum-told-21 c = search needs
 
+enum-told-22 : tie.Need-enum-told-22
+enum-told-22 c = search needs
+
 returns : tie.Need-returns
 unfolding numberOf
 returns c = sym (ap numberOf (c .enum-told .given .1))
@@ -152,6 +155,10 @@ returns-21 : tie.Need-returns-21
 unfolding numberOf
 returns-21 c = sym (ap numberOf (c .enum-told21 .given .1))
 
+returns-22 : tie.Need-returns-22
+unfolding numberOf
+returns-22 c = sym (ap numberOf (c .enum-told22 .given .1))
+
 pub number-of-spec : {M : Type 1} → statement M
 number-of-spec =
     tie.close
@@ -177,6 +184,7 @@ number-of-spec =
     enum-told-19
     enum-told-20
     enum-told-21
+    enum-told-22
     returns
     returns-2
     returns-3
@@ -197,4 +205,5 @@ number-of-spec =
     returns-18
     returns-19
     returns-20
-    returns-21)
+    returns-21
+    returns-22)
