@@ -129,7 +129,7 @@ pub record Stepped (k : ℕ) (x : Context) (v : View) : Type 0 where
   pub cap-same : capOf (v .slots) ≡ capOf (ringIn x k)
 
 -- flow k's ring has its share of the slots
-ring-cap : (x : Context) (S : SoundContext x) (k : ℕ) → k < flowCount x → capOf (ringIn x k) ≡ capIn x
+pub ring-cap : (x : Context) (S : SoundContext x) (k : ℕ) → k < flowCount x → capOf (ringIn x k) ≡ capIn x
 ring-cap x S k h =
     let R = ring-lengths (flowCount x) (capIn x) k (x .slots) (S .cut) h in
     let L = one-ring (capIn x) (memoryIn x k) (S .cap) R in

@@ -101,7 +101,7 @@ module _ (mtu clock : ℕ) (f : Flow) (r : Ring) (F : Facts mtu clock f r) (psn 
         ∙ laid-put (capOf r) (cap-facts (capOf r) (F .cap)) (f .low) (packets f r) (offsetOf f psn) y within fit
 
   module _ (y : Packet) where
-    changed-packets : packets f (changed f r psn y) ≡ set (packets f r) (offsetOf f psn) y
+    pub changed-packets : packets f (changed f r psn y) ≡ set (packets f r) (offsetOf f psn) y
     unfolding changed
     changed-packets =
         let n = length-set (packets f r) (offsetOf f psn) y in
@@ -238,7 +238,7 @@ module _ (mtu clock : ℕ) (f : Flow) (r : Ring) (F : Facts mtu clock f r) (room
   push-is t time size i next z s ei en ez es = rw (en, ez, es, put-behind i ei (newPacket time size))
 
   -- the packets of the longer flow
-  longer-packets : (size : ℕ) (x : Packet) → packets (longer size) (laid (capOf r) (f .low) (packets f r ++ (x ∷ []))) ≡ packets f r
+  pub longer-packets : (size : ℕ) (x : Packet) → packets (longer size) (laid (capOf r) (f .low) (packets f r ++ (x ∷ []))) ≡ packets f r
       ++ (x ∷ [])
   longer-packets size x =
       packets-laid (capOf r) (longer size) (packets f r ++ (x ∷ [])) (F .cap) (longer-long size x)

@@ -1,22 +1,17 @@
--- `look::status` tests number 2, then the flow, and then finds the packet in flow k's part (proofs/Looks).
-use mathlib.Core.Path.{_≡_, sym, ap, ap₂, _∙_}
+-- `look::status` tests number 2, then the flow, and then asks for the packet (proofs/Looks).
+use mathlib.Core.Path.{_≡_, sym, ap, _∙_}
 use mathlib.Core.Bool.{true}
 use Prim.Native.Nat.{_<_}
 use native.Mathlib.Omega.{arith}
 use borrow.Author.Needs.{needs}
 use borrow.Author.Tests.{not-true, not-false}
 use Rattle.rules.specs.Verdict.{numberOf}
-use Rattle.ledger.specs.Memory.{Memory, memory, shown}
-use Rattle.ledger.specs.Ring.{packetOf}
-use Rattle.ledger.specs.declared.Flow.{Flow}
+use Rattle.ledger.specs.Memory.{memory}
 use Rattle.ledger.specs.declared.Packet.{Packet}
-use Rattle.context.specs.Context.{Context, context, flowCount, capIn}
+use Rattle.context.specs.Context.{Context, context, flowCount}
 use Rattle.context.specs.Sound.{soundContext}
 use Rattle.context.specs.Look.{onStatus}
-use Rattle.context.proofs.Walks.{Laid, laid, laid-part}
-use Rattle.context.proofs.Sounds.{SoundContext, context-facts}
-use Rattle.context.proofs.Joins.{sound-parted, cut-asks, flow-fits}
-use Rattle.context.proofs.Looks.{look-unsound, look-no-flow, look-found, look-lengths}
+use Rattle.context.proofs.Looks.{look-unsound, look-no-flow, look-found}
 use Rattle.context.proofs.look.status.Statement.{statement}
 use Rattle.context.proofs.look.status.Tie as tie
 
@@ -37,23 +32,9 @@ start n = first (n .before .before)
 holds : (n : tie.After-count) → soundContext (handed (start n)) ≡ true
 holds n = sym (n .before .before .is-sound .ensures) ∙ not-false _ (n .before .if1 .left)
 
-facts : (n : tie.After-count) → SoundContext (handed (start n))
-facts n = context-facts (handed (start n)) (holds n)
-
--- a flow in range, and where its part lies
+-- a flow in range
 inside : (e : tie.Else2) → start (e .before) .args .flow < flowCount (handed (start (e .before)))
 inside e = omega (arith, e .if2 .left, e .before .count .ensures)
-
-abbrev entry : tie.After-cut-of → tie.Start
-entry p = start (p .before .before)
-
-lying : (p : tie.After-cut-of) → let x = handed (entry p) in
-    let r = p .cut-of .result in
-    Laid (capIn x) (entry p .args .flow) (x .slots) (r .from) (r .end) (r .at) (r .to)
-lying p =
-    let x = handed (entry p) in
-    laid (capIn x) (x .flows) (x .slots) (sound-parted x (facts (p .before .before))) (entry p .args .flow) (inside (p .before)) _ _ _ _
-    (rw (p .before .before .count .ensures) at (p .cut-of .ensures))
 
 is-sound-requires : tie.Need-is-sound-requires
 is-sound-requires c κs = search needs
@@ -83,70 +64,8 @@ returns-2 c =
     c .look2 .ensures
     ∙ look-no-flow (s .args .flow) _ (handed s) (holds n) (omega (arith, c .before .if2 .taken, n .count .ensures))
 
-cut-of-requires : tie.Need-cut-of-requires
-cut-of-requires c κs =
-    let n = c .before in
-    cut-asks (handed (start n)) (holds n) (n .count .ensures) (c .if2 .left)
-
-flow-at-requires : tie.Need-flow-at-requires
-flow-at-requires c κs =
-    let e = c .before in
-    let s = entry c in
-    (inside e, flow-fits (handed s) (facts (e .before)) (s .args .flow) (inside e))
-
-mul-find : tie.Need-mul-find
-mul-find c = let L = lying (c .before) in record { fits = omega (arith, L) }
-
-sub-find : tie.Need-sub-find
-sub-find c = search needs
-
-part-find-start : tie.Need-part-find-start
-part-find-start c = search needs
-
-part-find-end : tie.Need-part-find-end
-part-find-end c = lying (c .before) .outstanding
-
-mul-find-2 : tie.Need-mul-find-2
-mul-find-2 c = let L = lying (c .before .before) in record { fits = omega (arith, L) }
-
-sub-find-2 : tie.Need-sub-find-2
-sub-find-2 c = search needs
-
-part-find-start-2 : tie.Need-part-find-start-2
-part-find-start-2 c = search needs
-
-part-find-end-2 : tie.Need-part-find-end-2
-part-find-end-2 c = lying (c .before .before) .marked
-
-mul-find-3 : tie.Need-mul-find-3
-mul-find-3 c = let L = lying (c .before .before .before) in record { fits = omega (arith, L) }
-
-sub-find-3 : tie.Need-sub-find-3
-sub-find-3 c = search needs
-
-part-find-start-3 : tie.Need-part-find-start-3
-part-find-start-3 c = search needs
-
-part-find-end-3 : tie.Need-part-find-end-3
-part-find-end-3 c = lying (c .before .before .before) .sizes
-
-mul-find-4 : tie.Need-mul-find-4
-mul-find-4 c = let L = lying (c .before .before .before .before) in record { fits = omega (arith, L) }
-
-sub-find-4 : tie.Need-sub-find-4
-sub-find-4 c = search needs
-
-part-find-start-4 : tie.Need-part-find-start-4
-part-find-start-4 c = search needs
-
-part-find-end-4 : tie.Need-part-find-end-4
-part-find-end-4 c = lying (c .before .before .before .before) .sent
-
-find-requires : tie.Need-find-requires
-find-requires c κs =
-    let p = c .before .before .before .before .before in
-    let s = entry p in
-    rw (laid-part (lying p)) (look-lengths (handed s) (facts (p .before .before)) (s .args .flow) (inside (p .before)))
+packet-at-requires : tie.Need-packet-at-requires
+packet-at-requires c κs = (holds (c .before), inside c)
 
 cast-look : tie.Need-cast-look
 cast-look c = search needs
@@ -157,13 +76,11 @@ look-requires-3 c κs = search needs
 returns-3 : tie.Need-returns-3
 unfolding numberOf onStatus
 returns-3 c =
-    let w = c .before .before .before .before .before .before .before in
-    let p = w .before in
-    let s = entry p in
-    let seen = c .before .before .find .ensures
-    ∙ ap₂ (λ (f : Flow) (m : Memory). packetOf f (shown (f .low) (f .next) m) (s .args .psn)) (w .flow-at .ensures) (laid-part (lying p)) in
+    let e = c .before .before .before in
+    let s = start (e .before) in
     c .look3 .ensures
-    ∙ look-found (s .args .flow) _ (handed s) (holds (p .before .before)) (inside (p .before)) (ap (λ (x : Packet). x .status) seen)
+    ∙ look-found (s .args .flow) _ (handed s) (holds (e .before)) (inside e)
+    (ap (λ (x : Packet). x .status) (c .before .before .packet-at .ensures))
 
 pub status-spec : {M : Type 1} → statement M
 status-spec =
@@ -175,25 +92,7 @@ status-spec =
     count-requires
     look-requires-2
     returns-2
-    cut-of-requires
-    flow-at-requires
-    mul-find
-    sub-find
-    part-find-start
-    part-find-end
-    mul-find-2
-    sub-find-2
-    part-find-start-2
-    part-find-end-2
-    mul-find-3
-    sub-find-3
-    part-find-start-3
-    part-find-end-3
-    mul-find-4
-    sub-find-4
-    part-find-start-4
-    part-find-end-4
-    find-requires
+    packet-at-requires
     cast-look
     look-requires-3
     returns-3)
