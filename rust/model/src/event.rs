@@ -307,7 +307,7 @@ impl State {
         Ok(())
     }
 
-    fn try_send(&mut self, lent: &mut Lent, event: &Send) -> Result<(), Refusal> {
+    pub(crate) fn try_send(&mut self, lent: &mut Lent, event: &Send) -> Result<(), Refusal> {
         self.time_allowed(event.time)?;
         let mut ledger = lent.ledger_mut(event.flow)?;
         let size = event.size;
@@ -424,7 +424,7 @@ impl State {
         Refusal::NotTogether.unless(number_two(self, lent))
     }
 
-    fn time_allowed(&self, time: u64) -> Result<(), Refusal> {
+    pub(crate) fn time_allowed(&self, time: u64) -> Result<(), Refusal> {
         Refusal::Time.unless(self.clock <= time && time < TIME_END)
     }
 

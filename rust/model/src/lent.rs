@@ -89,6 +89,18 @@ impl Lent<'_> {
         })
     }
 
+    /// A copy, to be changed in place of what is lent.
+    pub(crate) fn copied(&self) -> Memory {
+        Memory {
+            flows: self.flows.to_vec(),
+            outstanding: self.outstanding.to_vec(),
+            marked: self.marked.to_vec(),
+            sizes: self.sizes.to_vec(),
+            sent: self.sent.to_vec(),
+            ev_times: self.ev_times.to_vec(),
+        }
+    }
+
     /// Every flow fresh, with this first PSN, and an empty ring; the EV times 0.
     pub(crate) fn clear(&mut self, first_psn: u32) {
         self.flows.fill(Flow::fresh(first_psn));

@@ -4,9 +4,10 @@
 //! [`State`] holds the numbers of a context, [`Lent`] the table of its flows, their rings and the EV
 //! times. Each event is of one flow, changes both in place and returns 0, or the refusal number of 01
 //! and changes nothing. An accepted ACK or NACK says what became of its sample: [`Sampling`]. Which
-//! flow sends next is a choice, and no event: [`State::choose`] answers a [`Turn`]. A log may also
-//! come in chunks: [`Part`] is what its replay holds between them. A [`Report`] has the figures of
-//! a whole log.
+//! flow sends next is a choice, and no event: [`State::choose`] answers a [`Turn`]. Sends that are
+//! [`Planned`] for one instant are judged by [`State::judge`], and [`State::plan`] plans some. A log
+//! may also come in chunks: [`Part`] is what its replay holds between them. A [`Report`] has the
+//! figures of a whole log.
 
 #![forbid(unsafe_code)]
 
@@ -20,6 +21,7 @@ mod ledger;
 pub mod lent;
 pub mod log;
 mod path;
+pub mod plan;
 pub mod refusal;
 pub mod replay;
 pub mod report;
@@ -38,6 +40,7 @@ pub use event::{Ack, Event, Loss, Nack, NewData, Outcome, Path, Send};
 pub use flow::Flow;
 pub use lent::{Lent, Memory};
 pub use log::{parse, write, Reader, Record};
+pub use plan::{PlanRefusal, Planned, SENDS_MAX};
 pub use refusal::Refusal;
 pub use replay::replay;
 pub use report::{report, Report};

@@ -6,11 +6,12 @@ use model::{Flow, Memory, Name, Refusal};
 
 const NOW: u64 = 10_050;
 
-/// It is 2 to every event, of any flow, to a choice and to what the rings show.
+/// It is 2 to every event, of any flow, to a choice, to plans and to what the rings show.
 #[track_caller]
 fn spoilt(what: &str, mut rig: Rig) {
     assert!(!rig.holds(), "{what} should be 2");
     rig.refuse_choice();
+    rig.refuse_plans();
     for flow in [0, 1, 7, 8, u64::MAX] {
         for event in [
             new_data(NOW, 1),

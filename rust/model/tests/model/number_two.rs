@@ -82,6 +82,7 @@ fn all_spoilt(changes: &[(&str, Change)]) {
             rig.refuse(2, event);
         }
         rig.refuse_choice();
+        rig.refuse_plans();
         let lent = rig.memory.lend();
         assert_eq!(rig.state.status(&lent, 0, 0), Err(Refusal::NotTogether));
         assert_eq!(

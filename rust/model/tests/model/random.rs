@@ -1,6 +1,7 @@
 //! Random logs against a naive ledger that knows no wrap and no ring, and random garbage.
 
 use crate::naive::{check_totals, Naive};
+use crate::plans_random::by_turns;
 use crate::rig::*;
 use crate::turns_random::expected;
 use model::{gen, Event, Flow, Memory, Name, Outcome, Reader, Refusal, Rng, Settings, State};
@@ -405,8 +406,13 @@ fn garbage_is_answered() {
             let named = expected(&rig, rig.state.turn);
             assert_eq!(rig.clone().choose(), Ok(named));
             chosen[rig.state.turn as usize] += 1;
+            let clock = rig.state.clock;
+            let plan = by_turns(&rig, clock, 41, 64);
+            assert_eq!(rig.clone().judge(clock, &plan), Ok(()));
+            assert_eq!(rig.clone().plan(clock, 41, 64), Ok(plan));
         } else {
             rig.refuse_choice();
+            rig.refuse_plans();
         }
         let flow = edge(&mut rng);
         let flow = rng.pick(&[0, 0, 1, 1, flow]);
@@ -442,6 +448,7 @@ fn a_state_of_nothing_but_garbage_is_answered() {
         let mut rig = Rig { state, memory };
         assert!(!rig.holds());
         rig.refuse_choice();
+        rig.refuse_plans();
         rig.refuse(2, any_event(&mut rng));
     }
 }

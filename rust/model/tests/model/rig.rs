@@ -1,8 +1,8 @@
 //! A state with memory of its own, and short ways to make events.
 
 use model::{
-    Ack, Event, Flow, Loss, Memory, Nack, Name, NewData, Outcome, Path, Refusal, Send, Settings,
-    State, Turn,
+    Ack, Event, Flow, Loss, Memory, Nack, Name, NewData, Outcome, Path, PlanRefusal, Planned,
+    Refusal, Send, Settings, State, Turn,
 };
 
 pub const EMPTY: u8 = 0;
@@ -224,6 +224,14 @@ impl Rig {
         self.state.choose(&self.memory.lend())
     }
 
+    pub fn judge(&mut self, time: u64, plan: &[Planned]) -> Result<(), PlanRefusal> {
+        self.state.judge(&self.memory.lend(), time, plan)
+    }
+
+    pub fn plan(&mut self, time: u64, size: u32, room: usize) -> Result<Vec<Planned>, Refusal> {
+        self.state.plan(&self.memory.lend(), time, size, room)
+    }
+
     /// The event must be accepted, move the clock but not the turn, and leave what holds together.
     #[track_caller]
     pub fn accept(&mut self, event: impl Into<Event>) -> Outcome {
@@ -256,6 +264,18 @@ impl Rig {
     pub fn refuse_choice(&mut self) {
         let before = self.clone();
         assert_eq!(self.choose(), Err(Refusal::NotTogether));
+        assert_eq!(*self, before);
+    }
+
+    /// A plan is refused with 2, judged or made, before its time is looked at. Nothing changes.
+    #[track_caller]
+    pub fn refuse_plans(&mut self) {
+        let before = self.clone();
+        for time in [self.state.clock, u64::MAX] {
+            let together = Refusal::NotTogether;
+            assert_eq!(self.judge(time, &[]), Err(together.into()));
+            assert_eq!(self.plan(time, 41, 64), Err(together));
+        }
         assert_eq!(*self, before);
     }
 

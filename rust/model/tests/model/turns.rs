@@ -26,7 +26,7 @@ pub fn again(flow: u64, psn: u32) -> Turn {
 }
 
 /// Flows with these backlogs, of which nothing has been sent; their PSNs start at 0.
-fn backlogs(bytes: &[u64]) -> Rig {
+pub fn backlogs(bytes: &[u64]) -> Rig {
     let mut rig = Rig::e_with_flows(bytes.len());
     for (flow, &bytes) in bytes.iter().enumerate() {
         rig.memory.flows[flow].backlog = bytes;
@@ -40,7 +40,7 @@ pub fn with_turn(mut rig: Rig, turn: u64) -> Rig {
     rig
 }
 
-fn with_in_flight(mut rig: Rig, bytes: i64) -> Rig {
+pub fn with_in_flight(mut rig: Rig, bytes: i64) -> Rig {
     rig.state.in_flight = bytes;
     rig.rename();
     rig
