@@ -1,0 +1,5 @@
+-- The laws that the proofs of `plan` share.
+pub mod Judging
+pub mod Packets
+pub mod Agrees
+pub mod Made

@@ -1,0 +1,5 @@
+-- What the contracts of `plan` cite.
+pub mod Plan
+pub mod Judge
+pub mod Planner
+pub mod Ahead
