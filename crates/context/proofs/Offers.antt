@@ -32,7 +32,7 @@ use Rattle.context.proofs.Sounds.{SoundContext, flow-facts}
 
 -- ---- a queue of packets
 
-run-le : (ps : List Packet) → unmarkedRun ps ≤ length ps
+pub run-le : (ps : List Packet) → unmarkedRun ps ≤ length ps
 unfolding unmarkedRun
 run-le [] = omega arith
 run-le (p ∷ ps) = so-both (λ (n : ℕ). n ≤ suc (length ps)) (isMarked p) _ _ (λ _. omega arith) (λ _. omega (arith, run-le ps))
@@ -49,7 +49,7 @@ run-any (p ∷ ps) = by (isMarked p) (run-any ps)
     by false e = e ∙ sym (leb·suc-suc (suc (unmarkedRun ps)) (length ps))
 
 -- and that one is marked
-run-marked : (ps : List Packet) → unmarkedRun ps < length ps → isMarked (getD ps (unmarkedRun ps) noPacket) ≡ true
+pub run-marked : (ps : List Packet) → unmarkedRun ps < length ps → isMarked (getD ps (unmarkedRun ps) noPacket) ≡ true
 unfolding unmarkedRun
 run-marked [] h = absurd (let z : ⊥ = omega arith in z)
 run-marked (p ∷ ps) h =

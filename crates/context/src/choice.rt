@@ -131,7 +131,7 @@ fn round<'a>(
 }
 
 // The flow after flow k, of n.
-fn after(k: usize, n: usize) -> u64
+pub fn after(k: usize, n: usize) -> u64
     requires { ⌜ k < n ⌝ }
     ensures { λ r. ⌜ r ≡ (k + 1) % n ⌝ }
 {

@@ -4,17 +4,17 @@
 use mathlib.Core.Path.{_≡_, refl, sym, ap, ap₂, _∙_}
 use mathlib.Core.Logic.{by-cases}
 use mathlib.Core.Bool.{Bool, true, false, not, _&&_, _||_}
-use mathlib.Core.List.{List, [], _∷_, _++_}
+use mathlib.Core.List.{List, _++_}
 use Prim.Native.Nat.{ℕ, suc, _-_, _^_, _≤_, _<_}
 use native.Mathlib.Decide.{ℕ-discrete, decLt}
 use native.Mathlib.Omega.{arith}
 use lib.Dec.{leb, ltb, eqb}
-use lib.ListN.{length, getD, set, take, replicate, length-set, List·getD-append}
+use lib.ListN.{length, getD, take, replicate, length-set, List·getD-append}
 use lib.Seq.{getD-set-same, getD-set-other, length-take-le, take-all}
 use lib.IntN.{ℤ, pos, _+ℤ_}
-use borrow.Author.Tests.{le-ltb, lt-leb, le-leb, ne-eqb, eq-eqb, leb-false}
-use Rattle.rules.specs.Branch.{ifSo, ifEq, so-yes, so-no, so-both, lt-yes, lt-no}
-use Rattle.rules.specs.Rows.{Row, row, firstOf, first-here, first-later, none-here}
+use borrow.Author.Tests.{le-ltb, lt-leb, le-leb, ne-eqb, eq-eqb}
+use Rattle.rules.specs.Branch.{ifSo, so-yes, so-no, so-both, lt-yes, lt-no}
+use Rattle.rules.specs.Rows.{firstOf, first-here, first-later, none-here}
 use Rattle.rules.specs.Test.{inside}
 use Rattle.serial.specs.Psn.{psns}
 use Rattle.window.specs.Limits.{timeEnd}
@@ -23,9 +23,8 @@ use Rattle.ledger.specs.Packets.{isMarked}
 use Rattle.ledger.specs.Bounds.{sizeLeast, Flown}
 use Rattle.ledger.specs.Ring.{Ring, Ledger, capOf, longOf, offsetOf, packetOf}
 use Rattle.ledger.specs.Rows.{newRows, resendRows, sendRows}
-use Rattle.ledger.specs.Steps.{changed, newPacket, resentPacket, pushOf, resendOf}
+use Rattle.ledger.specs.Steps.{newPacket, resentPacket, pushOf, resendOf}
 use Rattle.ledger.specs.declared.Flow.{Flow}
-use Rattle.ledger.specs.declared.Packet.{Packet}
 use Rattle.ledger.proofs.Facts.{Facts, packet-some}
 use Rattle.ledger.proofs.Judging.{new-facts, resend-facts}
 use Rattle.ledger.proofs.Sends.{new-room, waits}
@@ -37,7 +36,6 @@ use Rattle.flow_table.proofs.Records.{first-length, first-at}
 use Rattle.flow_table.proofs.Turns.{filled-length}
 use Rattle.sender.specs.World.{World, View, viewOf, worldOf, ringOf, ledgerIn}
 use Rattle.sender.specs.Bounds.{roomAfter}
-use Rattle.sender.specs.Rows.{timeRow, sendAllRows}
 use Rattle.sender.specs.Steps.{stateOf, settled, sendStep}
 use Rattle.sender.specs.declared.Send.{Send}
 use Rattle.sender.proofs.Views.{view-world}
@@ -45,11 +43,11 @@ use Rattle.sender.proofs.Stepping.{Sendable, send-facts}
 use Rattle.sender.proofs.Rowing.{roomRows, judged-resend, judged-new, rows-resend, rows-new}
 use Rattle.context.specs.Context.{Context, flowCount, capIn, flowIn, ringIn, joinedOf, sharedOf, worldAt, putWorld}
 use Rattle.context.specs.Sound.{soundContext}
-use Rattle.context.specs.Rows.{flowRow}
 use Rattle.context.specs.Events.{sendOf, sendLeft}
 use Rattle.context.specs.Look.{packetIn}
 use Rattle.context.proofs.Sounds.{SoundContext, context-facts, flow-facts, othersOf}
 use Rattle.context.proofs.Puts.{put-count, put-cap, own-flow, own-ring, other-flow, other-ring}
+use Rattle.context.proofs.Lifts.{send-changes}
 use Rattle.context.proofs.Kept.{Stepped, ring-cap, send-stepped, stepped-rings, stepped-sound}
 use Rattle.plan.specs.Plan.{plannedAt}
 use Rattle.plan.specs.Ahead.{flowBy, aheadOf, pushed, flowsAfter, aheadAfter, isAgain, againTo, waitsAs, againNumber, roomThen}
@@ -69,6 +67,7 @@ pub record Agrees (time : ℕ) (x₀ : Context) (ws : List ℕ) (i : ℕ) (s : A
   pub cap : capIn x ≡ capIn x₀
   pub room : length (s .flows .at) ≡ flowsMost
   pub flows : (k : ℕ) → k < flowCount x₀ → flowBy s k ≡ flowIn x k
+  pub lows : (k : ℕ) → k < flowCount x₀ → flowIn x k .low ≡ flowIn x₀ k .low
   pub in-flight : s .«in_flight» ≡ x .state .totals .«in_flight»
   pub waiting : (k psn size : ℕ) → k < flowCount x₀ → psn < psns
       → waitsAs size (packetIn k psn x) ≡ (waitsAs size (packetIn k psn x₀) && not (againTo ws i k psn))
@@ -103,6 +102,7 @@ module _ (x : Context) (e : soundContext x ≡ true) (time : ℕ) (later : x .st
         room = filled-length (flowCount x) (firstFlows (flowCount x) (x .flows)) (omega (arith, first-length (flowCount x) (x .flows)))
             (S₀ .table .few);
         flows = first-flow;
+        lows = λ k h. refl;
         in-flight = refl;
         waiting = λ k psn size h p. sym (and-yes _ true refl);
       }
@@ -359,6 +359,11 @@ module _ {time : ℕ} {x₀ : Context} {ws : List ℕ} {i : ℕ} {s : Ahead} {x 
                 by-cases (ℕ-discrete j k)
                 (λ s. rw s (flow-after ∙ sym (own-flow x S k h (worldOf v) P)))
                 (λ ne. flow-kept j ne ∙ A .flows j l ∙ sym (other-flow x S k h (worldOf v) P j ne));
+            lows =
+                λ j l.
+                by-cases (ℕ-discrete j k)
+                (λ q. rw q (ap (λ (g : Flow). g .low) (own-flow x S k h (worldOf v) P) ∙ low-kept ∙ A .lows k h₀))
+                (λ ne. ap (λ (g : Flow). g .low) (other-flow x S k h (worldOf v) P j ne) ∙ A .lows j l);
             in-flight = in-flight-after;
             waiting =
                 λ j psn size l hp.
@@ -369,6 +374,9 @@ module _ {time : ℕ} {x₀ : Context} {ws : List ℕ} {i : ℕ} {s : Ahead} {x 
         where
           window-kept : sendLeft time k a x .state .window ≡ x .state .window
           window-kept = refl
+
+          low-kept : v .state .flow .low ≡ flowIn x k .low
+          low-kept = ap (λ (g : Flow). g .low) (send-changes time (viewOf w) a)
 
           clock-now : sendLeft time k a x .state .clock ≤ time
           clock-now = omega arith

@@ -3,7 +3,7 @@
 use mathlib.Core.Path.{_≡_, refl, ap, _∙_}
 use mathlib.Core.Bool.{Bool, true, false, not, _&&_, _||_}
 use mathlib.Core.List.{List}
-use Prim.Native.Nat.{ℕ, zero, suc, _+_, _<_, _≤_}
+use Prim.Native.Nat.{ℕ, zero, suc, _+_, _^_, _<_, _≤_}
 use native.Mathlib.Omega.{arith}
 use native.Mathlib.Numerals.{add-one}
 use lib.Dec.{ltb, eqb}
@@ -16,8 +16,11 @@ use Rattle.ledger.specs.Packets.{markedStatus, isMarked}
 use Rattle.ledger.specs.Rows.{newRows}
 use Rattle.ledger.specs.declared.Packet.{Packet}
 use Rattle.sender.specs.declared.Send.{Send}
-use Rattle.context.specs.Context.{Context, flowCount, capIn}
+use Rattle.sender.proofs.Sounds.{holds-bounded}
+use Rattle.context.specs.Context.{Context, flowCount, capIn, joinedOf, worldAt}
+use Rattle.context.specs.Sound.{soundContext}
 use Rattle.context.specs.Look.{packetIn}
+use Rattle.context.proofs.Sounds.{context-facts, one-holds}
 use Rattle.plan.specs.Plan.{plannedAt}
 use Rattle.plan.specs.Ahead.{flowBy, isAgain, againTo, waitsAs, againNumber, roomThen, aheadNumber}
 use Rattle.plan.specs.declared.Planned.{Planned}
@@ -111,3 +114,13 @@ module _ (x : Context) (ws : List ℕ) (i : ℕ) (s : Ahead) (p : Planned) where
       ahead-new t g =
           lt-yes (p .flow) (flowCount x) _ _ _ h
           (so-yes _ _ _ _ z (e ∙ ap (roomThen (x .state) (s .«in_flight»)) (so-no (p .send .resend) _ _ _ t g)))
+
+-- ---- the bounds of a sound context, by which no sum overflows
+
+-- MTU and cwnd are in the bounds that any flow's step relies on, and there is a flow
+pub rooms : (x : Context) → soundContext x ≡ true → (x .state .settings .mtu ≤ 2 ^ 14) × (x .state .window .cwnd ≤ 2 ^ 26)
+unfolding worldAt joinedOf
+rooms x e =
+    let S = context-facts x e in
+    let B = holds-bounded (worldAt 0 x) (one-holds x S 0 (S .table .some)) in
+    (B .mtu-high, B .cwnd-high)

@@ -3,3 +3,4 @@ pub mod Plan
 pub mod Judge
 pub mod Planner
 pub mod Ahead
+pub mod Course

@@ -6,7 +6,7 @@ use mathlib.Core.List.{List, [], _∷_}
 use Prim.Native.Nat.{ℕ, zero, suc, _+_, _*_, _/_, _%_}
 use lib.Dec.{eqb}
 use lib.ListN.{length, getD, set}
-use Rattle.rules.specs.Branch.{ifSo}
+use Rattle.rules.specs.Mode.{modeOf}
 use Rattle.serial.specs.Psn.{psns}
 use Rattle.plan.specs.declared.Planned.{Planned}
 
@@ -63,7 +63,7 @@ planOf ws = sendsFrom ws 0 (sendCount ws)
 unfoldable pub withSend : List ℕ → ℕ → Planned → List ℕ
 withSend ws i p =
     let w₁ = set ws (planPlace i flowPlace) (p .flow) in
-    let w₂ = set w₁ (planPlace i resendPlace) (ifSo (p .send .resend) 1 0) in
+    let w₂ = set w₁ (planPlace i resendPlace) (modeOf (p .send .resend)) in
     let w₃ = set w₂ (planPlace i psnPlace) (p .send .psn) in
     set w₃ (planPlace i sizePlace) (p .send .size)
 

@@ -6,6 +6,7 @@ use mathlib.Core.Bool.{not}
 use mathlib.Core.List.{List, [], _∷_}
 use mathlib.Core.Option.{Option, none, some}
 use Prim.Native.Nat.{ℕ, zero, suc, min}
+use lib.ListN.{length}
 use Rattle.rules.specs.Branch.{ifSo, ifEq}
 use Rattle.rules.specs.Rows.{Row, row, firstOf}
 use Rattle.context.specs.Context.{Context}
@@ -14,7 +15,7 @@ use Rattle.context.specs.Events.{onSend}
 use Rattle.context.specs.Look.{packetIn}
 use Rattle.context.specs.Turns.{onChoose}
 use Rattle.context.specs.declared.choice.Turn.{Turn}
-use Rattle.plan.specs.Plan.{sendsMost}
+use Rattle.plan.specs.Plan.{sendsMost, written}
 use Rattle.plan.specs.Judge.{planTimeRow}
 use Rattle.plan.specs.declared.Planned.{Planned}
 
@@ -62,3 +63,18 @@ unfoldable pub onPlan : ℕ → ℕ → ℕ → Context → Planning
 onPlan time size room x =
     let n = firstOf (planningRows time x) in
     ifEq n 0 (planning 0 (plannedFrom (min room sendsMost) time size x)) (planning n [])
+
+-- ---- over lent numbers
+
+-- the number, how many sends the plan has, and the numbers it is written in
+pub record Proposal : Type 0 where
+  pub number : ℕ
+  pub count : ℕ
+  pub words : List ℕ
+
+abbrev pub proposal : ℕ → ℕ → List ℕ → Proposal
+proposal n c ws = record { number = n; count = c; words = ws }
+
+-- the plan at their front; the room behind it is as it was
+abbrev pub proposed : List ℕ → Planning → Proposal
+proposed ws r = proposal (r .number) (length (r .plan)) (written ws 0 (r .plan))

@@ -2,7 +2,9 @@
 // each of them, made in that order at that time, would be accepted; the planner writes a plan that is. Both only read state, table, ring
 // buffer and EV times, and keep what the sends would change by value.
 mod ahead;
+mod course;
 pub mod judge;
+pub mod planner;
 pub mod words;
 
 use sender::Send;

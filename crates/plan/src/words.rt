@@ -7,9 +7,9 @@ use crate::SEND_WORDS;
 use crate::SIZE;
 use sender::Send;
 ghost use mathlib.Core.Path.{_≡_};
-ghost use Prim.Native.Nat.{_*_, _<_, _≤_, _^_};
-ghost use lib.ListN.{length};
-ghost use Rattle.plan.specs.Plan.{sendWords, sendCount, plannedAt, withSend};
+ghost use Prim.Native.Nat.{_<_, _≤_};
+ghost use Rattle.flow_table.specs.Words.{flowsMost};
+ghost use Rattle.plan.specs.Plan.{sendCount, plannedAt, withSend};
 ghost use Rattle.plan.specs.Ahead.{againTo};
 
 // How many whole sends there are.
@@ -33,6 +33,19 @@ pub fn send_at(plan: &[u32], i: usize) -> Planned
         resend,
     };
     Planned { flow, send }
+}
+
+// Send i becomes p.
+pub fn put_send(plan: &mut [u32], i: usize, p: Planned)
+    requires { ⌜ (i < sendCount (now plan)) × (p .flow < flowsMost) ⌝ }
+    ensures { λ _. ⌜ now (plan .exit) ≡ withSend (now (plan .entry)) i p ⌝ }
+{
+    let at = SEND_WORDS * i;
+    let a = p.send;
+    plan[at + FLOW] = p.flow as u32;
+    plan[at + RESEND] = rules::mode_of(a.resend);
+    plan[at + PSN] = a.psn;
+    plan[at + SIZE] = a.size;
 }
 
 // Whether one of the first n sends sends this packet again.

@@ -18,7 +18,7 @@ use Rattle.context.specs.Context.{Context, flowCount, flowIn, joinedOf, worldAt
 use Rattle.context.specs.Lent.{contextGiven}
 use Rattle.context.proofs.Sounds.{SoundContext, context-facts, one-holds}
 use Rattle.plan.specs.Ahead.{roomThen}
-use Rattle.plan.proofs.Judging.{ahead-25, ahead-4, ahead-resend, ahead-new}
+use Rattle.plan.proofs.Judging.{rooms, ahead-25, ahead-4, ahead-resend, ahead-new}
 use Rattle.plan.proofs.ahead.judge_next.Statement.{statement}
 use Rattle.plan.proofs.ahead.judge_next.Tie as tie
 
@@ -27,18 +27,6 @@ abbrev handed : tie.Start → Context
 handed s =
     let a = s .args in
     contextGiven (a .c) (a .flows) (a .outstanding) (a .marked) (a .sizes) (a .sent) (a .evs)
-
-facts : (s : tie.Start) → SoundContext (handed s)
-facts s = context-facts (handed s) (s .pre .0)
-
--- MTU and cwnd are in the bounds that any flow's step relies on, and there is a flow
-bounded : (s : tie.Start) → Bounded (joinedOf (s .args .c) (flowIn (handed s) 0))
-unfolding worldAt
-bounded s = let S = facts s in holds-bounded (worldAt 0 (handed s)) (one-holds (handed s) S 0 (S .table .some))
-
-rooms : (s : tie.Start) → (s .args .c .settings .mtu ≤ 2 ^ 14) × (s .args .c .window .cwnd ≤ 2 ^ 26)
-unfolding joinedOf
-rooms s = let B = bounded s in (B .mtu-high, B .cwnd-high)
 
 -- what `judge_room` found, of in-flight as it was handed in
 room : (s : tie.Start) → (r n : ℕ) → let z = s .args .s .«in_flight» in
@@ -98,7 +86,7 @@ judge-again-requires c κs = search needs
 judge-room-requires : tie.Need-judge-room-requires
 judge-room-requires c κs =
     let s = start (c .before .before .before) in
-    (flown-word (s .args .s .«in_flight») (s .pre .1 .1), rooms s)
+    (flown-word (s .args .s .«in_flight») (s .pre .1 .1), rooms (handed s) (s .pre .0))
 
 returns-3 : tie.Need-returns-3
 unfolding numberOf
@@ -112,7 +100,7 @@ returns-3 c =
 nth-requires : tie.Need-nth-requires
 nth-requires c κs =
     let e = c .before in
-    omega (arith, inside-1 (first e), facts (start e) .table .few)
+    omega (arith, inside-1 (first e), context-facts (handed (start e)) (start e .pre .0) .table .few)
 
 div-judge-new : tie.Need-div-judge-new
 div-judge-new c = search needs
@@ -123,7 +111,7 @@ judge-new-requires c κs = search needs
 judge-room-requires-2 : tie.Need-judge-room-requires-2
 judge-room-requires-2 c κs =
     let s = start (c .before .before .before .before) in
-    (flown-word (s .args .s .«in_flight») (s .pre .1 .1), rooms s)
+    (flown-word (s .args .s .«in_flight») (s .pre .1 .1), rooms (handed s) (s .pre .0))
 
 returns-4 : tie.Need-returns-4
 unfolding numberOf
