@@ -36,7 +36,7 @@ judge-most time plan x =
     omega (arith, made-most time 0 plan x, ltb-false sendsMost (length plan) (c .0)))
     (λ _. omega arith)
 
-planned-most : (n time size : ℕ) (x : Context) → length (plannedFrom n time size x) ≤ n
+pub planned-most : (n time size : ℕ) (x : Context) → length (plannedFrom n time size x) ≤ n
 unfolding plannedFrom
 planned-most zero time size x = omega arith
 planned-most (suc n) time size x = by (onChoose x .turn) (λ y. planned-most n time size y)

@@ -1,4 +1,4 @@
--- The laws that the proofs of `plan` share.
+-- The laws that the proofs of `plan` share, the theorems on the judge and the planner, and that no two outcomes satisfy one promise.
 pub mod Judging
 pub mod Packets
 pub mod Agrees
@@ -9,3 +9,5 @@ pub mod Coursing
 pub mod Plans
 pub mod Proposals
 pub mod Lengths
+pub mod Theorems
+pub mod Unique

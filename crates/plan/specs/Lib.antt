@@ -4,3 +4,4 @@ pub mod Judge
 pub mod Planner
 pub mod Ahead
 pub mod Course
+pub mod Statements
