@@ -25,7 +25,8 @@
  *   - nscc_send       a new packet, or a marked one once more; 6 says that the window is full;
  *   - nscc_ack, nscc_nack, nscc_loss   what comes back, or does not.
  * Where several flows send by turns, the send loop is: nscc_choose names a flow and its packet,
- * nscc_path the EV, nscc_send sends it; and so on until nobody is named.
+ * nscc_path the EV, nscc_send sends it; and so on until nobody is named. nscc_judge tells of sends
+ * that another scheduler proposes whether they would be accepted, nscc_plan proposes some itself.
  * After each call state[NSCC_STATE_CWND] is the window and state[NSCC_STATE_PHASE] what to do next.
  * nscc_replay and nscc_chunk do the same for events that were recorded in a log. nscc_status says
  * what became of a packet and nscc_next_marked which one to send again, so that no firmware has to
@@ -83,6 +84,7 @@ enum nscc_refusal {
     NSCC_REFUSED_EV = 23,           /* an EV that is not below the EV count */
     NSCC_REFUSED_TRIGGER = 24,      /* an ACK that does not cover its trigger */
     NSCC_REFUSED_FLOW = 25,         /* a flow that the table does not have */
+    NSCC_REFUSED_PLAN_TOO_LONG = 27, /* nscc_judge: a plan of more than NSCC_PLAN_SENDS_MAX sends */
     NSCC_REFUSED_LOG_TOO_LONG = 28  /* nscc_chunk: with the chunk the log would have 2^48 bytes or more */
 };
 
@@ -263,6 +265,49 @@ uint32_t nscc_choose(uint64_t *state, size_t state_len, const uint64_t *flows, s
                      const uint64_t *outstanding, size_t outstanding_len, const uint64_t *marked, size_t marked_len,
                      const uint32_t *sizes, size_t sizes_len, const uint64_t *sent, size_t sent_len, const uint64_t *evs, size_t evs_len,
                      uint64_t *turn, size_t turn_len);
+
+/*
+ * The numbers of a send in a plan, in this order: number w of send i is
+ * plan[i * NSCC_PLANNED_WORDS + w].
+ */
+enum nscc_planned {
+    NSCC_PLANNED_FLOW,   /* the flow */
+    NSCC_PLANNED_RESEND, /* 0: a new packet; any other number: a marked one once more */
+    NSCC_PLANNED_PSN,    /* its PSN */
+    NSCC_PLANNED_SIZE,   /* its bytes */
+    NSCC_PLANNED_WORDS   /* how many there are: 4 */
+};
+
+/* The most sends of a plan. */
+#define NSCC_PLAN_SENDS_MAX 64
+
+/*
+ * Judges a plan, the sends that a scheduler proposes for one instant: accepted exactly if each of
+ * them, made with nscc_send in that order at that time, would be. Else the number of the first send
+ * that fails (25, 4, 8, 5, 7, 6) in the low 32 bits of the answer, and above them which one it is,
+ * from 0. Before that 2, also where plan_len is not a multiple of NSCC_PLANNED_WORDS, 3, and 27
+ * where the plan has more than NSCC_PLAN_SENDS_MAX sends; these three name no send, and the bits
+ * above are 0. A plan of no sends is accepted. A marked packet can be sent again once in a plan:
+ * then it flies. Nothing is written.
+ */
+uint64_t nscc_judge(const uint64_t *state, size_t state_len, const uint64_t *flows, size_t flows_len,
+                    const uint64_t *outstanding, size_t outstanding_len, const uint64_t *marked, size_t marked_len,
+                    const uint32_t *sizes, size_t sizes_len, const uint64_t *sent, size_t sent_len, const uint64_t *evs, size_t evs_len,
+                    uint64_t time, const uint32_t *plan, size_t plan_len);
+
+/*
+ * Plans what nscc_choose and nscc_send would do by turns at one instant: for the flow that is named
+ * its marked packet nearest to low, or else a new packet of `bytes` bytes. The plan ends where
+ * nobody is named, where a send would be refused (a new packet of a size that is out of range, or
+ * over its flow's backlog), after NSCC_PLAN_SENDS_MAX sends, or where plan has no room for another
+ * whole send. The number (2, 3) is in the low 32 bits of the answer; above them how many sends the
+ * plan has, 0 where it is refused. Judged at the same time the plan is accepted. Only the plan's
+ * sends are written: the room behind them is left as it was, and the held turn does not move.
+ */
+uint64_t nscc_plan(const uint64_t *state, size_t state_len, const uint64_t *flows, size_t flows_len,
+                   const uint64_t *outstanding, size_t outstanding_len, const uint64_t *marked, size_t marked_len,
+                   const uint32_t *sizes, size_t sizes_len, const uint64_t *sent, size_t sent_len, const uint64_t *evs, size_t evs_len,
+                   uint64_t time, uint32_t bytes, uint32_t *plan, size_t plan_len);
 
 /* What a flow's ring shows of a PSN. */
 enum nscc_status {

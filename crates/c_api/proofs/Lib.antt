@@ -14,3 +14,4 @@ pub mod Constant
 pub mod Unique
 pub mod Lookings
 pub mod Choosings
+pub mod Plannings

@@ -6,10 +6,11 @@ use mathlib.Core.List.{List}
 use Prim.Native.Nat.{ℕ}
 use Rattle.ledger.specs.Memory.{Memory}
 use Rattle.context.specs.Events.{onNewData, onSend, onLoss}
-use Rattle.rules.specs.Unique.{OneOutcome, one-outcome}
+use Rattle.rules.specs.Unique.{OneOutcome, one-outcome, unique-plain}
 use Rattle.c_api.specs.Calls.{sendBy, ackBy, nackBy, lossBy, Called, called, onWords, pathBeside, ackBeside, nackBeside}
 use Rattle.c_api.specs.Calls.{onBesideWords, onSetUpWords}
 use Rattle.c_api.specs.Turns.{Choosing, choosing, onChooseWords}
+use Rattle.c_api.specs.Plans.{onJudgeWords, PlanCalled, planCalled, onPlanWords}
 use Rattle.c_api.specs.Batch.{Replayed, replayCalled, onReplayWords}
 use Rattle.c_api.specs.Parts.{Chunked, chunkCalled, onChunkWords}
 
@@ -73,6 +74,26 @@ backChoice c = record { number = c .number; state = c .words; turn = c .turn }
 
 pub choose-unique : (ws fs : List ℕ) (r : Memory) (t turn : List ℕ) → OneOutcome madeChoice (onChooseWords ws fs r t turn)
 choose-unique ws fs r t turn = one-outcome madeChoice backChoice (λ x. refl) _
+
+-- ---- planned sends: a judgement is lent nothing to change, a planning the plan only
+
+pub judge-unique : (time : ℕ) (plan ws fs : List ℕ) (r : Memory) (t : List ℕ)
+    → OneOutcome (λ (word : ℕ). word) (onJudgeWords time plan ws fs r t)
+judge-unique time plan ws fs r t = unique-plain (onJudgeWords time plan ws fs r t)
+
+pub record PlanOutcome : Type 0 where
+  pub word : ℕ
+  pub plan : List ℕ
+
+abbrev pub madePlan : PlanOutcome → PlanCalled
+madePlan x = planCalled (x .word) (x .plan)
+
+abbrev backPlan : PlanCalled → PlanOutcome
+backPlan c = record { word = c .word; plan = c .plan }
+
+pub plan-unique : (time size : ℕ) (plan ws fs : List ℕ) (r : Memory) (t : List ℕ)
+    → OneOutcome madePlan (onPlanWords time size plan ws fs r t)
+plan-unique time size plan ws fs r t = one-outcome madePlan backPlan (λ x. refl) _
 
 -- ---- a replay, and a replay in chunks
 

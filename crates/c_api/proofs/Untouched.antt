@@ -1,16 +1,18 @@
 -- A REFUSED CALL LEAVES EVERYTHING THAT IT WAS LENT AS IT WAS: the state's words, the flows', the ring buffer, the EV times; for any event
 -- that does so to its context (`refused-words`), so for each event of a flow, for a path choice and for setting up; of a choice of the next
--- flow the words to answer in too (`choose-untouched`), of a replay its place and its answers (`replay-untouched`). A replay refuses words that are no state's where it looks at them (`replay-no-state`). And a
--- word of two numbers tells both (`path-word`, `ack-word`, `nack-word`).
+-- flow the words to answer in too (`choose-untouched`), of a planning its plan (`plan-untouched`), of a replay its place and its answers
+-- (`replay-untouched`). A replay refuses words that are no state's where it looks at them (`replay-no-state`). And a word of two numbers
+-- tells both (`path-word`, `ack-word`, `nack-word`, `judge-word`, `plan-word`).
 -- Assumes nothing.
 use mathlib.Core.Path.{_≡_, refl, sym, ap, _∙_}
 use mathlib.Core.Bool.{Bool, true, false, _&&_}
 use mathlib.Core.List.{List}
 use mathlib.Core.Option.{none}
 use Prim.Native.Nat.{ℕ, _^_, _/_, _%_}
+use native.Mathlib.Omega.{arith}
 use lib.Dec.{leb}
 use borrow.Author.Tests.{ne-eqb}
-use Rattle.rules.specs.Branch.{ifSo, ifEq, so-no, eq-no, so-both, lt-both}
+use Rattle.rules.specs.Branch.{ifSo, ifEq, so-no, eq-no, so-both, lt-both, eq-both}
 use Rattle.rules.specs.Rows.{firstOf}
 use Rattle.rules.specs.Test.{inside}
 use Rattle.window.specs.Range.{inRange}
@@ -29,6 +31,10 @@ use Rattle.context.specs.Events.{decided, chosen, onNewData, onSend, onAck, onN
 use Rattle.context.specs.Turns.{Chosen, chose, pastChoose, onChoose}
 use Rattle.context.specs.Start.{setUpRows, freshState, freshTable, onSetUp}
 use Rattle.context.specs.declared.Controller.{Controller}
+use Rattle.plan.specs.Plan.{written}
+use Rattle.plan.specs.Judge.{onJudge}
+use Rattle.plan.specs.Planner.{planningRows, Planning, proposed, onPlan}
+use Rattle.plan.specs.declared.Planned.{Planned}
 use Rattle.replay.specs.Answers.{soundAfter}
 use Rattle.replay.specs.Places.{logged, offsetMost, soundPlace}
 use Rattle.replay.specs.Batches.{Batching, fillRoomOf, batchOf}
@@ -39,6 +45,8 @@ use Rattle.c_state.specs.declared.Unpacked.{Unpacked}
 use Rattle.c_api.specs.Calls.{Called, called, wordsAfter, Beside, pathBeside, ackBeside, nackBeside, besideWord, onWords}
 use Rattle.c_api.specs.Calls.{onBesideWords, onSetUpWords}
 use Rattle.c_api.specs.Turns.{turnAfter, Choosing, choosing, packedTurn, onChooseWords}
+use Rattle.c_api.specs.Plans.{judgedWord, PlanCalled, plannedWord, onPlanWords}
+use Rattle.c_api.proofs.Plannings.{judge-number, plan-number}
 use Rattle.c_api.proofs.Singles.{word-parts, path-double, ack-double, nack-double}
 use Rattle.c_api.specs.Parts.{carryFrom, partOk, Chunked, chunkCalled, partThen, handedPart, onChunkWords}
 use Rattle.c_api.specs.Batch.{placeFrom, lentOk, Replayed, replayCalled, placeThen, wordsThen, handed, onReplayWords}
@@ -64,6 +72,17 @@ module _ (time k : ℕ) (x : Context) where
 
   pub nack-word : (a : Nack) → Parted (nackBeside time k a x)
   nack-word a = word-parts _ _ (nack-double time k x a .most)
+
+-- of a judgement the number and the send that fails, of a planning the number and how many sends there are
+module _ (time : ℕ) (x : Context) where
+  pub judge-word : (ps : List Planned)
+      → let j = onJudge time ps x in (judgedWord j % 2 ^ 32 ≡ j .number) × (judgedWord j / 2 ^ 32 ≡ j .send)
+  judge-word ps = let m = judge-number time ps x in (omega (arith, m), omega (arith, m))
+
+  pub plan-word : (size room : ℕ) (plan : List ℕ)
+      → let p = proposed plan (onPlan time size room x) in
+      (plannedWord p .word % 2 ^ 32 ≡ p .number) × (plannedWord p .word / 2 ^ 32 ≡ p .count)
+  plan-word size room plan = let m = plan-number time size room x in (omega (arith, m), omega (arith, m))
 
 -- ---- a refused event leaves its context as it was
 
@@ -198,6 +217,22 @@ module _ (ws fs : List ℕ) (r : Memory) (t turn : List ℕ) where
       (λ _.
       so-both (λ (c : Chosen). (c .number ≡ 0 → ⊥) → packedTurn ws turn c ≡ choosing 2 ws turn)
       (soundContext (context (stateFrom ws) fs r t)) _ _ (λ _ h. absurd (h refl)) (λ _ _. two-spared (context (stateFrom ws) fs r t)))
+      (λ _ _. refl)
+
+-- ---- a refused planning
+
+module _ (time size : ℕ) (plan ws fs : List ℕ) (r : Memory) (t : List ℕ) where
+  -- a number other than 0, which stands in the low 32 bits, leaves the plan as it was
+  abbrev pub SparedPlan : PlanCalled → Type 0
+  SparedPlan x = (x .word % 2 ^ 32 ≡ 0 → ⊥) → x .plan ≡ plan
+
+  pub plan-untouched : SparedPlan (onPlanWords time size plan ws fs r t)
+  unfolding onPlanWords onPlan written
+  plan-untouched =
+      so-both SparedPlan (wordsOk ws) _ _
+      (λ _.
+      eq-both (λ (p : Planning). SparedPlan (plannedWord (proposed plan p)))
+      (firstOf (planningRows time (context (stateFrom ws) fs r t))) 0 _ _ (λ _ h. absurd (h (omega arith))) (λ _ _. refl))
       (λ _ _. refl)
 
 -- ---- a refused replay

@@ -2,6 +2,7 @@
 pub mod Flags
 pub mod Calls
 pub mod Looks
+pub mod Plans
 pub mod Turns
 pub mod Batch
 pub mod Parts

@@ -6,6 +6,7 @@
 pub mod batch;
 pub mod looks;
 pub mod parts;
+pub mod plans;
 pub mod turns;
 
 use c_state::WORDS;
