@@ -1,6 +1,6 @@
 /*
  * A card's first steps with nscc.h: the requirements' worked example by calls, then a packet that is trimmed, sent again and acknowledged twice, all on flow
- * 0; then a packet of flow 1 under the same window; then a send loop for both, by turns.
+ * 0; then a packet of flow 1 under the same window; then a send loop for both, by turns; then a plan of sends, judged before they are made.
  *
  *     gcc -std=c99 -Wall -Wextra -Werror -Iinclude examples/card.c target/lib/libnscc.a
  *
@@ -179,6 +179,49 @@ static void both_flows(struct card *card)
     send_by_turns(card, 590);
 }
 
+/* Where a send's numbers stand in a plan. */
+static uint32_t *planned(uint32_t *plan, size_t send)
+{
+    return plan + send * NSCC_PLANNED_WORDS;
+}
+
+/* Whether so many sends of a plan would all be accepted; the first that would not is named. Nothing has happened yet. */
+static bool judged(const struct card *card, uint64_t time, const uint32_t *plan, size_t sends)
+{
+    uint64_t answer = nscc_judge(LENT(card), time, plan, sends * NSCC_PLANNED_WORDS);
+    if ((uint32_t)answer == NSCC_ACCEPTED)
+        printf("a plan of %u sends: accepted\n", (unsigned)sends);
+    else
+        printf("a plan of %u sends: send %u is refused with %u\n", (unsigned)sends, (unsigned)(answer >> 32), (unsigned)(uint32_t)answer);
+    return (uint32_t)answer == NSCC_ACCEPTED;
+}
+
+/* Makes a send of a plan. */
+static void send_planned(struct card *card, uint64_t time, const uint32_t *send)
+{
+    size_t flow = send[NSCC_PLANNED_FLOW];
+    bool resend = send[NSCC_PLANNED_RESEND] != 0;
+    printf("flow %u: PSN %u%s as planned\n", (unsigned)flow, (unsigned)send[NSCC_PLANNED_PSN], resend ? " again" : "");
+    show("send", nscc_send(LENT(card), time, flow, send[NSCC_PLANNED_PSN], send[NSCC_PLANNED_SIZE], resend), card);
+}
+
+/* Flow 0 has data, and flow 1 a packet that goes again. The planner has room for three sends here. A scheduler that nobody trusts puts flow 1's packet behind
+   them once more: that plan is refused, and no send of it is made. */
+static void planned_sends(struct card *card)
+{
+    enum { SENDS = 3 };
+    const uint64_t time = 595;
+    uint32_t plan[(SENDS + 1) * NSCC_PLANNED_WORDS] = {0};
+    show_sample("flow-1-nack-2", nscc_nack(LENT(card), 592, 1, 2, 6, 2, false, false), card);
+    show("flow-0-new-data", nscc_new_data(LENT(card), 592, 0, 12288), card);
+    size_t sends = (size_t)(nscc_plan(LENT(card), time, 4096, plan, SENDS * NSCC_PLANNED_WORDS) >> 32);
+    memcpy(planned(plan, sends), planned(plan, 1), NSCC_PLANNED_WORDS * sizeof *plan);
+    if (!judged(card, time, plan, sends + 1) && judged(card, time, plan, sends))
+        for (size_t send = 0; send < sends; send++)
+            send_planned(card, time, planned(plan, send));
+    printf("the next round starts with flow %llu\n", (unsigned long long)card->state[NSCC_STATE_TURN]);
+}
+
 int main(void)
 {
     static struct card card;
@@ -211,6 +254,7 @@ int main(void)
 
     other_flow(&card);
     both_flows(&card);
+    planned_sends(&card);
     printf("samples %u, cut %u, gone %u, ambiguous %u, not positive %u\n", sampled[NSCC_SAMPLE_TAKEN], sampled[NSCC_SAMPLE_CUT], sampled[NSCC_SAMPLE_GONE],
            sampled[NSCC_SAMPLE_AMBIGUOUS], sampled[NSCC_SAMPLE_NOT_POSITIVE]);
 

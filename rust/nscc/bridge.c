@@ -1,7 +1,7 @@
 /*
  * Calls the library for a caller on another processor, under an emulator.
  *
- * A request on standard input: the function's number, ten arguments, the lengths of eleven arrays, then the arrays. The answer on standard output: what the
+ * A request on standard input: the function's number, ten arguments, the lengths of twelve arrays, then the arrays. The answer on standard output: what the
  * function answered, whether memory beside the arrays is untouched, then the arrays again but for the log. Numbers have 64 bits, the least significant byte first.
  */
 #include "nscc.h"
@@ -10,14 +10,15 @@
 #include <stdlib.h>
 #include <string.h>
 
-enum function { SET_UP, NEW_DATA, SEND, ACK, NACK, LOSS, PATH, REPLAY, CHUNK, STATUS, NEXT_MARKED, CHOOSE };
+enum function { SET_UP, NEW_DATA, SEND, ACK, NACK, LOSS, PATH, REPLAY, CHUNK, STATUS, NEXT_MARKED, CHOOSE, JUDGE, PLAN };
 
-/* First are the settings of setting up, the place of a replay, the part of a log in chunks, or the turn of a choice; the log may be a chunk of one. */
-enum array { FIRST, STATE, FLOWS, OUTSTANDING, MARKED, SIZES, SENT, EVS, ANSWERS, PIECE, LOG, ARRAYS };
+/* First are the settings of setting up, the place of a replay, the part of a log in chunks, or the turn of a choice; the log may be a chunk of one;
+   planned is a plan, or room for one. */
+enum array { FIRST, STATE, FLOWS, OUTSTANDING, MARKED, SIZES, SENT, EVS, ANSWERS, PIECE, PLANNED, LOG, ARRAYS };
 
 enum { ARGUMENTS = 10, FENCE = 64, ODD = 0xa5 };
 
-static const size_t width[ARRAYS] = {8, 8, 8, 8, 8, 4, 8, 8, 8, 1, 1};
+static const size_t width[ARRAYS] = {8, 8, 8, 8, 8, 4, 8, 8, 8, 1, 4, 1};
 
 struct request {
     uint64_t function;
@@ -94,6 +95,10 @@ static uint64_t call(const struct request *request)
         return nscc_next_marked(CONTEXT, a[0], a[1]);
     case CHOOSE:
         return nscc_choose(CONTEXT, LENT(FIRST));
+    case JUDGE:
+        return nscc_judge(CONTEXT, a[0], LENT(PLANNED));
+    case PLAN:
+        return nscc_plan(CONTEXT, a[0], a[1], LENT(PLANNED));
     default:
         exit(1);
     }

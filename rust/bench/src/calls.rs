@@ -4,7 +4,7 @@ use crate::logs;
 use crate::sides::{assert_alike, set_up, set_up_model, set_up_ours, Model};
 use crate::table::Table;
 use crate::timing::{race, Clock, Times};
-use differential::{answer_of, turn_of, Call};
+use differential::{answer_of, turn_of, Beside, Call};
 use model::bounds::{EVS_MAX, EVS_USUAL};
 use model::{number_two, Event, NewData, Path, Send, Settings};
 use nscc::{Context, TURN};
@@ -55,7 +55,7 @@ fn calls(settings: &Settings, events: &[Event], capacity: usize) -> Times {
         |clock| {
             set_up_ours(&mut context, settings);
             let mut lent = context.lend();
-            in_laps(clock, &calls, |call| call.ask(&mut lent, &mut []));
+            in_laps(clock, &calls, |call| call.ask(&mut lent, Beside::default()));
         },
         |clock| {
             set_up_model(&mut model, settings);
@@ -69,11 +69,11 @@ fn calls(settings: &Settings, events: &[Event], capacity: usize) -> Times {
 }
 
 /// Both sides take the events and must answer alike; the last answer.
-fn take(context: &mut Context, model: &mut Model, events: &[Event]) -> u64 {
+pub fn take(context: &mut Context, model: &mut Model, events: &[Event]) -> u64 {
     let mut last = 0;
     for event in events {
         let outcome = model.state.take(&mut model.memory.lend(), event);
-        last = Call::of(event).ask(&mut context.lend(), &mut []);
+        last = Call::of(event).ask(&mut context.lend(), Beside::default());
         assert_eq!(last, answer_of(outcome), "{event:?}");
     }
     last
@@ -155,7 +155,7 @@ fn choices_of(flows: usize, capacity: usize) -> Times {
 }
 
 /// Both sides with so many packets flying on each flow, at a clock of 1.
-fn filled(flows: usize, capacity: usize, packets: usize) -> (Context, Model) {
+pub fn filled(flows: usize, capacity: usize, packets: usize) -> (Context, Model) {
     let mut numbers = model::gen::E;
     numbers[1] = 1 << 26;
     let settings = Settings::from_numbers(numbers, 0, false);

@@ -1,6 +1,6 @@
-//! `bench`: times the proved library against the model and prints one table in Markdown. Both sides
-//! get the same logs and events in the same run. What they answer and leave is compared before
-//! anything is timed.
+//! `bench`: times the proved library against the model, and plans against single calls, and prints a
+//! table of each in Markdown. Both sides get the same logs and events in the same run. What they
+//! answer and leave is compared before anything is timed.
 //!
 //! `bench [--anchor PROGRAM] LOG..`: times the library over these logs instead, and beside it a
 //! program that replays them too. Then the sums of their answers are compared.
@@ -10,6 +10,7 @@ mod calls;
 mod chunks;
 mod given;
 mod logs;
+mod plans;
 mod replays;
 mod sides;
 mod sum;
@@ -33,6 +34,11 @@ an archive for this processor in NSCC_ARCHIVE_DIR.";
 const HOW: &str = "\
 Both sides gave the same answers and left the same memory before anything was timed. Setting up
 clears the buffers first, on both. Times are the best of several rounds, ours and the model's in turn.
+";
+
+const SINGLE: &str = "
+A plan beside single calls of the library in a copy of the memory: 64 sends, or 64 choices and sends.
+Copying is part of their time.
 ";
 
 fn main() -> ExitCode {
@@ -65,7 +71,7 @@ fn print_table() -> ExitCode {
         return ExitCode::SUCCESS;
     }
     println!("{HOW}");
-    let mut table = Table::default();
+    let mut table = Table::beside("model");
     replays::kinds(&mut table);
     replays::flows(&mut table);
     replays::paths(&mut table);
@@ -75,8 +81,13 @@ fn print_table() -> ExitCode {
     replays::acks(&mut table);
     calls::events(&mut table);
     calls::choices(&mut table);
+    plans::beside_model(&mut table);
     calls::acks(&mut table);
     calls::full_test(&mut table);
+    print!("{table}");
+    println!("{SINGLE}");
+    let mut table = Table::beside("single calls");
+    plans::beside_calls(&mut table);
     print!("{table}");
     ExitCode::SUCCESS
 }

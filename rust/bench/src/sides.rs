@@ -9,6 +9,7 @@ use nscc::Context;
 pub const CAPACITY: usize = 1_024;
 
 /// The model's context with its memory.
+#[derive(Clone)]
 pub struct Model {
     pub state: State,
     pub memory: Memory,

@@ -1,9 +1,9 @@
 use std::time::{Duration, Instant};
 
-/// Nanoseconds of each side.
+/// Nanoseconds of our side and of the other.
 pub struct Times {
     pub ours: f64,
-    pub model: f64,
+    pub other: f64,
 }
 
 /// Keeps the best time of every lap. Laps are short, so that one in which nothing else ran on the
@@ -38,17 +38,17 @@ pub fn race(
     rounds: usize,
     many: usize,
     mut ours: impl FnMut(&mut Clock),
-    mut model: impl FnMut(&mut Clock),
+    mut other: impl FnMut(&mut Clock),
 ) -> Times {
-    let (mut our_clock, mut model_clock) = (Clock::default(), Clock::default());
+    let (mut our_clock, mut other_clock) = (Clock::default(), Clock::default());
     for _ in 0..rounds {
         our_clock.laps = 0;
         ours(&mut our_clock);
-        model_clock.laps = 0;
-        model(&mut model_clock);
+        other_clock.laps = 0;
+        other(&mut other_clock);
     }
     Times {
         ours: our_clock.nanoseconds() / many as f64,
-        model: model_clock.nanoseconds() / many as f64,
+        other: other_clock.nanoseconds() / many as f64,
     }
 }

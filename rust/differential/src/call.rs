@@ -1,5 +1,5 @@
-use crate::words::turn_of;
-use model::{Event, Loss, NewData, Outcome, Path, Sampling, Send, Turn};
+use crate::words::{plan_of, turn_of};
+use model::{Event, Loss, NewData, Outcome, Path, Planned, Sampling, Send, Turn};
 use nscc::raw::Lent;
 use nscc::{Ack, Nack, Sample};
 
@@ -50,6 +50,24 @@ pub enum Call {
     Choose {
         turn: Vec<u64>,
     },
+    /// Whether each send of this plan would be accepted, whatever its numbers are.
+    Judge {
+        time: u64,
+        plan: Vec<u32>,
+    },
+    /// What would be sent by turns. The plan is written in this room, whatever that holds.
+    Plan {
+        time: u64,
+        bytes: u32,
+        room: Vec<u32>,
+    },
+}
+
+/// What a call is lent beside a context: copies of [`Call::turn`] and [`Call::plan`].
+#[derive(Debug, Default)]
+pub struct Beside<'a> {
+    pub turn: &'a mut [u64],
+    pub plan: &'a mut [u32],
 }
 
 impl Call {
@@ -62,10 +80,12 @@ impl Call {
         }
     }
 
-    /// The flow that the call is for; `None` for setting up and for a choice.
+    /// The flow that the call is for; `None` for setting up, for a choice and for plans.
     pub fn flow(&self) -> Option<usize> {
         match *self {
-            Call::SetUp { .. } | Call::Choose { .. } => None,
+            Call::SetUp { .. } | Call::Choose { .. } | Call::Judge { .. } | Call::Plan { .. } => {
+                None
+            }
             Call::Ack(Ack { flow, .. }) | Call::Nack(Nack { flow, .. }) => Some(flow),
             Call::NewData { flow, .. }
             | Call::Send { flow, .. }
@@ -79,7 +99,7 @@ impl Call {
     /// The same call for another flow.
     pub fn for_flow(mut self, other: usize) -> Call {
         match &mut self {
-            Call::SetUp { .. } | Call::Choose { .. } => {}
+            Call::SetUp { .. } | Call::Choose { .. } | Call::Judge { .. } | Call::Plan { .. } => {}
             Call::Ack(Ack { flow, .. }) | Call::Nack(Nack { flow, .. }) => *flow = other,
             Call::NewData { flow, .. }
             | Call::Send { flow, .. }
@@ -99,9 +119,18 @@ impl Call {
         }
     }
 
-    /// Calls the C function: the number in the low 32 bits, an EV, a sample's number or what the ring
-    /// shows above them. `turn` is lent to a choice, with the words of [`Call::turn`].
-    pub fn ask(&self, lent: &mut Lent, turn: &mut [u64]) -> u64 {
+    /// The plan that is judged, or the room that one is written in; other calls have none.
+    pub fn plan(&self) -> &[u32] {
+        match self {
+            Call::Judge { plan, .. } => plan,
+            Call::Plan { room, .. } => room,
+            _ => &[],
+        }
+    }
+
+    /// Calls the C function: the number in the low 32 bits, an EV, a sample's number, what the ring
+    /// shows or what there is to say of a plan above them.
+    pub fn ask(&self, lent: &mut Lent, beside: Beside) -> u64 {
         let number = match self {
             Call::SetUp {
                 settings,
@@ -128,20 +157,24 @@ impl Call {
             Call::Path { time, flow } => return lent.path(*time, *flow),
             Call::Status { flow, psn } => return lent.show().status(*flow, *psn),
             Call::NextMarked { flow, psn } => return lent.show().next_marked(*flow, *psn),
-            Call::Choose { .. } => lent.choose(turn),
+            Call::Choose { .. } => lent.choose(beside.turn),
+            Call::Judge { time, .. } => return lent.show().judge(*time, beside.plan),
+            Call::Plan { time, bytes, .. } => return lent.show().plan(*time, *bytes, beside.plan),
         };
         number.into()
     }
 
-    /// The model's event; `None` for setting up, readings and choices. The model's EVs and reasons
-    /// are narrower: a wider one is handed to it as its widest, which it refuses alike.
+    /// The model's event; `None` for setting up, readings, choices and plans. The model's EVs and
+    /// reasons are narrower: a wider one is handed to it as its widest, which it refuses alike.
     pub fn event(&self) -> Option<Event> {
         let flow = self.flow()? as u64;
         let event = match *self {
             Call::SetUp { .. }
             | Call::Status { .. }
             | Call::NextMarked { .. }
-            | Call::Choose { .. } => return None,
+            | Call::Choose { .. }
+            | Call::Judge { .. }
+            | Call::Plan { .. } => return None,
             Call::NewData { time, bytes, .. } => NewData { time, flow, bytes }.into(),
             Call::Send {
                 time,
@@ -256,13 +289,16 @@ fn narrow_ev(ev: u32) -> u16 {
 }
 
 /// What the model answers to a call.
-#[derive(Clone, Copy, Debug, Default, PartialEq, Eq)]
+#[derive(Clone, Debug, Default, PartialEq, Eq)]
 pub struct Answer {
     pub outcome: Outcome,
-    /// What a reading shows: a status' number, 0 for none, or a PSN.
+    /// What a reading shows: a status' number, 0 for none, or a PSN. Of a plan that was judged the
+    /// first send that fails, of one that was made how many sends it has.
     pub shown: Option<u32>,
     /// What an accepted choice names; `None` where that is nobody.
     pub named: Option<Turn>,
+    /// The sends of a plan that was made.
+    pub planned: Vec<Planned>,
 }
 
 impl From<Outcome> for Answer {
@@ -276,29 +312,39 @@ impl From<Outcome> for Answer {
 
 impl Answer {
     /// As the C functions answer it.
-    pub fn word(self) -> u64 {
-        let Outcome {
-            number,
-            ev,
-            sampling,
-        } = self.outcome;
-        let sample = sampling.map(|sampling| sample_of(sampling).number().into());
-        let above = self.shown.or(ev.map(u32::from)).or(sample).unwrap_or(0);
-        u64::from(number) | u64::from(above) << 32
+    pub fn word(&self) -> u64 {
+        let above = self.shown.map_or(0, u64::from);
+        answer_of(self.outcome) | above << 32
     }
 
     /// What a choice leaves in the words that it was lent: a refusal leaves them as they were.
-    pub fn turn(self, lent: &[u64]) -> Vec<u64> {
+    pub fn turn(&self, lent: &[u64]) -> Vec<u64> {
         match self.outcome.number {
             0 => turn_of(self.named).to_vec(),
             _ => lent.to_vec(),
         }
     }
+
+    /// What a call leaves in the plan or the room that it was lent: its sends are written, and no
+    /// more.
+    pub fn plan(&self, lent: &[u32]) -> Vec<u32> {
+        let mut plan = lent.to_vec();
+        let written = plan_of(&self.planned);
+        plan[..written.len()].copy_from_slice(&written);
+        plan
+    }
 }
 
 /// The model's outcome as the C functions answer it.
 pub fn answer_of(outcome: Outcome) -> u64 {
-    Answer::from(outcome).word()
+    let Outcome {
+        number,
+        ev,
+        sampling,
+    } = outcome;
+    let sample = sampling.map(|sampling| sample_of(sampling).number().into());
+    let above = ev.map(u32::from).or(sample).unwrap_or(0);
+    u64::from(number) | u64::from(above) << 32
 }
 
 fn sample_of(sampling: Sampling) -> Sample {

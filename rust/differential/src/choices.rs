@@ -35,7 +35,7 @@ pub struct Choices {
 
 impl Choices {
     /// The answer to a choice, in so many slots.
-    pub fn note(&mut self, answer: Answer, before: Option<&Before>, slots: usize) {
+    pub fn note(&mut self, answer: &Answer, before: Option<&Before>, slots: usize) {
         let refused = answer.outcome.number != 0;
         self.refused += u64::from(refused);
         let Some(before) = before else {

@@ -59,7 +59,7 @@ impl Source {
         self.rng.pick(&choices) as usize
     }
 
-    fn edge_time(&mut self, view: &View) -> u64 {
+    pub(crate) fn edge_time(&mut self, view: &View) -> u64 {
         let clock = view.state.clock;
         let any = edge(&mut self.rng);
         match self.rng.below(24) {
@@ -116,7 +116,7 @@ impl Source {
         self.rng.pick(&[edge, any])
     }
 
-    fn edge_send(&mut self, view: &View, time: u64) -> Call {
+    pub(crate) fn edge_send(&mut self, view: &View, time: u64) -> Call {
         let mtu = view.state.settings.mtu as u32;
         let any = self.rng.between(41, u64::from(mtu)) as u32;
         let over_backlog = (view.flow.backlog as u32).saturating_add(1).min(mtu);

@@ -15,6 +15,8 @@ pub struct Profile {
     pub reads: u64,
     /// One call in so many is a choice; 0 is none.
     pub choices: u64,
+    /// One call in so many judges a plan or makes one; 0 is none.
+    pub plans: u64,
     /// Of eight ACKs so many have the M flag.
     pub marked: u64,
     /// Packets of the smallest size, so that the ring is full before the window.
@@ -31,6 +33,7 @@ const MIXED: Profile = Profile {
     edges: 12,
     reads: 8,
     choices: 6,
+    plans: 16,
     marked: 3,
     small: false,
     window: 0,
@@ -44,6 +47,7 @@ pub const GOOD: Profile = Profile {
     edges: 0,
     reads: 0,
     choices: 0,
+    plans: 0,
     marked: 2,
     window: 30,
     ..MIXED

@@ -1,6 +1,7 @@
 //! A list of calls from a start on, compared after every call.
 
-use crate::call::{Answer, Call};
+use crate::call::{Answer, Beside, Call};
+use crate::making::make;
 use crate::shorten::thin;
 use crate::sides::{same, Fenced, Model, Ours, ODD};
 use crate::source::Source;
@@ -8,7 +9,7 @@ use crate::tally::Tally;
 use crate::turns::sends;
 use model::ring::{bit, resends_of, size_of, WORD};
 use model::Turn;
-use std::fmt::Write;
+use std::fmt::{Debug, Write};
 
 /// Both sides, which hold the same.
 struct Pair {
@@ -37,28 +38,39 @@ impl Pair {
     fn call(&mut self, call: &Call) -> Result<Answer, String> {
         let named = self.sends_named(call);
         let mut turn = Fenced::new(call.turn(), ODD);
-        let our_answer = call.ask(&mut self.ours.lend(), turn.inner_mut());
+        let mut plan = Fenced::new(call.plan(), ODD as u32);
+        let beside = Beside {
+            turn: turn.inner_mut(),
+            plan: plan.inner_mut(),
+        };
+        let our_answer = call.ask(&mut self.ours.lend(), beside);
         let answer = self.model.answer(call);
         let models = answer.word();
         if our_answer != models {
             return Err(format!("answered {our_answer:#x}, the model {models:#x}"));
         }
         if let Call::Choose { turn: lent } = call {
-            compare_turn(&turn, &answer.turn(lent))?;
+            compare_beside("word of the turn", &turn, &answer.turn(lent))?;
         }
+        compare_beside("number of the plan", &plan, &answer.plan(call.plan()))?;
         self.ours.compare(&self.model)?;
+        make(&self.ours, call, &answer)?;
         if named && answer.outcome.number != 0 {
             return Err(format!("{models:#x} is answered to what was named"));
         }
-        self.remember(call, answer);
+        self.remember(call, &answer);
         Ok(answer)
     }
 
-    /// A path, a reading and a refusal leave what may be sent as it was.
-    fn remember(&mut self, call: &Call, answer: Answer) {
+    /// A path, a reading, a plan and a refusal leave what may be sent as it was.
+    fn remember(&mut self, call: &Call, answer: &Answer) {
         let leaves = matches!(
             call,
-            Call::Path { .. } | Call::Status { .. } | Call::NextMarked { .. }
+            Call::Path { .. }
+                | Call::Status { .. }
+                | Call::NextMarked { .. }
+                | Call::Judge { .. }
+                | Call::Plan { .. }
         );
         if answer.outcome.number == 0 && !leaves {
             self.named = answer.named;
@@ -66,12 +78,17 @@ impl Pair {
     }
 }
 
-fn compare_turn(ours: &Fenced<u64>, model: &[u64]) -> Result<(), String> {
-    same("word of the turn", ours.inner(), model)?;
+/// What a call was lent beside the context.
+fn compare_beside<T: Copy + PartialEq + Debug>(
+    name: &str,
+    ours: &Fenced<T>,
+    model: &[T],
+) -> Result<(), String> {
+    same(name, ours.inner(), model)?;
     if ours.whole() {
         Ok(())
     } else {
-        Err("memory beside the turn was written".into())
+        Err(format!("memory beside every {name} was written"))
     }
 }
 
@@ -89,6 +106,11 @@ impl Session {
             start,
             calls: Vec::new(),
         }
+    }
+
+    /// The held clock; 0 for words that no state has.
+    pub fn clock(&self) -> u64 {
+        self.pair.model.state().map_or(0, |state| state.clock)
     }
 
     /// The next call of the source, and what follows where it has named a packet.
@@ -111,7 +133,7 @@ impl Session {
         let named = self.pair.sends_named(call);
         match self.pair.call(call) {
             Ok(answer) => {
-                tally.note(call, answer, before, &self.pair.model);
+                tally.note(call, &answer, before, &self.pair.model);
                 tally.choices.sent += u64::from(named);
                 Ok(answer)
             }
@@ -180,11 +202,7 @@ fn list_slots(name: &str, words: &[u64], report: &mut String) {
     }
 }
 
-fn list<T: Copy + Default + PartialEq + std::fmt::Debug>(
-    name: &str,
-    numbers: &[T],
-    report: &mut String,
-) {
+fn list<T: Copy + Default + PartialEq + Debug>(name: &str, numbers: &[T], report: &mut String) {
     let numbered = numbers.iter().enumerate();
     let some: Vec<(usize, T)> = numbered
         .filter(|(_, &number)| number != T::default())

@@ -1,10 +1,10 @@
 //! The two sides of a comparison: the model's, and the memory that the C functions are lent.
 
 use crate::call::{Answer, Call};
-use crate::words::{flows_of, state_of, table_of, words_of};
-use model::{Flow, Memory, Outcome, Refusal, Settings, State};
+use crate::words::{flows_of, sends_of, state_of, table_of, words_of};
+use model::{Flow, Memory, Outcome, PlanRefusal, Planned, Refusal, Settings, State};
 use nscc::raw::Lent;
-use nscc::{FlowWord, Word, EVS_MIN, FLOW_WORDS, TURN, WORDS};
+use nscc::{FlowWord, Word, EVS_MIN, FLOW_WORDS, PLANNED, TURN, WORDS};
 
 const UNSOUND: u8 = Refusal::NotTogether as u8;
 
@@ -92,6 +92,12 @@ impl Model {
                 self.read(|state, lent| state.next_marked(lent, flow as u64, psn))
             }
             Call::Choose { ref turn } => self.choose(turn.len()),
+            Call::Judge { time, ref plan } => self.judge(time, plan),
+            Call::Plan {
+                time,
+                bytes,
+                ref room,
+            } => self.answer_plan(time, bytes, room.len() / PLANNED),
             _ => self.take(call).into(),
         }
     }
@@ -112,6 +118,39 @@ impl Model {
             }
             Err(refusal) => Outcome::from(refusal.number()).into(),
         }
+    }
+
+    /// A plan in numbers. Sends that are not whole don't hold together.
+    fn judge(&mut self, time: u64, plan: &[u32]) -> Answer {
+        let lent = self.lend().zip(sends_of(plan));
+        let Some(((state, lent), sends)) = lent else {
+            return Outcome::from(UNSOUND).into();
+        };
+        match state.judge(&lent, time, &sends) {
+            Ok(()) => Answer::default(),
+            Err(PlanRefusal { refusal, send }) => Answer {
+                outcome: refusal.number().into(),
+                shown: send.map(|send| send as u32),
+                ..Answer::default()
+            },
+        }
+    }
+
+    fn answer_plan(&mut self, time: u64, bytes: u32, room: usize) -> Answer {
+        match self.plan(time, bytes, room) {
+            Ok(planned) => Answer {
+                shown: Some(planned.len() as u32),
+                planned,
+                ..Answer::default()
+            },
+            Err(refusal) => Outcome::from(refusal.number()).into(),
+        }
+    }
+
+    /// At most so many sends by turns.
+    pub fn plan(&mut self, time: u64, bytes: u32, room: usize) -> Result<Vec<Planned>, Refusal> {
+        let (state, lent) = self.lend().ok_or(Refusal::NotTogether)?;
+        state.plan(&lent, time, bytes, room)
     }
 
     fn read(&mut self, show: impl FnOnce(&State, &model::Lent) -> Result<u32, Refusal>) -> Answer {
@@ -169,6 +208,7 @@ impl Model {
 }
 
 /// Elements between two fences, which nobody may touch.
+#[derive(Clone)]
 pub struct Fenced<T> {
     all: Vec<T>,
     fence: T,
@@ -210,6 +250,7 @@ impl<T: Copy + PartialEq> Fenced<T> {
 }
 
 /// The memory that the C functions are lent.
+#[derive(Clone)]
 pub struct Ours {
     words: Fenced<u64>,
     flows: Fenced<u64>,

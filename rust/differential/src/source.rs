@@ -149,6 +149,8 @@ impl Source {
         };
         if self.one_call_in(self.profile.choices) {
             choice(&mut self.rng)
+        } else if self.one_call_in(self.profile.plans) {
+            self.plan(model, &view)
         } else if self.one_call_in(self.profile.reads) {
             let call = self.reading(&view);
             self.astray(&view, call)
@@ -242,7 +244,7 @@ impl Source {
     }
 
     /// A new packet; new data where the backlog has none.
-    fn new_packet(&mut self, view: &View, time: u64) -> Call {
+    pub(crate) fn new_packet(&mut self, view: &View, time: u64) -> Call {
         let least = u64::from(SIZE_MIN);
         let most = view.flow.backlog.min(view.state.settings.mtu);
         if most < least {
@@ -265,7 +267,7 @@ impl Source {
         }
     }
 
-    fn resend(&mut self, view: &View, time: u64) -> Call {
+    pub(crate) fn resend(&mut self, view: &View, time: u64) -> Call {
         let Some(psn) = view.packet(&mut self.rng, &[Status::Marked]) else {
             return self.new_packet(view, time);
         };

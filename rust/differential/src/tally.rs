@@ -2,6 +2,7 @@
 
 use crate::call::{Answer, Call};
 use crate::choices::Choices;
+use crate::plans::Plans;
 use crate::sides::Model;
 use crate::words::state_of;
 use model::{Flow, Outcome, Sampling};
@@ -9,7 +10,7 @@ use nscc::{Refusal, Word, FLOWS_MAX, IN_FLIGHT_ADDED, WORDS};
 use std::fmt;
 
 /// Room for every number of an answer.
-const NUMBERS: usize = Refusal::LogTooLong as usize + 1;
+pub const NUMBERS: usize = Refusal::LogTooLong as usize + 1;
 
 /// PSNs so far from 2^32 are near it.
 const NEAR: u32 = 1 << 13;
@@ -28,6 +29,7 @@ pub struct Tally {
     /// What the ring showed of a PSN: none, flying, marked, done.
     pub statuses: [u64; 4],
     pub choices: Choices,
+    pub plans: Plans,
     pub seen: Seen,
 }
 
@@ -81,11 +83,14 @@ impl Tally {
         })
     }
 
-    pub fn note(&mut self, call: &Call, answer: Answer, before: Option<Before>, after: &Model) {
+    pub fn note(&mut self, call: &Call, answer: &Answer, before: Option<Before>, after: &Model) {
         self.count(answer.outcome);
         let slots = after.memory.sizes.len();
-        if let Call::Choose { .. } = call {
-            self.choices.note(answer, before.as_ref(), slots);
+        match call {
+            Call::Choose { .. } => self.choices.note(answer, before.as_ref(), slots),
+            Call::Judge { plan, .. } => self.plans.note_judged(plan, answer),
+            Call::Plan { room, .. } => self.plans.note_planned(room.len(), answer),
+            _ => {}
         }
         let before = before.filter(|_| answer.outcome.number == 0);
         let (Some(at), Some(before), Some(flows)) = (call.flow(), before, after.flows()) else {
@@ -181,7 +186,7 @@ impl fmt::Display for Tally {
         if self.statuses.iter().any(|&times| times > 0) {
             write!(f, "; statuses {:?}", self.statuses)?;
         }
-        write!(f, "{}", self.choices)?;
+        write!(f, "{}{}", self.choices, self.plans)?;
         let seen = &self.seen;
         if seen.cuts > 0 {
             write!(

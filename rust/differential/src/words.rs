@@ -1,7 +1,10 @@
-//! The one place where the model's state, flows and turns meet the header's words.
+//! The one place where the model's state, flows, turns and plans meet the header's words.
 
-use model::{Flow, Name, Settings, State, Turn};
-use nscc::{FlowWord, TurnWord, Word, FLOW_WORDS, IN_FLIGHT_ADDED, SETTINGS, TURN, WORDS};
+use model::{Flow, Name, Planned, Settings, State, Turn};
+use nscc::{
+    FlowWord, PlannedWord, TurnWord, Word, FLOW_WORDS, IN_FLIGHT_ADDED, PLANNED, SETTINGS, TURN,
+    WORDS,
+};
 
 pub fn words_of(state: &State) -> [u64; WORDS] {
     let mut words = [0; WORDS];
@@ -115,6 +118,36 @@ pub fn turn_of(named: Option<Turn>) -> [u64; TURN] {
         words[TurnWord::Psn as usize] = psn.into();
     }
     words
+}
+
+/// The numbers of a plan. A flow that is wider is refused alike as the widest.
+pub fn plan_of(sends: &[Planned]) -> Vec<u32> {
+    sends.iter().flat_map(send_numbers).collect()
+}
+
+fn send_numbers(send: &Planned) -> [u32; PLANNED] {
+    let mut numbers = [0; PLANNED];
+    numbers[PlannedWord::Flow as usize] = send.flow.try_into().unwrap_or(u32::MAX);
+    numbers[PlannedWord::Resend as usize] = send.resend.into();
+    numbers[PlannedWord::Psn as usize] = send.psn;
+    numbers[PlannedWord::Size as usize] = send.size;
+    numbers
+}
+
+/// `None` for numbers that no plan has: a send's are not whole. There may be any number of sends.
+pub fn sends_of(plan: &[u32]) -> Option<Vec<Planned>> {
+    let (sends, rest) = plan.as_chunks();
+    rest.is_empty().then(|| sends.iter().map(send_of).collect())
+}
+
+fn send_of(numbers: &[u32; PLANNED]) -> Planned {
+    let number = |word: PlannedWord| numbers[word as usize];
+    Planned {
+        flow: number(PlannedWord::Flow).into(),
+        resend: number(PlannedWord::Resend) != 0,
+        psn: number(PlannedWord::Psn),
+        size: number(PlannedWord::Size),
+    }
 }
 
 struct Words<'a>(&'a [u64; WORDS]);

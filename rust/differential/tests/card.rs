@@ -1,9 +1,9 @@
 //! What `examples/card.c` is to print, worked out by the model.
 
-use differential::{answer_of, Answer, Call, Model};
+use differential::{answer_of, plan_of, Answer, Call, Model};
 use model::gen::E;
-use model::{Flow, Outcome, Settings};
-use nscc::{sampled, Ack, Nack, Sample, Status, Word, TURN};
+use model::{Flow, Outcome, Planned, Settings};
+use nscc::{sampled, Ack, Nack, Sample, Status, Word, PLANNED, TURN};
 use std::fmt::Write;
 
 struct Card {
@@ -117,8 +117,28 @@ impl Card {
             answer = self.choose();
         }
         self.show_state("choose", answer.outcome);
+        self.show_turn();
+    }
+
+    fn show_turn(&mut self) {
         let first = self.model.words[Word::Turn as usize];
         self.line(&format!("the next round starts with flow {first}"));
+    }
+
+    /// So many sends by turns.
+    fn plan(&mut self, time: u64, sends: usize) -> Vec<Planned> {
+        let (bytes, room) = (4096, vec![0; sends * PLANNED]);
+        self.model.answer(&Call::Plan { time, bytes, room }).planned
+    }
+
+    fn judge(&mut self, time: u64, sends: &[Planned]) {
+        let plan = plan_of(sends);
+        let answer = self.model.answer(&Call::Judge { time, plan });
+        let said = match answer.shown {
+            Some(send) => format!("send {send} is refused with {}", answer.outcome.number),
+            None => "accepted".to_string(),
+        };
+        self.line(&format!("a plan of {} sends: {said}", sends.len()));
     }
 
     fn path(&mut self, time: u64, flow: usize) -> u32 {
@@ -215,6 +235,35 @@ fn both(card: &mut Card) {
     card.send_by_turns(590);
 }
 
+/// A plan with the packet that goes again once more behind it, then without.
+fn planned(card: &mut Card) {
+    let nack = Nack {
+        time: 592,
+        flow: 1,
+        psn: 2,
+        ev: 6,
+        reason: 2,
+        marked: false,
+        retx: false,
+    };
+    card.show_sample("flow-1-nack-2", Call::Nack(nack));
+    card.new_data(592, 0, 12_288);
+    let mut sends = card.plan(595, 3);
+    sends.push(sends[1]);
+    card.judge(595, &sends);
+    sends.pop();
+    card.judge(595, &sends);
+    for Planned {
+        flow, resend, psn, ..
+    } in sends
+    {
+        let again = if resend { " again" } else { "" };
+        card.line(&format!("flow {flow}: PSN {psn}{again} as planned"));
+        card.send("send", 595, flow as usize, psn, resend);
+    }
+    card.show_turn();
+}
+
 /// New data of a flow that there is not.
 fn no_flow(card: &mut Card) {
     let before = card.model.clone();
@@ -247,6 +296,7 @@ fn card() {
     card.line(&format!("base {base}, average {avg}/1024 ticks"));
     other(&mut card);
     both(&mut card);
+    planned(&mut card);
     count(&mut card);
     no_flow(&mut card);
     card.model.words[Word::Cwnd as usize] = 0;

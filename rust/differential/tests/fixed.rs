@@ -10,6 +10,10 @@ const SHARE: u64 = if EMULATED { 20 } else { 1 };
 /// The numbers of a field that is refused, the flow's among them.
 const FIELDS: [usize; 7] = [4, 20, 21, 22, 23, 24, 25];
 
+/// The numbers of a plan that is refused as a whole, and of one that is refused for a send.
+const WHOLE: [usize; 3] = [2, 3, 27];
+const SENDS: [usize; 6] = [4, 5, 6, 7, 8, 25];
+
 fn run(kind: Kind, seeds: u64) -> Tally {
     let start = Instant::now();
     let mut tally = Tally::default();
@@ -44,6 +48,26 @@ fn all_chosen(tally: &Tally, least: u64) {
     often(tally, &[choices.refused], least);
 }
 
+/// Plans were made of each kind at least so often.
+fn all_planned(tally: &Tally, least: u64) {
+    let plans = &tally.plans;
+    let made = [plans.nothing, plans.made, plans.full, plans.no_room];
+    often(tally, &made, least);
+    often(tally, &[plans.resends, plans.both], least);
+}
+
+/// Each answer to a plan that is judged was met at least so often.
+fn all_judged(tally: &Tally, least: u64) {
+    let plans = &tally.plans;
+    let accepted = [plans.empty, plans.accepted, plans.longest];
+    often(tally, &accepted, least);
+    often(tally, &[plans.mixed, plans.several], least);
+    often(tally, &WHOLE.map(|number| plans.whole[number]), least);
+    for refused in [plans.first, plans.later] {
+        often(tally, &SENDS.map(|number| refused[number]), least);
+    }
+}
+
 #[test]
 fn set_up() {
     let tally = run(Kind::SetUp, 800);
@@ -51,6 +75,10 @@ fn set_up() {
     let choices = &tally.choices;
     let fresh = [choices.new, choices.none_ready, choices.refused];
     often(&tally, &fresh, 1_000);
+    let plans = &tally.plans;
+    let fresh = [plans.nothing, plans.made, plans.no_room];
+    often(&tally, &fresh, 1_000);
+    often(&tally, &[2, 3].map(|number| plans.unmade[number]), 1_000);
 }
 
 #[test]
@@ -74,6 +102,17 @@ fn streams() {
     often(&tally, &[choices.sent], 10_000);
     let rare = [choices.rounds, choices.crumbs, choices.held_back];
     often(&tally, &rare, 100);
+    all_planned(&tally, 300);
+    let plans = &tally.plans;
+    let judged = [plans.empty, plans.accepted, plans.longest, plans.several];
+    often(&tally, &judged, 300);
+    often(&tally, &WHOLE.map(|number| plans.whole[number]), 300);
+    // A ring is seldom full here.
+    let numbers = [4, 6, 8, 25];
+    for refused in [plans.first, plans.later] {
+        often(&tally, &numbers.map(|number| refused[number]), 100);
+    }
+    often(&tally, &[plans.own], 100);
 }
 
 #[test]
@@ -87,6 +126,7 @@ fn logs() {
     let rings = [seen.full_rings, seen.full_beside, seen.half_wrapped];
     often(&tally, &rings, 1_000);
     all_chosen(&tally, 300);
+    all_planned(&tally, 500);
 }
 
 #[test]
@@ -111,6 +151,12 @@ fn states() {
     often(&tally, &rings, 1_000);
     often(&tally, &[choices.rounds, choices.crumbs], 1_000);
     often(&tally, &choices.flows, 1_000);
+    all_planned(&tally, 1_000);
+    all_judged(&tally, 100);
+    let plans = &tally.plans;
+    often(&tally, &[plans.own, plans.twice], 100);
+    often(&tally, &[plans.last], 50);
+    often(&tally, &[plans.unmade[3]], 300);
 }
 
 #[test]
@@ -121,6 +167,11 @@ fn spoilt() {
     often(&tally, &tally.samples, 20);
     all_chosen(&tally, 100);
     often(&tally, &[tally.choices.no_flow], 1_000);
+    all_planned(&tally, 100);
+    let plans = &tally.plans;
+    let refused = [plans.whole[2], plans.unmade[2]];
+    often(&tally, &refused, 1_000);
+    often(&tally, &[plans.accepted, plans.whole[27]], 100);
 }
 
 #[test]

@@ -1,8 +1,8 @@
-//! The words of the header and the model's state and flows, there and back, and its turns.
+//! The words of the header and the model's state, flows and plans, there and back, and its turns.
 
-use differential::{flows_of, state_of, table_of, turn_of, words_of};
-use model::{Flow, Name, Rng, Settings, State, Turn};
-use nscc::{FlowWord, Word, FLOWS_MAX, FLOW_WORDS, WORDS};
+use differential::{flows_of, plan_of, sends_of, state_of, table_of, turn_of, words_of};
+use model::{Flow, Name, Planned, Rng, Settings, State, Turn};
+use nscc::{FlowWord, PlannedWord, Word, FLOWS_MAX, FLOW_WORDS, PLANNED, WORDS};
 
 #[test]
 fn every_word_is_named_in_its_place() {
@@ -36,6 +36,26 @@ fn tables_and_flows_are_inverse() {
         table.fill_with(|| rng.below(1 << 32));
         let flows = flows_of(&table).expect("words of a table");
         assert_eq!((flows.len(), table_of(&flows)), (many, table));
+    }
+}
+
+/// The same of plans, with any number of sends: every number but 0 is a resend's.
+#[test]
+fn plans_and_sends_are_inverse() {
+    let mut rng = Rng::new(1);
+    for many in 0..70 {
+        let mut plan = vec![0; many * PLANNED];
+        plan.fill_with(|| rng.next_u32());
+        let (numbers, _) = plan.as_chunks_mut::<PLANNED>();
+        for send in numbers {
+            send[PlannedWord::Resend as usize] &= 1;
+        }
+        let sends = sends_of(&plan).expect("numbers of a plan");
+        assert_eq!((sends.len(), plan_of(&sends)), (many, plan.clone()));
+        for length in [1, 2, 3] {
+            let cut = plan.len().checked_sub(length);
+            assert_eq!(cut.and_then(|end| sends_of(&plan[..end])), None);
+        }
     }
 }
 
@@ -105,4 +125,19 @@ fn some_words_by_number() {
         assert_eq!(words, [1, 3, resend.into(), 4_294_967_295]);
     }
     assert_eq!(turn_of(None), [0, 0, 0, 0]);
+    let [send, again] = [false, true].map(|resend| Planned {
+        flow: 5,
+        resend,
+        psn: 6,
+        size: 7,
+    });
+    assert_eq!(plan_of(&[send, again]), [5, 0, 6, 7, 5, 1, 6, 7]);
+    let far = Planned {
+        flow: 1 << 32,
+        ..send
+    };
+    assert_eq!(plan_of(&[far]), [u32::MAX, 0, 6, 7]);
+    for number in [1, 2, 256, 1 << 31, u32::MAX] {
+        assert_eq!(sends_of(&[5, number, 6, 7]), Some(vec![again]));
+    }
 }

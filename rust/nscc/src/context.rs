@@ -1,4 +1,5 @@
 use crate::event::{Ack, Nack, Settings};
+use crate::plan::{judged, PlanRefusal, Planned};
 use crate::raw::{Lent, Shown};
 use crate::refusal::{answer, Refusal};
 use crate::sample::{sampled, Sample};
@@ -6,7 +7,7 @@ use crate::status::Status;
 use crate::turn::Turn;
 use crate::word::{
     FlowWord, PartWord, Phase, PlaceWord, Word, EVS_MAX, EVS_MIN, FLOW_WORDS, IN_FLIGHT_ADDED,
-    PART, PIECE, PLACE, TURN, WORDS,
+    PART, PIECE, PLACE, PLANNED, SENDS_MAX, TURN, WORDS,
 };
 
 /// One congestion control context with its memory: the state's words, the table of its flows, the
@@ -178,6 +179,22 @@ impl Context {
         let mut turn = [0; TURN];
         accepted(self.lend().choose(&mut turn))?;
         Ok(Turn::of(&turn))
+    }
+
+    /// Whether each of these sends, made in this order at this time, would be accepted; else the
+    /// first that would not be.
+    pub fn judge(&self, time: u64, plan: &[Planned]) -> Result<(), PlanRefusal> {
+        let numbers: Vec<u32> = plan.iter().flat_map(Planned::numbers).collect();
+        judged(self.show().judge(time, &numbers))
+    }
+
+    /// What would be sent by turns at this time, with new packets of so many bytes: as many sends as
+    /// there is room for, and at most [`SENDS_MAX`].
+    pub fn plan(&self, time: u64, bytes: u32, room: usize) -> Result<Vec<Planned>, Refusal> {
+        let mut numbers = vec![0; PLANNED * room.min(SENDS_MAX)];
+        let many = answer(self.show().plan(time, bytes, &mut numbers))?;
+        let (sends, _) = numbers.as_chunks();
+        Ok(sends[..many as usize].iter().map(Planned::of).collect())
     }
 
     /// What a flow's ring shows of a packet; `None` where its PSN is not one of low..next-1.

@@ -5,6 +5,7 @@
 
 mod context;
 mod event;
+mod plan;
 pub mod raw;
 mod refusal;
 mod sample;
@@ -14,11 +15,12 @@ mod word;
 
 pub use context::{Context, Part, Place};
 pub use event::{Ack, Nack, Settings};
+pub use plan::{judged, PlanRefusal, Planned};
 pub use refusal::{answer, Refusal};
 pub use sample::{sampled, Sample};
 pub use status::Status;
 pub use turn::Turn;
 pub use word::{
-    FlowWord, PartWord, Phase, PlaceWord, TurnWord, Word, EVS_MAX, EVS_MIN, FLOWS_MAX, FLOW_WORDS,
-    IN_FLIGHT_ADDED, PART, PIECE, PLACE, SETTINGS, TURN, WORDS,
+    FlowWord, PartWord, Phase, PlaceWord, PlannedWord, TurnWord, Word, EVS_MAX, EVS_MIN, FLOWS_MAX,
+    FLOW_WORDS, IN_FLIGHT_ADDED, PART, PIECE, PLACE, PLANNED, SENDS_MAX, SETTINGS, TURN, WORDS,
 };

@@ -22,6 +22,7 @@ pub enum Refusal {
     Ev = 23,
     Trigger = 24,
     Flow = 25,
+    PlanTooLong = 27,
     LogTooLong = 28,
 }
 
@@ -31,7 +32,7 @@ impl Refusal {
     }
 
     pub fn of(number: u32) -> Option<Refusal> {
-        const ALL: [Refusal; 19] = [
+        const ALL: [Refusal; 20] = [
             Refusal::Setting,
             Refusal::Unsound,
             Refusal::Time,
@@ -50,6 +51,7 @@ impl Refusal {
             Refusal::Ev,
             Refusal::Trigger,
             Refusal::Flow,
+            Refusal::PlanTooLong,
             Refusal::LogTooLong,
         ];
         ALL.into_iter().find(|refusal| refusal.number() == number)
@@ -77,6 +79,7 @@ impl fmt::Display for Refusal {
             Refusal::Ev => "an EV that is not below the EV count",
             Refusal::Trigger => "an ACK does not cover its trigger",
             Refusal::Flow => "a flow that the table does not have",
+            Refusal::PlanTooLong => "a plan of more than 64 sends",
             Refusal::LogTooLong => "a log would have 2^48 bytes or more",
         };
         write!(f, "{}: {why}", self.number())
@@ -86,8 +89,8 @@ impl fmt::Display for Refusal {
 impl Error for Refusal {}
 
 /// What an answer says that has the number in its low 32 bits, and above them the EV of an accepted
-/// path choice, the number of an accepted ACK's or NACK's [`Sample`](crate::Sample), or what the
-/// ring shows (0 in all others).
+/// path choice, the number of an accepted ACK's or NACK's [`Sample`](crate::Sample), what the ring
+/// shows, or how many sends a plan has (0 in all others).
 pub fn answer(word: u64) -> Result<u32, Refusal> {
     match word as u32 {
         0 => Ok((word >> 32) as u32),

@@ -125,6 +125,16 @@ pub enum TurnWord {
     Psn,
 }
 
+/// A number of a send in a plan.
+#[derive(Clone, Copy, Debug, PartialEq, Eq)]
+pub enum PlannedWord {
+    Flow,
+    /// 0 for a new packet, any other number for a marked one.
+    Resend,
+    Psn,
+    Size,
+}
+
 /// A word of a place in a log.
 #[derive(Clone, Copy, Debug, PartialEq, Eq)]
 pub enum PlaceWord {
@@ -177,6 +187,10 @@ pub const FLOW_WORDS: usize = 4;
 pub const FLOWS_MAX: usize = 8;
 /// How many words a choice answers in.
 pub const TURN: usize = 4;
+/// How many numbers a send has in a plan.
+pub const PLANNED: usize = 4;
+/// The most sends of a plan.
+pub const SENDS_MAX: usize = 64;
 /// How many words a place has.
 pub const PLACE: usize = 4;
 /// How many words a log that comes in chunks has.

@@ -1,8 +1,9 @@
 //! The names and numbers of the wrapper are those of `include/nscc.h`.
 
 use nscc::{
-    FlowWord, PartWord, PlaceWord, Refusal, Sample, Status, TurnWord, Word, EVS_MAX, EVS_MIN,
-    FLOWS_MAX, FLOW_WORDS, IN_FLIGHT_ADDED, PART, PIECE, PLACE, SETTINGS, TURN, WORDS,
+    FlowWord, PartWord, PlaceWord, PlannedWord, Refusal, Sample, Status, TurnWord, Word, EVS_MAX,
+    EVS_MIN, FLOWS_MAX, FLOW_WORDS, IN_FLIGHT_ADDED, PART, PIECE, PLACE, PLANNED, SENDS_MAX,
+    SETTINGS, TURN, WORDS,
 };
 use std::fmt::Debug;
 
@@ -81,6 +82,23 @@ fn turn() {
 }
 
 #[test]
+fn planned() {
+    let mut header = names("nscc_planned", "NSCC_PLANNED_");
+    assert_eq!(header.pop().expect("the last").0, "WORDS");
+    assert_eq!(header.len(), PLANNED);
+    let ours = [
+        PlannedWord::Flow,
+        PlannedWord::Resend,
+        PlannedWord::Psn,
+        PlannedWord::Size,
+    ];
+    same_order(&header, &ours);
+    for (i, word) in ours.into_iter().enumerate() {
+        assert_eq!(word as usize, i);
+    }
+}
+
+#[test]
 fn place() {
     let mut header = names("nscc_place", "NSCC_PLACE_");
     assert_eq!(header.pop().expect("the last").0, "WORDS");
@@ -113,7 +131,7 @@ fn part() {
 #[test]
 fn refusals() {
     let header = names("nscc_refusal", "NSCC_");
-    assert_eq!(header.len(), 20);
+    assert_eq!(header.len(), 21);
     assert_eq!(header[0], ("ACCEPTED".to_string(), Some(0)));
     for (name, number) in &header[1..] {
         let refusal = number.and_then(Refusal::of).expect("a refusal");
@@ -159,6 +177,8 @@ fn numbers() {
     assert!(HEADER.contains(&format!("#define NSCC_EVS_MAX {EVS_MAX}\n")));
     assert!(HEADER.contains(&format!("#define NSCC_FLOWS_MAX {FLOWS_MAX}\n")));
     assert!(HEADER.contains(&format!("#define NSCC_PIECE_BYTES {PIECE}\n")));
+    let most = format!("#define NSCC_PLAN_SENDS_MAX {SENDS_MAX}\n");
+    assert!(HEADER.contains(&most));
     let added = format!("#define NSCC_IN_FLIGHT_ADDED {IN_FLIGHT_ADDED}\n");
     assert!(HEADER.contains(&added));
 }

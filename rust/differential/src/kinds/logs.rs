@@ -1,5 +1,6 @@
 use crate::call::Call;
 use crate::logs::generated;
+use crate::planning::planning;
 use crate::session::Session;
 use crate::shape::Shape;
 use crate::tally::Tally;
@@ -7,7 +8,7 @@ use crate::turns::choice;
 use model::replay::evs_lent;
 use model::{Reader, Rng};
 
-/// The records as calls, up to the first that is malformed, with choices between them.
+/// The records as calls, up to the first that is malformed, with choices and plans between them.
 pub fn run(seed: u64, tally: &mut Tally) -> Result<(), String> {
     let mut rng = Rng::new(seed);
     let log = generated(&mut rng, 1_500);
@@ -24,6 +25,11 @@ pub fn run(seed: u64, tally: &mut Tally) -> Result<(), String> {
         }
         if rng.one_in(8) {
             session.call(choice(&mut rng), tally)?;
+        }
+        if rng.one_in(64) {
+            let bytes = rng.pick(&[41, 41, 1_000, 4_096]);
+            let call = planning(&mut rng, session.clock(), bytes);
+            session.call(call, tally)?;
         }
     }
     Ok(())

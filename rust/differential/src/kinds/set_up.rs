@@ -1,6 +1,7 @@
 use super::streams::used;
 use crate::call::Call;
 use crate::numbers::{any_ev_count, edge, instead_of, lent_evs, settings};
+use crate::planning::planning;
 use crate::session::Session;
 use crate::shape::Shape;
 use crate::spoil::spoil_length;
@@ -37,6 +38,7 @@ fn one(rng: &mut Rng, tally: &mut Tally) -> Result<(), String> {
         let bytes = rng.between(1, 100);
         session.call(Call::NewData { time, flow, bytes }, tally)?;
         session.call(choice(rng), tally)?;
+        session.call(planning(rng, time, 41), tally)?;
     }
     Ok(())
 }

@@ -22,16 +22,19 @@ enum Function {
     Status,
     NextMarked,
     Choose,
+    Judge,
+    Plan,
 }
 
 const ARGUMENTS: usize = 10;
 
-/// What is lent beside a context: settings, a place, a part or a turn, a piece, a log or a chunk of
-/// one, room for answers.
+/// What is lent beside a context: settings, a place, a part or a turn, a piece, a plan, a log or a
+/// chunk of one, room for answers.
 #[derive(Default)]
 struct Beside<'a> {
     first: &'a mut [u64],
     piece: &'a mut [u8],
+    plan: &'a mut [u32],
     log: &'a [u8],
     answers: &'a mut [u64],
 }
@@ -134,6 +137,7 @@ impl Lent<'_> {
             piece,
             log: chunk,
             answers,
+            ..Beside::default()
         };
         self.ask(Function::Chunk, &[ended.into()], beside) as u32
     }
@@ -159,16 +163,30 @@ impl Lent<'_> {
 impl Shown<'_> {
     /// The number in the low 32 bits, and where it is 0 the status above them.
     pub fn status(&self, flow: usize, psn: u32) -> u64 {
-        self.read(Function::Status, flow, psn)
+        self.read(Function::Status, &[flow as u64, psn.into()], &mut [])
     }
 
     /// The number in the low 32 bits, and where it is 0 the PSN above them.
     pub fn next_marked(&self, flow: usize, psn: u32) -> u64 {
-        self.read(Function::NextMarked, flow, psn)
+        self.read(Function::NextMarked, &[flow as u64, psn.into()], &mut [])
     }
 
-    /// A copy goes over the bridge, and must come back as it was.
-    fn read(&self, function: Function, flow: usize, psn: u32) -> u64 {
+    /// The number in the low 32 bits, and above them the first send that fails: see
+    /// [`judged`](crate::judged).
+    pub fn judge(&self, time: u64, plan: &[u32]) -> u64 {
+        let mut copy = plan.to_vec();
+        let answer = self.read(Function::Judge, &[time], &mut copy);
+        assert_eq!(copy, plan, "a plan that is only read was written");
+        answer
+    }
+
+    /// The number in the low 32 bits, and where it is 0 how many sends stand in `plan` above them.
+    pub fn plan(&self, time: u64, bytes: u32, plan: &mut [u32]) -> u64 {
+        self.read(Function::Plan, &[time, bytes.into()], plan)
+    }
+
+    /// A copy of the context goes over the bridge, and must come back as it was.
+    fn read(&self, function: Function, arguments: &[u64], plan: &mut [u32]) -> u64 {
         let (words, evs) = (&mut self.words.to_vec(), &mut self.evs.to_vec());
         let flows = &mut self.flows.to_vec();
         let (outstanding, marked) = (&mut self.outstanding.to_vec(), &mut self.marked.to_vec());
@@ -182,7 +200,11 @@ impl Shown<'_> {
             sent,
             evs,
         };
-        let answer = lent.event(function, &[flow as u64, psn.into()]);
+        let beside = Beside {
+            plan,
+            ..Beside::default()
+        };
+        let answer = lent.ask(function, arguments, beside);
         assert_eq!(lent.show(), *self, "memory that is only read was written");
         answer
     }
@@ -240,6 +262,7 @@ impl Bridge {
             lent.evs.len(),
             beside.answers.len(),
             beside.piece.len(),
+            beside.plan.len(),
             beside.log.len(),
         ];
         put_u64s(&mut self.to, &lengths.map(|length| length as u64))?;
@@ -253,6 +276,7 @@ impl Bridge {
         put_u64s(&mut self.to, lent.evs)?;
         put_u64s(&mut self.to, beside.answers)?;
         self.to.write_all(beside.piece)?;
+        put_u32s(&mut self.to, beside.plan)?;
         self.to.write_all(beside.log)?;
         self.to.flush()
     }
@@ -270,6 +294,7 @@ impl Bridge {
         get_u64s(&mut self.from, lent.evs)?;
         get_u64s(&mut self.from, beside.answers)?;
         self.from.read_exact(beside.piece)?;
+        get_u32s(&mut self.from, beside.plan)?;
         let [answer, whole] = answer;
         assert_eq!(whole, 1, "memory beside what was lent was written");
         Ok(answer)

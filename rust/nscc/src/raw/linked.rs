@@ -184,6 +184,47 @@ mod c {
             turn_len: usize,
         ) -> u32;
 
+        pub fn nscc_judge(
+            state: *const u64,
+            state_len: usize,
+            flows: *const u64,
+            flows_len: usize,
+            outstanding: *const u64,
+            outstanding_len: usize,
+            marked: *const u64,
+            marked_len: usize,
+            sizes: *const u32,
+            sizes_len: usize,
+            sent: *const u64,
+            sent_len: usize,
+            evs: *const u64,
+            evs_len: usize,
+            time: u64,
+            plan: *const u32,
+            plan_len: usize,
+        ) -> u64;
+
+        pub fn nscc_plan(
+            state: *const u64,
+            state_len: usize,
+            flows: *const u64,
+            flows_len: usize,
+            outstanding: *const u64,
+            outstanding_len: usize,
+            marked: *const u64,
+            marked_len: usize,
+            sizes: *const u32,
+            sizes_len: usize,
+            sent: *const u64,
+            sent_len: usize,
+            evs: *const u64,
+            evs_len: usize,
+            time: u64,
+            bytes: u32,
+            plan: *mut u32,
+            plan_len: usize,
+        ) -> u64;
+
         pub fn nscc_replay(
             place: *mut u64,
             place_len: usize,
@@ -300,10 +341,11 @@ macro_rules! call {
     };
 }
 
-/// Calls a C function that only reads, of a flow's PSN.
+/// Calls a C function that only reads the context: its pointers and lengths, the rest.
 macro_rules! read {
-    ($function:ident, $shown:expr, $flow:expr, $psn:expr) => {
-        // SAFETY: the pointers and lengths are those of slices, and nothing is written.
+    ($function:ident, $shown:expr, [$($after:expr),*]) => {
+        // SAFETY: the pointers and lengths are those of slices, and of these only the plan's room is
+        // written, which borrows keep apart.
         unsafe {
             c::$function(
                 $shown.words.as_ptr(),
@@ -320,8 +362,7 @@ macro_rules! read {
                 $shown.sent.len(),
                 $shown.evs.as_ptr(),
                 $shown.evs.len(),
-                $flow,
-                $psn,
+                $($after),*
             )
         }
     };
@@ -330,12 +371,24 @@ macro_rules! read {
 impl Shown<'_> {
     /// The number in the low 32 bits, and where it is 0 the status above them.
     pub fn status(&self, flow: usize, psn: u32) -> u64 {
-        read!(nscc_status, self, flow, psn)
+        read!(nscc_status, self, [flow, psn])
     }
 
     /// The number in the low 32 bits, and where it is 0 the PSN above them.
     pub fn next_marked(&self, flow: usize, psn: u32) -> u64 {
-        read!(nscc_next_marked, self, flow, psn)
+        read!(nscc_next_marked, self, [flow, psn])
+    }
+
+    /// The number in the low 32 bits, and above them the first send that fails: see
+    /// [`judged`](crate::judged).
+    pub fn judge(&self, time: u64, plan: &[u32]) -> u64 {
+        read!(nscc_judge, self, [time, plan.as_ptr(), plan.len()])
+    }
+
+    /// The number in the low 32 bits, and where it is 0 how many sends stand in `plan` above them.
+    pub fn plan(&self, time: u64, bytes: u32, plan: &mut [u32]) -> u64 {
+        let (numbers, many) = (plan.as_mut_ptr(), plan.len());
+        read!(nscc_plan, self, [time, bytes, numbers, many])
     }
 }
 

@@ -1,5 +1,8 @@
 //! What several tests start from.
 
+// Not each of them needs all of it.
+#![allow(dead_code)]
+
 use nscc::{Ack, Settings};
 
 /// The settings E of 01.
