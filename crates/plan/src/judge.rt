@@ -1,7 +1,6 @@
 // The judge of planned sends.
 use crate::SENDS_MOST;
 use crate::ahead;
-use crate::ahead::Ahead;
 use crate::words::count;
 use crate::words::send_at;
 use context::Controller;
@@ -16,7 +15,7 @@ ghost use Rattle.rules.specs.Verdict.{numberOf};
 ghost use Rattle.window.specs.Limits.{timeEnd};
 ghost use Rattle.context.specs.Lent.{contextGiven, contextBefore};
 ghost use Rattle.context.specs.Sound.{soundContext};
-ghost use Rattle.plan.specs.Plan.{sendCount, planOf};
+ghost use Rattle.plan.specs.Plan.{planOf};
 ghost use Rattle.plan.specs.Judge.{judged, madeFrom, onJudge};
 
 // The verdict on a plan, and the first send that fails, from 0; 0 where none is named.
