@@ -1,7 +1,7 @@
 -- What the machine's operations give, as the contracts say it: a bit put, a mask's bits taken out, the lowest set bit.
 -- Assumes nothing.
 use mathlib.Core.Path.{◌≡◌, refl, sym, ap, ap₂, ◌∙◌}
-use mathlib.Core.Bool.{Bool, true, false, not, ◌&&◌, ◌||◌, and_false}
+use mathlib.Core.Bool.{Bool, true, false, not, ◌&&◌, ◌||◌, and-false}
 use mathlib.Core.List.{List}
 use mathlib.Core.Logic.{⊎_elim, by_cases}
 use Prim.Native.Nat.{ℕ, zero, suc, ◌-◌, ◌*◌, ◌/◌, ◌%◌, ◌^◌, ◌<◌}
@@ -53,7 +53,7 @@ flag_lt true r h = omega (arith, pow-lt h)
 flag_lt false r h = rw (zero-mul (2 ^ r)) (lit< tt)
 
 none_left : (a b : Bool) → ((a && false) || b) ≡ b
-none_left a b = ap (λ (x : Bool). x || b) (and_false a)
+none_left a b = ap (λ (x : Bool). x || b) (and-false a)
 
 all_left : (a : Bool) → ((a && true) || false) ≡ a
 all_left true = refl

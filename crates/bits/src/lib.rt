@@ -1,5 +1,7 @@
 // Bits of 64-bit words, one bit a slot: "slot i's bit is bit i mod 64 of word i/64". Request M-109. Inner steps: the caller proves that
 // there is the bit, or the word.
+#![tactic(auto)]
+
 ghost use Rattle.std.specs.Prelude.{◌≡◌, ◌*◌, ◌≤◌, ◌<◌, length};
 ghost use Rattle.bits.specs.Bits.{word_bits, bit, bit_at, put_bit, without, count_in, lowest};
 

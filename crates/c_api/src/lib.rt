@@ -3,6 +3,8 @@
 // (`replay::once`), so that the archive has the rules once, in the replay's loop. No function has a `requires`; what no proof
 // can see, that pointers and lengths are true and that nothing overlaps, is said in include/nscc.h.
 
+#![tactic(auto)]
+
 pub mod batch;
 pub mod looks;
 pub mod parts;

@@ -1,5 +1,7 @@
 // The shared state of a context as words, for callers that hold it as plain memory: 42 numbers of 64 bits each at its place in `places`.
 // The flows' own records are words already, in a lent table (request M-107).
+#![tactic(auto)]
+
 pub mod places;
 
 ghost use Rattle.std.specs.Prelude.{◌≡◌, ◌≤◌, length};

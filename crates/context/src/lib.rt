@@ -1,6 +1,8 @@
 // A context: one to eight flows under one window (request M-107). The flows' records are a lent table, their rings the parts of one lent
 // ring buffer; what is shared is the controller, by value. An event of flow k is the sender's step on flow k's ledger, every other flow
 // as it was.
+#![tactic(auto)]
+
 pub mod choice;
 pub mod entry;
 mod join;

@@ -5,7 +5,7 @@
 -- Assumes nothing.
 use mathlib.Core.Path.{◌≡◌, refl, sym, ap, ap₂, ◌∙◌}
 use mathlib.Core.Logic.{inl, ⊎_elim, by_cases}
-use mathlib.Core.Bool.{Bool, true, false, ◌&&◌, ◌||◌, or_true, false≢true}
+use mathlib.Core.Bool.{Bool, true, false, ◌&&◌, ◌||◌, or-true, false≢true}
 use mathlib.Core.List.Memᴰ
 use mathlib.Core.List.{List, [], ◌∷◌, Memᴰ}
 use Prim.Native.Nat.{ℕ, suc, ◌+◌, ◌-◌, ◌*◌, ◌^◌, ◌≤◌, ◌<◌}
@@ -251,7 +251,7 @@ module _ (o : Others) (n : Ack) (evs next : ℕ) (rest : ℤ) (fields : bad_fiel
           (omega (arith, (goes ds v s.good c' h').1), λ p k. rw (ap (λ (y : Answered). y.number) e, is-n, k))
 
       later : Ends v ds → Ends w (d ∷ ds)
-      later r = (r.0, λ p k. rw (r.1 p k) (or_true (eqb (past_ack d.time d.ack w).number 0 && covers_psn d.ack p)))
+      later r = (r.0, λ p k. rw (r.1 p k) (or-true (eqb (past_ack d.time d.ack w).number 0 && covers_psn d.ack p)))
 
 -- ---- what is covered
 

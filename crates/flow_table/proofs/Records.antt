@@ -2,7 +2,7 @@
 -- from the other.
 -- Assumes nothing.
 use mathlib.Core.Path.{◌≡◌, refl, sym, ap, ◌∙◌}
-use mathlib.Core.Bool.{false, and_false}
+use mathlib.Core.Bool.{false, and-false}
 use mathlib.Core.List.{List, [], ◌∷◌, ◌++◌}
 use Prim.Native.Nat.{ℕ, zero, suc, ◌+◌, ◌*◌, ◌/◌, ◌%◌, ◌<◌}
 use native.Mathlib.Omega.{arith}
@@ -35,7 +35,7 @@ words_table fs =
 
 pub many_no_table : (fs : List Flow) → flows_most < length fs → is_table (words_of fs) ≡ false
 unfolding inside
-many_no_table fs many = words_table fs ∙ rw (lt-leb (length fs) flows_most many) (and_false (leb 1 (length fs)))
+many_no_table fs many = words_table fs ∙ rw (lt-leb (length fs) flows_most many) (and-false (leb 1 (length fs)))
 
 -- a word of flow k + 1 is one of flow k, four words on
 later : (k i : ℕ) → word_place (suc k) i ≡ suc (suc (suc (suc (word_place k i))))

@@ -1,6 +1,8 @@
 // The table of flow records (request M-107): "Each flow has its own ring, low, next, held count and backlog; they sit in a lent table of
 // flow records, one to eight". Here it is lent as words of 64 bits, four a flow: low, next, the held count, the backlog. Inner steps: the
 // caller proves that there is the flow.
+#![tactic(auto)]
+
 pub mod lent;
 
 ghost use Rattle.std.specs.Prelude.{◌≡◌, ◌<◌};

@@ -2,7 +2,7 @@
 -- covered of the first k packets has lost its bits and has left the totals.
 -- Assumes nothing.
 use Rattle.std.proofs.Common.{◌≡◌, ℕ, zero, suc, ◌+◌, ◌-◌, ◌*◌, ◌/◌, ◌%◌, ◌^◌, ◌<◌, ◌≤◌, Bool, true, false, not, ◌&&◌, ltb, ◌⊎◌, List, length, get_or, take, set, sym, refl, ap, ◌∙◌, subst, ap₂, inl, inr, ⊎_elim, zero-le, add-zero, arith, length-set, le-ltb, lt-ltb}
-use mathlib.Core.Bool.{and_true, false≢true}
+use mathlib.Core.Bool.{and-true, false≢true}
 use mathlib.Core.Logic.{by_cases}
 use native.Mathlib.Decide.{dec_lt}
 use lib.ListN.{get_or-eq_default}
@@ -196,7 +196,7 @@ mask_is low cum map k i psn word ep ew =
           ∙ value_bit (λ j. covered cum map (plus psn j)) 64 j (omega arith)
           ∙ ap (covered cum map) (ap (λ (p : ℕ). plus p j) ep ∙ plus_plus low k j))
           (lt-ltb (i % 64 + j) 64 h)
-          ∙ and_true (covered cum map (plus low (k + j)));
+          ∙ and-true (covered cum map (plus low (k + j)));
       spares =
           λ s h.
           bit_mod (word * 2 ^ (i % 64)) 64 s ∙ ap (λ (x : Bool). x && ltb s 64) (bit_shl_below word (i % 64) s h);

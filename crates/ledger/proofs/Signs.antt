@@ -2,7 +2,7 @@
 -- kept by what the rows leave, and it fits the machine's signed word.
 -- Assumes nothing.
 use Rattle.std.proofs.Common.{◌≡◌, ℕ, zero, suc, ◌+◌, ◌-◌, ◌^◌, ◌<◌, ◌≤◌, Bool, true, false, T, ltb, leb, ◌⊎◌, ℤ, pos, negsuc, ◌+ℤ◌, ◌-ℤ◌, nat_abs, sym, refl, ap, ◌∙◌, inl, inr, ⊎_elim, arith, w64, Fits, SFits, to_z, of_z, ltb-false, ltb-true, leb-true}
-use mathlib.Core.Bool.{and_true}
+use mathlib.Core.Bool.{and-true}
 use lib.IntN.{sub_ℕ, +ℤ_idr}
 use lib.Signed.{le_z, lt_z, non_neg}
 use mir.ValLaws.{to_z-of_z, to_z_pos}
@@ -128,7 +128,7 @@ module _ (z : ℤ) (n : ℕ) (f : Flown (2 ^ 26) z) (few : n < 2 ^ 32) where
 pub bounds_below : (maxwnd : ℕ) (z : ℤ) → lt_z z (pos 0) ≡ true → le_z in_flight_least z ≡ in_bounds maxwnd z
 unfolding in_bounds
 bounds_below maxwnd (pos a) e = absurd (omega (arith, ltb-true a 0 e))
-bounds_below maxwnd (negsuc a) e = sym (and_true (leb a (2 ^ 24 - 1)))
+bounds_below maxwnd (negsuc a) e = sym (and-true (leb a (2 ^ 24 - 1)))
 
 pub bounds_above : (maxwnd : ℕ) (z : ℤ) → SFits w64 z → lt_z z (pos 0) ≡ false
     → (T (non_neg z) × Fits w64 (nat_abs z)) × (leb (nat_abs z) maxwnd ≡ in_bounds maxwnd z)

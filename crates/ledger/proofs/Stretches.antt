@@ -1,7 +1,7 @@
 -- Stretches of slots that lie beside each other, and words of bits: how their tests and sums go on slot by slot and word by word.
 -- Assumes nothing.
 use Rattle.std.proofs.Common.{◌≡◌, ℕ, zero, suc, ◌+◌, ◌-◌, ◌*◌, ◌/◌, ◌%◌, ◌^◌, ◌<◌, ◌≤◌, min, Bool, true, false, not, ◌&&◌, eqb, ltb, leb, List, get_or, sym, refl, ap, ◌∙◌, ap₂, ⊎_elim, zero-le, not-suc-le-zero, add-zero, eq-or-lt_of_le, pow-suc, arith, lit<, pow_pos, pow_mono, shl_exact, ltb-true, le-ltb, lt-ltb, eq-eqb, ne_eqb, eqb-true, le-leb, leb-false, leb-true}
-use mathlib.Core.Bool.{and_true, and_false}
+use mathlib.Core.Bool.{and-true, and-false}
 use mathlib.Core.Logic.{by_cases}
 use native.Mathlib.Decide.{dec_lt}
 use lib.Bits.{bit_and, bit_or, and_lt}
@@ -271,13 +271,13 @@ stray_none w from to q =
 
 module _ (w from to q j : ℕ) where
   stray_in : from ≤ q * 64 + j → q * 64 + j < to → stray w from to q j ≡ bit w j
-  stray_in a b = rw (le-ltb (q * 64 + j) from a, lt-ltb (q * 64 + j) to b) (and_true (bit w j && true) ∙ and_true (bit w j))
+  stray_in a b = rw (le-ltb (q * 64 + j) from a, lt-ltb (q * 64 + j) to b) (and-true (bit w j && true) ∙ and-true (bit w j))
 
   stray_before : q * 64 + j < from → stray w from to q j ≡ false
-  stray_before a = rw (lt-ltb (q * 64 + j) from a, and_false (bit w j)) refl
+  stray_before a = rw (lt-ltb (q * 64 + j) from a, and-false (bit w j)) refl
 
   stray_behind : to ≤ q * 64 + j → stray w from to q j ≡ false
-  stray_behind a = rw (le-ltb (q * 64 + j) to a) (and_false (bit w j && not (ltb (q * 64 + j) from)))
+  stray_behind a = rw (le-ltb (q * 64 + j) to a) (and-false (bit w j && not (ltb (q * 64 + j) from)))
 
 -- a word more of a test that no bit is set
 pub none_word : (ws : List ℕ) (from to q : ℕ) (s : Bool) → s ≡ all_in (clear_at ws) from (min to (q * 64))
@@ -377,9 +377,9 @@ module _ (w : ℕ) (h : w < 2 ^ 64) (n : w ≡ 0 → ⊥) (adds : ℕ → ℕ) w
       (sum_but_lem (λ j. if_so (bit w j) (adds j) 0) (λ j. if_so (bit v j) (adds j) 0) 64 r l
       (λ k u d.
       ap (λ (b : Bool). if_so b (adds k) 0)
-      (sym (without_bit w (1 * 2 ^ r) k u ∙ ap (λ (b : Bool). bit w k && not b) (one_other r k d) ∙ and_true (bit w k))))
+      (sym (without_bit w (1 * 2 ^ r) k u ∙ ap (λ (b : Bool). bit w k && not b) (one_other r k d) ∙ and-true (bit w k))))
       (ap (λ (b : Bool). if_so b (adds r) 0)
-      (without_bit w (1 * 2 ^ r) r l ∙ ap (λ (b : Bool). bit w r && not b) (one_same r) ∙ and_false (bit w r)))
+      (without_bit w (1 * 2 ^ r) r l ∙ ap (λ (b : Bool). bit w r && not b) (one_same r) ∙ and-false (bit w r)))
       ∙ ap (λ (b : Bool). sum_to (λ j. if_so (bit v j) (adds j) 0) 64 + if_so b (adds r) 0) set)
 
 -- no bit adds nothing

@@ -1,7 +1,7 @@
 -- Laws of walks: a test at each of the first n numbers, what the packets of a queue add up to, a table of a function's values.
 -- Assumes nothing.
 use Rattle.std.proofs.Common.{◌≡◌, ℕ, zero, suc, ◌+◌, ◌*◌, ◌<◌, ◌≤◌, Bool, true, ◌&&◌, List, [], ◌∷◌, ◌++◌, length, get_or, set, sym, refl, ap, subst, ⊎_elim, zero-le, le_refl, le_of_suc-le-suc, not-suc-le-zero, add-zero, add-suc, suc-mul, eq-or-lt_of_le, add-one, arith}
-use mathlib.Core.Bool.{and_true, and_assoc}
+use mathlib.Core.Bool.{and-true, and_assoc}
 use Rattle.rules.specs.Test.{both, whole}
 use Rattle.ledger.specs.Packets.{no_packet, sum_of}
 use Rattle.ledger.specs.Ring.{tabulate}
@@ -42,7 +42,7 @@ all_same f g (suc n) h = rw (all_same f g n (λ k l. h k (omega arith)), h n (le
 pub all_join : (f g h : ℕ → Bool) (j m : ℕ) → ((k : ℕ) → k < j → f k ≡ g k) → ((k : ℕ) → k < m → f (j + k) ≡ h k)
     → all_to f (j + m) ≡ (all_to g j && all_to h m)
 unfolding all_to
-all_join f g h j zero a b = rw (add-zero, and_true) (all_same f g j a)
+all_join f g h j zero a b = rw (add-zero, and-true) (all_same f g j a)
 all_join f g h j (suc m) a b =
     rw (add-suc, all_join f g h j m a (λ k l. b k (omega arith)), b m (le_refl (suc m))) (and_assoc (all_to g j) (all_to h m) (h m))
 

@@ -1,6 +1,8 @@
 // Replays an event log: `nscc LOG`, or `nscc` with the log on standard input; `nscc --help` says what else there is. Messages go to
 // standard error and begin with the program's name. A program here has no exit status: with `--status` it writes one to descriptor 3,
 // for tools/nscc.
+#![tactic(auto)]
+
 mod options;
 
 use crate::options::Options;

@@ -1,5 +1,7 @@
 // The next path: until when each entropy value (EV) is avoided, and which EV is taken next. Document 01, "Next path".
 // `evs[e]` is the time of EV e; there are as many EVs as times are lent.
+#![tactic(auto)]
+
 pub mod single;
 
 ghost use Rattle.std.specs.Prelude.{◌≡◌, ◌+◌, ◌%◌, ◌^◌, ◌<◌, ◌≤◌, ◌++◌, length};

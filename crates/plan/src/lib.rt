@@ -1,6 +1,8 @@
 // Planned sends (request M-111). A plan is up to 64 sends for one instant, lent as numbers of 32 bits, four a send. The judge tells whether
 // each of them, made in that order at that time, would be accepted; the planner writes a plan that is. Both only read state, table, ring
 // buffer and EV times, and keep what the sends would change by value.
+#![tactic(auto)]
+
 mod ahead;
 mod course;
 pub mod judge;

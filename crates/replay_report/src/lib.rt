@@ -1,5 +1,7 @@
 // Request M-105, "A run report for the data sheet": what a log's records were answered, in figures. It stands above the controller and
 // reads only what a turn of a replay promises, and what stands in the log.
+#![tactic(auto)]
+
 pub mod figures;
 
 ghost use Rattle.std.specs.Prelude.{◌≡◌, true, length};

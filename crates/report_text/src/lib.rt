@@ -1,4 +1,6 @@
 // The run report of request M-105 as text, put into a lent buffer: a line for each figure.
+#![tactic(auto)]
+
 pub mod places;
 
 ghost use Rattle.std.specs.Prelude.{◌≡◌, ◌+◌, ◌*◌, ◌≤◌, length};

@@ -1,4 +1,6 @@
 // Choices by a test: the lesser and the greater of two numbers, whether a number lies in a range, and modes; and what a judge answers.
+#![tactic(auto)]
+
 pub mod verdict;
 
 ghost use Rattle.std.specs.Prelude.{◌≡◌, min, max};

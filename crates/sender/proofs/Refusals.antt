@@ -4,7 +4,7 @@
 -- its like), and a number fixes the outcome (`one_outcome`).
 -- Assumes nothing.
 use mathlib.Core.Path.{◌≡◌, refl, sym, ap, ap₂, ◌∙◌}
-use mathlib.Core.Bool.{Bool, true, false, not, ◌&&◌, ◌||◌, and_true, true≢false}
+use mathlib.Core.Bool.{Bool, true, false, not, ◌&&◌, ◌||◌, and-true, true≢false}
 use mathlib.Core.Logic.{◌⊎◌, inl, inr, ⊎_elim}
 use mathlib.Core.List.{List, [], ◌∷◌, ◌++◌, append-nil}
 use Prim.Native.Nat.{ℕ}
@@ -278,7 +278,7 @@ module _ (before fields rest : List Row) (t : Bool) (any : silent fields ≡ not
 -- one field, two and three: 01's test is that one of them applies
 any_one : (a : Bool) (i : ℕ) → silent (row a i ∷ []) ≡ not a
 unfolding silent
-any_one a i = and_true (not a)
+any_one a i = and-true (not a)
 
 any_two : (a b : Bool) (i j : ℕ) → silent (row a i ∷ row b j ∷ []) ≡ not (a || b)
 unfolding silent

@@ -2,7 +2,7 @@
 -- bounds, is sound (`stated_sound`, `settled_sound`). By the laws of `window` and `ledger`.
 -- Assumes nothing.
 use mathlib.Core.Path.{◌≡◌, refl, sym, ap, ap₂, ◌∙◌}
-use mathlib.Core.Bool.{Bool, true, not, ◌&&◌, and_true, and_assoc}
+use mathlib.Core.Bool.{Bool, true, not, ◌&&◌, and-true, and_assoc}
 use mathlib.Core.List.{List, [], ◌∷◌, ◌++◌}
 use Prim.Native.Nat.{ℕ, zero, suc, ◌+◌, ◌-◌, ◌^◌, ◌≤◌, ◌<◌}
 use native.Mathlib.Nat.{not-suc-le-zero, le_of_suc-le-suc}
@@ -68,7 +68,7 @@ times_more ts from k ok h l e =
     let next : k + 1 - from ≡ suc (k - from) = omega arith in
     let here : from + (k - from) ≡ k = omega arith in
     rw (next, take-suc rest (k - from) 0 (omega (arith, length-drop from ts)), get_or-drop from ts (k - from) 0, here)
-    (ap₂ (λ (x y : Bool). x && y) e (sym (and_true (ltb (get_or ts k 0) later_end)))
+    (ap₂ (λ (x y : Bool). x && y) e (sym (and-true (ltb (get_or ts k 0) later_end)))
     ∙ sym (times_append (take (k - from) rest) (get_or ts k 0 ∷ [])))
 
 -- so far so good, and the times from i on: those before `to` are looked at, and found good or not

@@ -1,5 +1,7 @@
 // The sender: what one flow's event does to its own record and ring and to what all flows share. `rely` has the events past number 2;
 // `context` tests number 2 over all flows and has the entry points.
+#![tactic(auto)]
+
 mod judge;
 pub mod look;
 pub mod naming;

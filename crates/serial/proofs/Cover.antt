@@ -2,7 +2,7 @@
 -- comparison at 32 bits, by `wrap`.
 -- Assumes nothing.
 use Rattle.std.proofs.Common.{◌≡◌, ℕ, zero, suc, ◌+◌, ◌-◌, ◌*◌, ◌/◌, ◌%◌, ◌^◌, ◌<◌, ◌≤◌, true, false, ltb, leb, sym, refl, ap, ◌∙◌, lt_of_lt_of_le, add_assoc, pow-suc, le-div_iff_mul-le, not-le_of_lt, arith, pow_pos, pow_mono, ltb-false, le-ltb, lt-ltb, le-leb}
-use mathlib.Core.Bool.{and_false}
+use mathlib.Core.Bool.{and-false}
 use mathlib.Core.Logic.{by_cases}
 use native.Mathlib.Nat.{mod-add-mod, div-eq_of_lt, div-eq_of_lt-le}
 use native.Mathlib.Decide.{dec_le, dec_lt}
@@ -100,7 +100,7 @@ bit_beyond map i h =
     (λ l.
     let s = leading_length 64 map l in
     let m : s.0 ≤ i = omega (arith, s.1) in
-    rw (div-eq_of_lt (lt_of_lt_of_le s.2 (pow_mono m))) (and_false (ltb i 64)))
+    rw (div-eq_of_lt (lt_of_lt_of_le s.2 (pow_mono m))) (and-false (ltb i 64)))
     (λ g. simp (le-ltb i 64 (omega (arith, leading_none 64 map (omega arith)))))
 
 -- .. and the last one before it is: `span_of` ends at the highest set bit

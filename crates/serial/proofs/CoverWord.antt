@@ -1,7 +1,7 @@
 -- What an ACK covers of the 64 PSNs from psn on, as a word: by how far psn lies behind cum, or the map's first bit ahead of it.
 -- Assumes nothing.
 use Rattle.std.proofs.Common.{◌≡◌, ℕ, ◌+◌, ◌-◌, ◌*◌, ◌/◌, ◌%◌, ◌^◌, ◌<◌, ◌≤◌, Bool, true, ◌&&◌, ◌||◌, ltb, ◌⊎◌, sym, ap, ◌∙◌, ⊎_elim, mod-lt, one-mul, arith, lit<, pow_pos, shl_exact, le-ltb, lt-ltb, le-leb}
-use mathlib.Core.Bool.{and_true}
+use mathlib.Core.Bool.{and-true}
 use mathlib.Core.Logic.{by_cases}
 use native.Mathlib.Decide.{dec_lt}
 use borrow.Author.Tests.{lt-leb}
@@ -116,7 +116,7 @@ module _ (cum map psn : ℕ) (m : map < 2 ^ 64) where
           (λ l. rw (lt-ltb j n l) (sym (by_cum cum map psn j near (omega arith))))
           (λ g.
           let e : n + (j - n) ≡ j = omega arith in
-          rw (le-ltb j n (omega arith), lt-ltb j 64 h) (and_true (bit (map * 2 ^ n) j)
+          rw (le-ltb j n (omega arith), lt-ltb j 64 h) (and-true (bit (map * 2 ^ n) j)
           ∙ ap (bit (map * 2 ^ n)) (sym e)
           ∙ bit_shl_above map n (j - n)
           ∙ sym (by_map cum map psn j near (omega arith) h m)))

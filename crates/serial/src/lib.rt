@@ -1,5 +1,7 @@
 // Wrapped numbers: packet sequence numbers (32 bits), received counts (24 bits), and what an ACK covers.
 // Document 01, "The ledger". Each function answers for every argument.
+#![tactic(auto)]
+
 ghost use Rattle.std.specs.Prelude.{◌≡◌, ◌+◌, ◌≤◌, ◌⊎◌};
 ghost use Rattle.serial.specs.Wrap.{minus};
 ghost use Rattle.bits.specs.Bits.{word_bits, word_of};

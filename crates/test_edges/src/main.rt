@@ -1,5 +1,7 @@
 // Makes the calls that its standard input asks for, at every edge of document 01, and writes what each is answered. A line is a case: its
 // name, a refusal's number first, and in parentheses the call in words and numbers (`words`). Output is that line, a colon and the answer.
+#![tactic(auto)]
+
 mod bench;
 mod calls;
 mod cases;

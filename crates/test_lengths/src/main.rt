@@ -1,4 +1,6 @@
 // Lends slices of every wrong length to every entry point of a context and writes what it is answered, one case a line.
+#![tactic(auto)]
+
 mod calls;
 mod cases;
 mod lines;

@@ -1,4 +1,6 @@
 // Replays the bundled logs, which its arguments name, one after another, and writes each back from its records (request M-110).
+#![tactic(auto)]
+
 use libc::STDOUT_FILENO;
 use log_records::back::write_back;
 use replay_stream::{Input, Task};

@@ -1,7 +1,7 @@
 -- The tests of refusals 1 and 2 hold exactly where the facts do; the fresh window is sound; a sample exists exactly as document 01 has it.
 -- Assumes nothing.
 use mathlib.Core.Path.{◌≡◌, refl, sym, ap, ◌∙◌}
-use mathlib.Core.Bool.{Bool, true, false, ◌&&◌, ◌||◌, and_true}
+use mathlib.Core.Bool.{Bool, true, false, ◌&&◌, ◌||◌, and-true}
 use mathlib.Core.Logic.{◌⊎◌, inl, inr}
 use Prim.Native.Nat.{ℕ, ◌+◌, ◌-◌, ◌≤◌, ◌<◌, min}
 use lib.Dec.{ltb, eqb}
@@ -72,7 +72,7 @@ module _ (s : Settings) (b : Bool) (fits : s.t_reroute < reroute_end) where
   pub profile_off : is_single s ≡ false → b ≡ is_mode s.single_path → b ≡ is_profile s
   unfolding is_profile
   profile_off off e =
-      e ∙ rw (← so_no (is_single s) true ranged true off refl, lt-ltb s.t_reroute reroute_end fits, and_true, and_true) refl
+      e ∙ rw (← so_no (is_single s) true ranged true off refl, lt-ltb s.t_reroute reroute_end fits, and-true, and-true) refl
 
 -- in the single-path profile t_reroute is at least 10 and at most 1,000; it is one of 32 bits in any case
 module _ (s : Settings) (e : is_profile s ≡ true) where

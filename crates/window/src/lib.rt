@@ -1,5 +1,7 @@
 // The NSCC window: document 01, "Samples and delay" and "The window, in order". A rule bears its name in UET 3.6.13.6.
 // Everything goes by value. The ledger's step comes first and is not here: it hands in what it found (newly, in-flight).
+#![tactic(auto)]
+
 pub mod adjust;
 pub mod bounds;
 pub mod cases;

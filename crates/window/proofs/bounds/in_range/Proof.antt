@@ -1,6 +1,6 @@
 -- `in_range` tests every range, by what `numbers_in` and the tests of the flags and the number of EVs tell; the first PSN is a word of 32
 -- bits.
-use mathlib.Core.Bool.{and_true}
+use mathlib.Core.Bool.{and-true}
 use Prim.Native.Nat.{◌<◌}
 use native.Mathlib.Omega.{arith}
 use borrow.Author.Rules.{rules}
@@ -27,7 +27,7 @@ is-profile-requires c κs = search rules
 
 returns : tie.Need-returns
 unfolding in_range
-returns c = let s = c.before.before.before.before in rw (lt-ltb s.args.s.first_psn psns (psn_fits s), and_true) (cc)
+returns c = let s = c.before.before.before.before in rw (lt-ltb s.args.s.first_psn psns (psn_fits s), and-true) (cc)
 
 pub in-range-spec : {M : Type 1} → statement M
 in-range-spec =

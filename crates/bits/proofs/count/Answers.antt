@@ -2,16 +2,12 @@
 use lib.Bits.{bit_and, and_lt}
 use lib.Count.{ones-le}
 use Rattle.bits.proofs.Words.{count_both}
-use Rattle.bits.proofs.count.Statement.{statement}
-use Rattle.bits.proofs.count.Tie as tie
+use Rattle.bits.proofs.count.Goals as goal
 
-returns : tie.Need-returns
+pub returns : goal.returns
 returns c =
     let w = c.args.word in
     let m = c.args.mask in
     let hw = c.ranges.word.fits in
     let hm = c.ranges.mask.fits in
     (count_both w m hw hm, ones-le 64 (bit_and w m) (and_lt 64 w m hw hm))
-
-pub count_spec : {M : Type 1} → statement M
-count_spec = tie.close (tie.spec returns)

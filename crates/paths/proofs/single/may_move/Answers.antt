@@ -1,8 +1,7 @@
 -- `may_move` is the rule's test: t_reroute is a word of 32 bits, so that the product fits.
 use Rattle.std.proofs.Common.{ℕ, ◌*◌, ◌^◌, ◌<◌, ◌≤◌, mul-le-mul, arith, lit≤, rules}
 use Rattle.paths.specs.Single.{may_move}
-use Rattle.paths.proofs.single.may_move.Statement.{statement}
-use Rattle.paths.proofs.single.may_move.Tie as tie
+use Rattle.paths.proofs.single.may_move.Goals as goal
 
 fits : (a b : ℕ) → a ≤ 2 ^ 32 → b ≤ 2 ^ 14 → a * b < 2 ^ 64
 fits a b h g =
@@ -10,15 +9,9 @@ fits a b h g =
     let q : (2 ^ 32) * (2 ^ 14) ≤ 2 ^ 46 = lit≤ tt in
     omega arith
 
-mul-result : tie.Need-overflow-mul-result
-mul-result c = omega (arith, fits c.args.t_reroute c.args.base (omega arith) (omega arith))
+pub overflow_mul-result : goal.overflow_mul-result
+overflow_mul-result c = omega (arith, fits c.args.t_reroute c.args.base (omega arith) (omega arith))
 
-sub-result : tie.Need-overflow-sub-result
-sub-result c = search rules
-
-returns : tie.Need-returns
+pub returns : goal.returns
 unfolding may_move
 returns c = search rules
-
-pub may-move-spec : {M : Type 1} → statement M
-may-move-spec = tie.close (tie.spec mul-result sub-result returns)
