@@ -16,8 +16,9 @@ use Rattle.window.specs.Sound.{SoundWindow, Kept}
 use Rattle.window.specs.Fields.{with_ignored, with_trigger}
 use Rattle.window.specs.Delays.{Sampled, avg_delay_of, update_delay_of, update_base_rtt_of, measure_of}
 use Rattle.window.specs.Quick.{above_zero, fires_of, fire_of, restart_of, quick_adapt_of}
-use Rattle.window.specs.Cases.{add_to_tally_of, count_newly_of, leave_fast_mode_of, raise_cwnd_of, is_near, fast_increase_of, add_inc_bytes_of}
-use Rattle.window.specs.Cases.{proportional_increase_of, fair_increase_of, factor_of, may_decrease, multiplicative_decrease_of, respond_of}
+use Rattle.window.specs.Cases.{add_to_tally_of, count_newly_of, leave_fast_mode_of, raise_cwnd_of, is_near, fast_increase_of}
+use Rattle.window.specs.Cases.{add_inc_bytes_of, proportional_increase_of, fair_increase_of, factor_of, may_decrease}
+use Rattle.window.specs.Cases.{multiplicative_decrease_of, respond_of}
 use Rattle.window.specs.Adjust.{enough_received, period_passed, fulfill_adjustment_of, adjust_of}
 use Rattle.window.specs.Events.{go_on_of, react_of, ack_of, shrink_of, loss_of, feed_trimmed_of, is_trimmed, nack_of}
 use Rattle.window.specs.declared.Settings.{Settings}

@@ -79,7 +79,8 @@ module _ (s : Settings) (e : is_profile s ≡ true) where
   pub reroute_bounds : is_single s ≡ true → (reroute_least ≤ s.t_reroute) × (s.t_reroute ≤ reroute_most)
   unfolding is_profile
   reroute_bounds single =
-      inside_tells reroute_least s.t_reroute reroute_most (so_yes (is_single s) _ _ true single refl ∙ (both (is_mode s.single_path && ltb s.t_reroute reroute_end) _ e).1)
+      let ranged = (both (is_mode s.single_path && ltb s.t_reroute reroute_end) _ e).1 in
+      inside_tells reroute_least s.t_reroute reroute_most (so_yes (is_single s) _ _ true single refl ∙ ranged)
 
   flagged : (is_mode s.single_path && ltb s.t_reroute reroute_end) ≡ true
   unfolding is_profile

@@ -5,7 +5,8 @@ use Rattle.rules.specs.Branch.{if_so, if_lt}
 use Rattle.rules.specs.Mode.{off, on, is_on}
 use Rattle.window.specs.Limits.{parts, tally_stop, inc_stop, near_part, max_wnd_of}
 use Rattle.window.specs.Delays.{avg_delay_of}
-use Rattle.window.specs.Fields.{with_cwnd, with_inc_bytes, with_received, with_achieved, with_ignored, with_fi_count, with_fast, with_last_dec}
+use Rattle.window.specs.Fields.{with_cwnd, with_inc_bytes, with_received, with_achieved, with_ignored, with_fi_count}
+use Rattle.window.specs.Fields.{with_fast, with_last_dec}
 use Rattle.window.specs.declared.Settings.{Settings}
 use Rattle.window.specs.declared.Window.{Window}
 

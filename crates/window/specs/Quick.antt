@@ -3,7 +3,8 @@
 use Rattle.std.specs.Prelude.{Bool, true, false, not, ◌&&◌, ◌||◌, ℕ, ◌+◌, max, ltb, eqb, ℤ, pos, negsuc}
 use Rattle.rules.specs.Branch.{if_so}
 use Rattle.rules.specs.Mode.{off, is_on}
-use Rattle.window.specs.Fields.{with_cwnd, with_achieved, with_ignored, with_bytes_to_ignore, with_fi_count, with_fast, with_trigger, with_qa_end}
+use Rattle.window.specs.Fields.{with_cwnd, with_achieved, with_ignored, with_bytes_to_ignore, with_fi_count}
+use Rattle.window.specs.Fields.{with_fast, with_trigger, with_qa_end}
 use Rattle.window.specs.declared.Settings.{Settings}
 use Rattle.window.specs.declared.Window.{Window}
 use Rattle.window.specs.declared.Adapted.{Adapted}

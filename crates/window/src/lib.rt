@@ -65,7 +65,7 @@ pub const FEED_PART: u64 = 4;
 pub const FEED_REACH: u64 = 5;
 
 // The settings, in document 01's order. Quick adapt is off by a mode.
-#[derive(Drop)]
+#[derive(Clone, Copy)]
 pub struct Settings {
     pub mtu: u64,
     pub maxwnd: u64,
@@ -90,7 +90,7 @@ pub struct Settings {
 
 // What the window rules hold between events. `avg` is in 1/1,024 tick; `qa_end` is quick adapt's end; `fast` is fast mode.
 // Modes are `rules::ON` or `rules::OFF`.
-#[derive(Drop)]
+#[derive(Clone, Copy)]
 pub struct Window {
     pub cwnd: u64,
     pub base: u64,
@@ -109,14 +109,14 @@ pub struct Window {
 }
 
 // A round-trip sample: how many ticks, or none.
-#[derive(Drop)]
+#[derive(Clone, Copy)]
 pub enum Sample {
     Ticks(u64),
     Absent,
 }
 
 // What the sample step says, by request M-103. The last three, in the order in which they are tested, say why there is no sample.
-#[derive(Drop)]
+#[derive(Clone, Copy)]
 pub enum Sampling {
     // A sample of so many ticks.
     Taken(u64),
@@ -131,14 +131,14 @@ pub enum Sampling {
 }
 
 // A window once the sample is taken and the filter fed, and the delay that the rules go on with.
-#[derive(Drop)]
+#[derive(Clone, Copy)]
 pub struct Delayed {
     pub window: Window,
     pub delay: u64,
 }
 
 // A window after quick adapt, and whether it fired.
-#[derive(Drop)]
+#[derive(Clone, Copy)]
 pub struct Adapted {
     pub window: Window,
     pub fired: bool,

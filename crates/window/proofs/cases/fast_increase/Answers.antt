@@ -1,0 +1,28 @@
+-- `fast_increase` takes the cases of its definition, branch by branch.
+use Rattle.rules.specs.Branch.{branches}
+use Rattle.window.specs.Cases.{fast_increase_of}
+use Rattle.window.proofs.cases.fast_increase.Goals as goal
+
+pub returns-then-is_on : goal.returns-then-is_on
+unfolding fast_increase_of
+returns-then-is_on c =
+    simp (← c.is_near.ensures, ← c.is_on.ensures, ← c.raise_cwnd.ensures)
+    (search (branches, c.if-is_near.true, c.if-is_on.true) depth 12)
+
+pub returns-then-more-cwnd : goal.returns-then-more-cwnd
+unfolding fast_increase_of
+returns-then-more-cwnd c =
+    simp (← c.is_near.ensures, ← c.is_on.ensures, ← c.add_to_tally-more.ensures, ← c.raise_cwnd-n.ensures)
+    (search (branches, c.if-is_near.true, c.if-is_on.false, c.if-more-cwnd.true) depth 12)
+
+pub returns-then-is_near : goal.returns-then-is_near
+unfolding fast_increase_of
+returns-then-is_near c =
+    simp (← c.is_near.ensures, ← c.is_on.ensures, ← c.add_to_tally-more.ensures)
+    (search (branches, c.if-is_near.true, c.if-is_on.false, c.if-more-cwnd.false) depth 12)
+
+pub returns : goal.returns
+unfolding fast_increase_of
+returns c =
+    simp (← c.is_near.ensures, ← c.leave_fast_mode.ensures)
+    (search (branches, c.if-is_near.false) depth 12)
