@@ -56,7 +56,7 @@ called n ws fs r t = record { number = n; words = ws; flows = fs; slots = r; tim
 -- the same as a call leaves what it was lent
 abbrev pub called_after : ℕ → LentSlice → LentSlice → LentSlice → LentSlice → LentSlice → LentSlice → LentSlice → Called
 called_after n state flows outstanding marked sizes sent evs =
-    called n state.exit.now flows.exit.now (memory_after outstanding marked sizes sent) evs.exit.now
+    called n state flows (memory_after outstanding marked sizes sent) evs
 
 -- the words once an event was answered: those of the state where it was accepted, else as they were
 unfoldable pub words_after : ℕ → List ℕ → Controller → List ℕ

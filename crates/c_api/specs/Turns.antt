@@ -31,7 +31,7 @@ choosing n ws turn = record { number = n; words = ws; turn = turn }
 
 -- the same as a call leaves what it was lent
 abbrev pub choosing_after : ℕ → LentSlice → LentSlice → Choosing
-choosing_after n state turn = choosing n state.exit.now turn.exit.now
+choosing_after n state turn = choosing n state turn
 
 -- the four words once a choice was answered: where it was refused, as they were
 unfoldable pub turn_after : ℕ → List ℕ → Option Turn → List ℕ

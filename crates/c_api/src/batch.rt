@@ -89,9 +89,9 @@ pub extern "C" fn nscc_replay(
     answers: &mut [u64],
 ) -> u32
     ensures { replay_called result place.new state.new
-        flows.new (memory_after outstanding marked sizes sent) evs.new answers.new
+        flows.new (memory_after outstanding.new marked.new sizes.new sent.new) evs.new answers.new
         ≡ on_replay_words log.now place.old state.old
-        flows.old (memory_before outstanding marked sizes sent) evs.old answers.old }
+        flows.old (memory_before outstanding.old marked.old sizes.old sent.old) evs.old answers.old }
 {
     if !is_lent(place, state) {
         return number_of(Verdict::Unsound);

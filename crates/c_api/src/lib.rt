@@ -48,8 +48,8 @@ fn take<'a, 'b, 'c, 'd, 'e, 'f, 'g>(
     sent: &'f mut [u64],
     evs: &'g mut [u64],
 ) -> u64
-    ensures { called_after result state flows outstanding marked sizes sent evs
-        ≡ on_event_words event state.old flows.old (memory_before outstanding marked sizes sent) evs.old }
+    ensures { called_after result state.new flows.new outstanding.new marked.new sizes.new sent.new evs.new
+        ≡ on_event_words event state.old flows.old (memory_before outstanding.old marked.old sizes.old sent.old) evs.old }
 {
     let given = c_state::unpack(state);
     if !given.good {
@@ -81,9 +81,9 @@ pub extern "C" fn nscc_set_up(
     sent: &mut [u64],
     evs: &mut [u64],
 ) -> u32
-    ensures { called_after result state flows outstanding marked sizes sent evs
+    ensures { called_after result state.new flows.new outstanding.new marked.new sizes.new sent.new evs.new
         ≡ on_set_up_words settings.now first_psn (mode_of quick_adapt_off) ev_count (mode_of single_path) t_reroute
-        state.old flows.old (memory_before outstanding marked sizes sent) evs.old }
+        state.old flows.old (memory_before outstanding.old marked.old sizes.old sent.old) evs.old }
 {
     if settings.len() != c_state::SETTINGS {
         return number_of(Verdict::Unsound);
@@ -119,8 +119,8 @@ pub extern "C" fn nscc_new_data(
     flow: usize,
     bytes: u64,
 ) -> u32
-    ensures { called_after result state flows outstanding marked sizes sent evs
-        ≡ on_words state.old flows.old (memory_before outstanding marked sizes sent) evs.old
+    ensures { called_after result state.new flows.new outstanding.new marked.new sizes.new sent.new evs.new
+        ≡ on_words state.old flows.old (memory_before outstanding.old marked.old sizes.old sent.old) evs.old
         (on_new_data time flow bytes) }
 {
     take(
@@ -151,8 +151,8 @@ pub extern "C" fn nscc_send(
     bytes: u32,
     resend: bool,
 ) -> u32
-    ensures { called_after result state flows outstanding marked sizes sent evs
-        ≡ on_words state.old flows.old (memory_before outstanding marked sizes sent) evs.old
+    ensures { called_after result state.new flows.new outstanding.new marked.new sizes.new sent.new evs.new
+        ≡ on_words state.old flows.old (memory_before outstanding.old marked.old sizes.old sent.old) evs.old
         (on_send time flow (send_by psn bytes resend)) }
 {
     let a = Send {
@@ -193,8 +193,8 @@ pub extern "C" fn nscc_ack(
     m_flag: bool,
     retx: bool,
 ) -> u64
-    ensures { called_after result state flows outstanding marked sizes sent evs
-        ≡ on_beside_words state.old flows.old (memory_before outstanding marked sizes sent) evs.old
+    ensures { called_after result state.new flows.new outstanding.new marked.new sizes.new sent.new evs.new
+        ≡ on_beside_words state.old flows.old (memory_before outstanding.old marked.old sizes.old sent.old) evs.old
         (ack_beside time flow (ack_by cum map trigger count service ev m_flag retx)) }
 {
     let a = Ack {
@@ -237,8 +237,8 @@ pub extern "C" fn nscc_nack(
     m_flag: bool,
     retx: bool,
 ) -> u64
-    ensures { called_after result state flows outstanding marked sizes sent evs
-        ≡ on_beside_words state.old flows.old (memory_before outstanding marked sizes sent) evs.old
+    ensures { called_after result state.new flows.new outstanding.new marked.new sizes.new sent.new evs.new
+        ≡ on_beside_words state.old flows.old (memory_before outstanding.old marked.old sizes.old sent.old) evs.old
         (nack_beside time flow (nack_by psn ev reason m_flag retx)) }
 {
     let a = Nack {
@@ -275,8 +275,8 @@ pub extern "C" fn nscc_loss(
     psn: u32,
     ev: u32,
 ) -> u32
-    ensures { called_after result state flows outstanding marked sizes sent evs
-        ≡ on_words state.old flows.old (memory_before outstanding marked sizes sent) evs.old
+    ensures { called_after result state.new flows.new outstanding.new marked.new sizes.new sent.new evs.new
+        ≡ on_words state.old flows.old (memory_before outstanding.old marked.old sizes.old sent.old) evs.old
         (on_loss time flow (loss_by psn ev)) }
 {
     take(
@@ -304,8 +304,8 @@ pub extern "C" fn nscc_path(
     time: u64,
     flow: usize,
 ) -> u64
-    ensures { called_after result state flows outstanding marked sizes sent evs
-        ≡ on_beside_words state.old flows.old (memory_before outstanding marked sizes sent) evs.old
+    ensures { called_after result state.new flows.new outstanding.new marked.new sizes.new sent.new evs.new
+        ≡ on_beside_words state.old flows.old (memory_before outstanding.old marked.old sizes.old sent.old) evs.old
         (path_beside time flow) }
 {
     take(
@@ -332,8 +332,8 @@ pub extern "C" fn nscc_move(
     evs: &mut [u64],
     time: u64,
 ) -> u32
-    ensures { called_after result state flows outstanding marked sizes sent evs
-        ≡ on_words state.old flows.old (memory_before outstanding marked sizes sent) evs.old
+    ensures { called_after result state.new flows.new outstanding.new marked.new sizes.new sent.new evs.new
+        ≡ on_words state.old flows.old (memory_before outstanding.old marked.old sizes.old sent.old) evs.old
         (on_move time 0) }
 {
     take(

@@ -34,7 +34,7 @@ pub extern "C" fn nscc_status<'a>(
 ) -> u64
     ensures { result
         ≡ on_look_words (on_status flow psn) state.now flows.now
-        (memory_before outstanding marked sizes sent) evs.now }
+        (memory_before outstanding.now marked.now sizes.now sent.now) evs.now }
 {
     let given = c_state::unpack(state);
     if !given.good {
@@ -59,7 +59,7 @@ pub extern "C" fn nscc_next_marked<'a>(
 ) -> u64
     ensures { result
         ≡ on_look_words (on_next_marked flow psn) state.now flows.now
-        (memory_before outstanding marked sizes sent) evs.now }
+        (memory_before outstanding.now marked.now sizes.now sent.now) evs.now }
 {
     let given = c_state::unpack(state);
     if !given.good {

@@ -104,9 +104,9 @@ pub extern "C" fn nscc_chunk(
     answers: &mut [u64],
 ) -> u32
     ensures { chunk_called result part.new piece.new state.new
-        flows.new (memory_after outstanding marked sizes sent) evs.new answers.new
+        flows.new (memory_after outstanding.new marked.new sizes.new sent.new) evs.new answers.new
         ≡ on_chunk_words chunk.now ended part.old piece.old state.old
-        flows.old (memory_before outstanding marked sizes sent) evs.old answers.old }
+        flows.old (memory_before outstanding.old marked.old sizes.old sent.old) evs.old answers.old }
 {
     if !is_lent(part, state) {
         return number_of(Verdict::Unsound);

@@ -22,7 +22,7 @@ pub extern "C" fn nscc_judge<'a>(
 ) -> u64
     ensures { result
         ≡ on_judge_words time plan.now state.now flows.now
-        (memory_before outstanding marked sizes sent) evs.now }
+        (memory_before outstanding.now marked.now sizes.now sent.now) evs.now }
 {
     if plan.len() % SEND_WORDS != 0 {
         return number_of(Verdict::Unsound) as u64;
@@ -54,7 +54,7 @@ pub extern "C" fn nscc_plan<'a, 'b>(
 ) -> u64
     ensures { plan_called result plan.new
         ≡ on_plan_words time bytes plan.old state.now flows.now
-        (memory_before outstanding marked sizes sent) evs.now }
+        (memory_before outstanding.now marked.now sizes.now sent.now) evs.now }
 {
     let given = c_state::unpack(state);
     if !given.good {

@@ -45,8 +45,8 @@ pub extern "C" fn nscc_choose<'a, 'b, 'c>(
     evs: &'b [u64],
     turn: &'c mut [u64],
 ) -> u32
-    ensures { choosing_after result state turn
-        ≡ on_choose_words state.old flows.now (memory_before outstanding marked sizes sent) evs.now
+    ensures { choosing_after result state.new turn.new
+        ≡ on_choose_words state.old flows.now (memory_before outstanding.now marked.now sizes.now sent.now) evs.now
         turn.old }
 {
     if turn.len() != TURN_WORDS {

@@ -33,7 +33,7 @@ pub const IN_FLIGHT_END: u64 = (1 << 26) + (1 << 24) + 1;
 pub const FIELD_END: u64 = 1 << 32;
 
 // A state, where the words are those of one; else a state of zeros.
-#[derive(Drop)]
+#[derive(Clone, Copy)]
 pub struct Unpacked {
     pub good: bool,
     pub state: Controller,

@@ -3,8 +3,6 @@
 -- on the context whose table is the records' words; the step between them has the table by value.
 -- Assumes nothing.
 use Rattle.std.specs.Prelude.{List, ℕ, ◌*◌, take}
-use Rattle.std.specs.Borrow.{Bor}
-use denote.Triple.Both.{Both}
 use Rattle.rules.specs.Branch.{if_lt}
 use Rattle.ledger.specs.Memory.{Memory}
 use Rattle.ledger.specs.Lent.{LentSlice, memory_before, memory_after}
@@ -36,19 +34,19 @@ in_records r = tabled r.number r.after.state (flows_of r.after.flows) r.after.sl
 abbrev pub route_answer : Routing → Answered
 route_answer r = record { number = r.number; after = r.after }
 
--- a table before and after the call, as an `ensures` sees it
+-- a table before or after the call, as an `ensures` sees it
 abbrev pub LentRecords : Type 0
-LentRecords = Both (Bor (List Flow)) (Bor (List Flow))
+LentRecords = List Flow
 
 -- the context whose table is the records' words, as it is handed in. More than eight records are no table's words: 2
 abbrev pub words_before : Controller → LentRecords → LentSlice → LentSlice → LentSlice → LentSlice → LentSlice → Context
 words_before c table outstanding marked sizes sent evs =
-    context c (words_of table.entry.now) (memory_before outstanding marked sizes sent) evs.entry.now
+    context c (words_of table) (memory_before outstanding marked sizes sent) evs
 
 -- the number, the state and what was lent, as a call leaves them
 abbrev pub tabled_after : ℕ → Controller → LentRecords → LentSlice → LentSlice → LentSlice → LentSlice → LentSlice → Tabled
 tabled_after n c table outstanding marked sizes sent evs =
-    tabled n c table.exit.now (memory_after outstanding marked sizes sent) evs.exit.now
+    tabled n c table (memory_after outstanding marked sizes sent) evs
 
 -- ---- over the table by value
 
@@ -65,10 +63,10 @@ stepped n c fs m t = record { number = n; state = c; flows = fs; slots = m; time
 -- the context whose table is the words of its records, which stand before those of the eight that it has room for
 abbrev pub front_before : Controller → Flows → LentSlice → LentSlice → LentSlice → LentSlice → LentSlice → Context
 front_before c fs outstanding marked sizes sent evs =
-    context c (take (flow_words * fs.n) (value_words fs)) (memory_before outstanding marked sizes sent) evs.entry.now
+    context c (take (flow_words * fs.n) (value_words fs)) (memory_before outstanding marked sizes sent) evs
 
 abbrev pub stepped_after : ℕ → Controller → Flows → LentSlice → LentSlice → LentSlice → LentSlice → LentSlice → Stepped
-stepped_after n c fs outstanding marked sizes sent evs = stepped n c fs (memory_after outstanding marked sizes sent) evs.exit.now
+stepped_after n c fs outstanding marked sizes sent evs = stepped n c fs (memory_after outstanding marked sizes sent) evs
 
 -- an event's answer, the records of the first n flows by value
 abbrev pub by_value : ℕ → Answered → Stepped

@@ -16,21 +16,21 @@ use crate::sound::is_sound;
 use rules::verdict::Verdict;
 
 // What the flow that is named sends: its marked packet nearest to low, or else a new packet, whose PSN is next.
-#[derive(Drop)]
+#[derive(Clone, Copy)]
 pub struct Turn {
     pub flow: usize,
     pub psn: u32,
     pub resend: bool,
 }
 
-#[derive(Drop)]
+#[derive(Clone, Copy)]
 pub enum Choice {
     Nobody,
     Named(Turn),
 }
 
 // What a choice answers: the shared state with the turn moved, the verdict, and who is named.
-#[derive(Drop)]
+#[derive(Clone, Copy)]
 pub struct Chosen {
     pub state: Controller,
     pub verdict: Verdict,
@@ -49,10 +49,10 @@ fn offer<'a>(
     evs: &'a [u64],
     k: usize,
 ) -> Choice
-    requires evs_value { sound_context (context_given c flows outstanding marked sizes sent evs) ≡ true }
+    requires evs_value { sound_context (context_given c flows.now outstanding.now marked.now sizes.now sent.now evs.now) ≡ true }
     requires k_bound { k < count_of flows.now }
-    ensures { choice_of result ≡ offered_by (context_before c flows outstanding marked sizes sent evs)
-        (if_so (is_ready (context_before c flows outstanding marked sizes sent evs) k) (some k) none) }
+    ensures { choice_of result ≡ offered_by (context_before c flows.now outstanding.now marked.now sizes.now sent.now evs.now)
+        (if_so (is_ready (context_before c flows.now outstanding.now marked.now sizes.now sent.now evs.now) k) (some k) none) }
 {
     let f = flow_table::flow_at(flows, k);
     let psn = marked_from(c, flows, outstanding, marked, sizes, sent, evs, k, f.low);
@@ -87,10 +87,10 @@ fn first_ready<'a>(
     from: usize,
     end: usize,
 ) -> Choice
-    requires evs_value { sound_context (context_given c flows outstanding marked sizes sent evs) ≡ true }
+    requires evs_value { sound_context (context_given c flows.now outstanding.now marked.now sizes.now sent.now evs.now) ≡ true }
     requires from_le_end { (from ≤ end) × (end ≤ count_of flows.now) }
-    ensures { choice_of result ≡ offered_by (context_before c flows outstanding marked sizes sent evs)
-        (first_ready (is_ready (context_before c flows outstanding marked sizes sent evs)) (numbers from (end - from))) }
+    ensures { choice_of result ≡ offered_by (context_before c flows.now outstanding.now marked.now sizes.now sent.now evs.now)
+        (first_ready (is_ready (context_before c flows.now outstanding.now marked.now sizes.now sent.now evs.now)) (numbers from (end - from))) }
 {
     let mut k = from;
     while k < end {
@@ -113,9 +113,9 @@ fn round<'a>(
     sent: &'a [u64],
     evs: &'a [u64],
 ) -> Choice
-    requires { sound_context (context_given c flows outstanding marked sizes sent evs) ≡ true }
-    ensures { choice_of result ≡ offered_by (context_before c flows outstanding marked sizes sent evs)
-        (named_by (context_before c flows outstanding marked sizes sent evs)) }
+    requires { sound_context (context_given c flows.now outstanding.now marked.now sizes.now sent.now evs.now) ≡ true }
+    ensures { choice_of result ≡ offered_by (context_before c flows.now outstanding.now marked.now sizes.now sent.now evs.now)
+        (named_by (context_before c flows.now outstanding.now marked.now sizes.now sent.now evs.now)) }
 {
     let settings = c.settings;
     let window = c.window;
@@ -174,8 +174,8 @@ pub fn choose<'a>(
     evs: &'a [u64],
 ) -> Chosen
     ensures { chose (number_of result.verdict) (choice_of result.choice)
-        (context_before result.state flows outstanding marked sizes sent evs)
-        ≡ on_choose (context_before c flows outstanding marked sizes sent evs) }
+        (context_before result.state flows.now outstanding.now marked.now sizes.now sent.now evs.now)
+        ≡ on_choose (context_before c flows.now outstanding.now marked.now sizes.now sent.now evs.now) }
 {
     if !is_sound(c, flows, outstanding, marked, sizes, sent, evs) {
         return Chosen {

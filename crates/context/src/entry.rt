@@ -24,8 +24,8 @@ pub fn new_data<'a, 'b>(
     flow: usize,
     bytes: u64,
 ) -> Answer
-    ensures { answered_after (number_of result.verdict) result.state flows outstanding marked sizes sent evs
-        ≡ on_new_data time flow bytes (context_before c flows outstanding marked sizes sent evs) }
+    ensures { answered_after (number_of result.verdict) result.state flows.new outstanding.now marked.now sizes.now sent.now evs.now
+        ≡ on_new_data time flow bytes (context_before c flows.old outstanding.now marked.now sizes.now sent.now evs.now) }
 {
     if !is_sound(c, flows, outstanding, marked, sizes, sent, evs) {
         return Answer {
@@ -60,8 +60,8 @@ pub fn send<'a, 'b, 'c, 'd, 'e, 'f>(
     flow: usize,
     a: Send,
 ) -> Answer
-    ensures { answered_after (number_of result.verdict) result.state flows outstanding marked sizes sent evs
-        ≡ on_send time flow a (context_before c flows outstanding marked sizes sent evs) }
+    ensures { answered_after (number_of result.verdict) result.state flows.new outstanding.new marked.new sizes.new sent.new evs.now
+        ≡ on_send time flow a (context_before c flows.old outstanding.old marked.old sizes.old sent.old evs.now) }
 {
     if !is_sound(c, flows, outstanding, marked, sizes, sent, evs) {
         return Answer {
@@ -97,9 +97,9 @@ pub fn ack<'a, 'b, 'c, 'd, 'e, 'f>(
     flow: usize,
     a: Ack,
 ) -> Heard
-    ensures evs_value { answered_after (number_of result.verdict) result.state flows outstanding marked sizes sent evs
-        ≡ on_ack time flow a (context_before c flows outstanding marked sizes sent evs) }
-    ensures feedback_value { says_of result.feedback ≡ ack_says time flow a (context_before c flows outstanding marked sizes sent evs) }
+    ensures evs_value { answered_after (number_of result.verdict) result.state flows.new outstanding.new marked.new sizes.new sent.new evs.new
+        ≡ on_ack time flow a (context_before c flows.old outstanding.old marked.old sizes.old sent.old evs.old) }
+    ensures feedback_value { says_of result.feedback ≡ ack_says time flow a (context_before c flows.old outstanding.old marked.old sizes.old sent.old evs.old) }
 {
     if !is_sound(c, flows, outstanding, marked, sizes, sent, evs) {
         return Heard {
@@ -136,9 +136,9 @@ pub fn nack<'a, 'b, 'c>(
     flow: usize,
     a: Nack,
 ) -> Heard
-    ensures evs_value { answered_after (number_of result.verdict) result.state flows outstanding marked sizes sent evs
-        ≡ on_nack time flow a (context_before c flows outstanding marked sizes sent evs) }
-    ensures feedback_value { says_of result.feedback ≡ nack_says time flow a (context_before c flows outstanding marked sizes sent evs) }
+    ensures evs_value { answered_after (number_of result.verdict) result.state flows.now outstanding.now marked.new sizes.now sent.now evs.new
+        ≡ on_nack time flow a (context_before c flows.now outstanding.now marked.old sizes.now sent.now evs.old) }
+    ensures feedback_value { says_of result.feedback ≡ nack_says time flow a (context_before c flows.now outstanding.now marked.old sizes.now sent.now evs.old) }
 {
     if !is_sound(c, flows, outstanding, marked, sizes, sent, evs) {
         return Heard {
@@ -175,8 +175,8 @@ pub fn loss<'a, 'b, 'c>(
     flow: usize,
     a: Loss,
 ) -> Answer
-    ensures { answered_after (number_of result.verdict) result.state flows outstanding marked sizes sent evs
-        ≡ on_loss time flow a (context_before c flows outstanding marked sizes sent evs) }
+    ensures { answered_after (number_of result.verdict) result.state flows.now outstanding.now marked.new sizes.now sent.now evs.new
+        ≡ on_loss time flow a (context_before c flows.now outstanding.now marked.old sizes.now sent.now evs.old) }
 {
     if !is_sound(c, flows, outstanding, marked, sizes, sent, evs) {
         return Answer {
@@ -211,8 +211,8 @@ pub fn path<'a>(
     time: u64,
     flow: usize,
 ) -> Routed
-    ensures { routed_after (number_of result.verdict) result.ev result.state flows outstanding marked sizes sent evs
-        ≡ on_path time flow (context_before c flows outstanding marked sizes sent evs) }
+    ensures { routed_after (number_of result.verdict) result.ev result.state flows.now outstanding.now marked.now sizes.now sent.now evs.now
+        ≡ on_path time flow (context_before c flows.now outstanding.now marked.now sizes.now sent.now evs.now) }
 {
     if !is_sound(c, flows, outstanding, marked, sizes, sent, evs) {
         return Routed {
@@ -235,8 +235,8 @@ pub fn move_ev<'a>(
     evs: &'a [u64],
     time: u64,
 ) -> Answer
-    ensures { answered_after (number_of result.verdict) result.state flows outstanding marked sizes sent evs
-        ≡ on_move time 0 (context_before c flows outstanding marked sizes sent evs) }
+    ensures { answered_after (number_of result.verdict) result.state flows.now outstanding.now marked.now sizes.now sent.now evs.now
+        ≡ on_move time 0 (context_before c flows.now outstanding.now marked.now sizes.now sent.now evs.now) }
 {
     if !is_sound(c, flows, outstanding, marked, sizes, sent, evs) {
         return Answer {

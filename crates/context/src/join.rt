@@ -68,7 +68,7 @@ pub(crate) fn share(slots: usize, n: usize) -> usize
 }
 
 // Where flow k's part lies: its bits are the words from..end-1, its slots at..to-1.
-#[derive(Drop)]
+#[derive(Clone, Copy)]
 pub(crate) struct Cut {
     pub from: usize,
     pub end: usize,

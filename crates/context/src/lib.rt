@@ -25,7 +25,7 @@ use sender::{Ack, Feedback, Loss, Nack, Send};
 use window::{Settings, Window};
 
 // What all flows of a context share. Numbers of 32 bits stand in pairs, so that it has no gaps.
-#[derive(Drop)]
+#[derive(Clone, Copy)]
 pub struct Controller {
     pub settings: Settings,
     pub totals: Totals,
@@ -40,14 +40,14 @@ pub struct Controller {
 }
 
 // What an event answers: the whole shared state, and the verdict on it.
-#[derive(Drop)]
+#[derive(Clone, Copy)]
 pub struct Answer {
     pub state: Controller,
     pub verdict: Verdict,
 }
 
 // The same of an ACK or a NACK, with what it says of its sample (request M-103).
-#[derive(Drop)]
+#[derive(Clone, Copy)]
 pub struct Heard {
     pub state: Controller,
     pub verdict: Verdict,
@@ -55,7 +55,7 @@ pub struct Heard {
 }
 
 // The same of a path choice, with the EV: 0 where it is refused.
-#[derive(Drop)]
+#[derive(Clone, Copy)]
 pub struct Routed {
     pub state: Controller,
     pub verdict: Verdict,
@@ -80,8 +80,8 @@ impl Controller {
         flow: usize,
         bytes: u64,
     ) -> Answer
-        ensures { tabled_after (number_of result.verdict) result.state table outstanding marked sizes sent evs
-            ≡ in_records (on_new_data time flow bytes (words_before self table outstanding marked sizes sent evs)) }
+        ensures { tabled_after (number_of result.verdict) result.state table.new outstanding.new marked.new sizes.new sent.new evs.new
+            ≡ in_records (on_new_data time flow bytes (words_before self table.old outstanding.old marked.old sizes.old sent.old evs.old)) }
     {
         let fs = flow_table::lent::load(table);
         let r = table::new_data(
@@ -113,8 +113,8 @@ impl Controller {
         flow: usize,
         a: Send,
     ) -> Answer
-        ensures { tabled_after (number_of result.verdict) result.state table outstanding marked sizes sent evs
-            ≡ in_records (on_send time flow a (words_before self table outstanding marked sizes sent evs)) }
+        ensures { tabled_after (number_of result.verdict) result.state table.new outstanding.new marked.new sizes.new sent.new evs.new
+            ≡ in_records (on_send time flow a (words_before self table.old outstanding.old marked.old sizes.old sent.old evs.old)) }
     {
         let fs = flow_table::lent::load(table);
         let r = table::send(
@@ -146,9 +146,9 @@ impl Controller {
         flow: usize,
         a: Ack,
     ) -> Heard
-        ensures { (tabled_after (number_of result.verdict) result.state table outstanding marked sizes sent evs
-            ≡ in_records (on_ack time flow a (words_before self table outstanding marked sizes sent evs)))
-            × (says_of result.feedback ≡ ack_says time flow a (words_before self table outstanding marked sizes sent evs)) }
+        ensures { (tabled_after (number_of result.verdict) result.state table.new outstanding.new marked.new sizes.new sent.new evs.new
+            ≡ in_records (on_ack time flow a (words_before self table.old outstanding.old marked.old sizes.old sent.old evs.old)))
+            × (says_of result.feedback ≡ ack_says time flow a (words_before self table.old outstanding.old marked.old sizes.old sent.old evs.old)) }
     {
         let fs = flow_table::lent::load(table);
         let r = table::ack(
@@ -180,9 +180,9 @@ impl Controller {
         flow: usize,
         a: Nack,
     ) -> Heard
-        ensures { (tabled_after (number_of result.verdict) result.state table outstanding marked sizes sent evs
-            ≡ in_records (on_nack time flow a (words_before self table outstanding marked sizes sent evs)))
-            × (says_of result.feedback ≡ nack_says time flow a (words_before self table outstanding marked sizes sent evs)) }
+        ensures { (tabled_after (number_of result.verdict) result.state table.new outstanding.new marked.new sizes.new sent.new evs.new
+            ≡ in_records (on_nack time flow a (words_before self table.old outstanding.old marked.old sizes.old sent.old evs.old)))
+            × (says_of result.feedback ≡ nack_says time flow a (words_before self table.old outstanding.old marked.old sizes.old sent.old evs.old)) }
     {
         let fs = flow_table::lent::load(table);
         let r = table::nack(
@@ -214,8 +214,8 @@ impl Controller {
         flow: usize,
         a: Loss,
     ) -> Answer
-        ensures { tabled_after (number_of result.verdict) result.state table outstanding marked sizes sent evs
-            ≡ in_records (on_loss time flow a (words_before self table outstanding marked sizes sent evs)) }
+        ensures { tabled_after (number_of result.verdict) result.state table.new outstanding.new marked.new sizes.new sent.new evs.new
+            ≡ in_records (on_loss time flow a (words_before self table.old outstanding.old marked.old sizes.old sent.old evs.old)) }
     {
         let fs = flow_table::lent::load(table);
         let r = table::loss(
@@ -246,9 +246,9 @@ impl Controller {
         time: u64,
         flow: usize,
     ) -> Routed
-        ensures { (tabled_after (number_of result.verdict) result.state table outstanding marked sizes sent evs
-            ≡ in_records (route_answer (on_path time flow (words_before self table outstanding marked sizes sent evs))))
-            × (result.ev ≡ (on_path time flow (words_before self table outstanding marked sizes sent evs)).ev) }
+        ensures { (tabled_after (number_of result.verdict) result.state table.new outstanding.new marked.new sizes.new sent.new evs.new
+            ≡ in_records (route_answer (on_path time flow (words_before self table.old outstanding.old marked.old sizes.old sent.old evs.old))))
+            × (result.ev ≡ (on_path time flow (words_before self table.old outstanding.old marked.old sizes.old sent.old evs.old)).ev) }
     {
         let fs = flow_table::lent::load(table);
         let r = table::path(self, fs, outstanding, marked, sizes, sent, evs, time, flow);
@@ -267,8 +267,8 @@ impl Controller {
         evs: &mut [u64],
         time: u64,
     ) -> Answer
-        ensures { tabled_after (number_of result.verdict) result.state table outstanding marked sizes sent evs
-            ≡ in_records (on_move time 0 (words_before self table outstanding marked sizes sent evs)) }
+        ensures { tabled_after (number_of result.verdict) result.state table.new outstanding.new marked.new sizes.new sent.new evs.new
+            ≡ in_records (on_move time 0 (words_before self table.old outstanding.old marked.old sizes.old sent.old evs.old)) }
     {
         let fs = flow_table::lent::load(table);
         let r = table::move_ev(self, fs, outstanding, marked, sizes, sent, evs, time);

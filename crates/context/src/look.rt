@@ -34,9 +34,9 @@ pub fn packet_at<'a>(
     flow: usize,
     psn: u32,
 ) -> Packet
-    requires evs_value { sound_context (context_given c flows outstanding marked sizes sent evs) ≡ true }
+    requires evs_value { sound_context (context_given c flows.now outstanding.now marked.now sizes.now sent.now evs.now) ≡ true }
     requires flow_bound { flow < count_of flows.now }
-    ensures { result ≡ packet_in flow psn (context_before c flows outstanding marked sizes sent evs) }
+    ensures { result ≡ packet_in flow psn (context_before c flows.now outstanding.now marked.now sizes.now sent.now evs.now) }
 {
     let n = flow_table::count(flows);
     let p = cut_of(sizes.len(), n, flow);
@@ -67,7 +67,7 @@ pub fn status<'a>(
     psn: u32,
 ) -> Look
     ensures { looked (number_of result.verdict) result.found
-        ≡ on_status flow psn (context_before c flows outstanding marked sizes sent evs) }
+        ≡ on_status flow psn (context_before c flows.now outstanding.now marked.now sizes.now sent.now evs.now) }
 {
     if !is_sound(c, flows, outstanding, marked, sizes, sent, evs) {
         return look(Verdict::Unsound, 0);
@@ -91,9 +91,9 @@ pub fn marked_from<'a>(
     flow: usize,
     psn: u32,
 ) -> u32
-    requires evs_value { sound_context (context_given c flows outstanding marked sizes sent evs) ≡ true }
+    requires evs_value { sound_context (context_given c flows.now outstanding.now marked.now sizes.now sent.now evs.now) ≡ true }
     requires flow_bound { flow < count_of flows.now }
-    ensures { result ≡ marked_from flow psn (context_before c flows outstanding marked sizes sent evs) }
+    ensures { result ≡ marked_from flow psn (context_before c flows.now outstanding.now marked.now sizes.now sent.now evs.now) }
 {
     let n = flow_table::count(flows);
     let p = cut_of(sizes.len(), n, flow);
@@ -126,7 +126,7 @@ pub fn next_marked<'a>(
     psn: u32,
 ) -> Look
     ensures { looked (number_of result.verdict) result.found
-        ≡ on_next_marked flow psn (context_before c flows outstanding marked sizes sent evs) }
+        ≡ on_next_marked flow psn (context_before c flows.now outstanding.now marked.now sizes.now sent.now evs.now) }
 {
     if !is_sound(c, flows, outstanding, marked, sizes, sent, evs) {
         return look(Verdict::Unsound, 0);

@@ -25,9 +25,9 @@ pub fn new_data<'a, 'b>(
     flow: usize,
     bytes: u64,
 ) -> Answer
-    requires { sound_context (context_given c flows outstanding marked sizes sent evs) ≡ true }
-    ensures { answered_after (number_of result.verdict) result.state flows outstanding marked sizes sent evs
-        ≡ past_new_data time flow bytes (context_before c flows outstanding marked sizes sent evs) }
+    requires { sound_context (context_given c flows.old outstanding.now marked.now sizes.now sent.now evs.now) ≡ true }
+    ensures { answered_after (number_of result.verdict) result.state flows.new outstanding.now marked.now sizes.now sent.now evs.now
+        ≡ past_new_data time flow bytes (context_before c flows.old outstanding.now marked.now sizes.now sent.now evs.now) }
 {
     let n = flow_table::count(flows);
     if n <= flow {
@@ -74,9 +74,9 @@ pub fn send<'a, 'b, 'c, 'd, 'e, 'f>(
     flow: usize,
     a: Send,
 ) -> Answer
-    requires { sound_context (context_given c flows outstanding marked sizes sent evs) ≡ true }
-    ensures { answered_after (number_of result.verdict) result.state flows outstanding marked sizes sent evs
-        ≡ past_send time flow a (context_before c flows outstanding marked sizes sent evs) }
+    requires { sound_context (context_given c flows.old outstanding.old marked.old sizes.old sent.old evs.now) ≡ true }
+    ensures { answered_after (number_of result.verdict) result.state flows.new outstanding.new marked.new sizes.new sent.new evs.now
+        ≡ past_send time flow a (context_before c flows.old outstanding.old marked.old sizes.old sent.old evs.now) }
 {
     let n = flow_table::count(flows);
     if n <= flow {
@@ -123,10 +123,10 @@ pub fn ack<'a, 'b, 'c, 'd, 'e, 'f>(
     flow: usize,
     a: Ack,
 ) -> Heard
-    requires { sound_context (context_given c flows outstanding marked sizes sent evs) ≡ true }
-    ensures evs_value { answered_after (number_of result.verdict) result.state flows outstanding marked sizes sent evs
-        ≡ past_ack time flow a (context_before c flows outstanding marked sizes sent evs) }
-    ensures feedback_value { says_of result.feedback ≡ past_ack_says time flow a (context_before c flows outstanding marked sizes sent evs) }
+    requires { sound_context (context_given c flows.old outstanding.old marked.old sizes.old sent.old evs.old) ≡ true }
+    ensures evs_value { answered_after (number_of result.verdict) result.state flows.new outstanding.new marked.new sizes.new sent.new evs.new
+        ≡ past_ack time flow a (context_before c flows.old outstanding.old marked.old sizes.old sent.old evs.old) }
+    ensures feedback_value { says_of result.feedback ≡ past_ack_says time flow a (context_before c flows.old outstanding.old marked.old sizes.old sent.old evs.old) }
 {
     let n = flow_table::count(flows);
     if n <= flow {
@@ -176,10 +176,10 @@ pub fn nack<'a, 'b, 'c>(
     flow: usize,
     a: Nack,
 ) -> Heard
-    requires { sound_context (context_given c flows outstanding marked sizes sent evs) ≡ true }
-    ensures evs_value { answered_after (number_of result.verdict) result.state flows outstanding marked sizes sent evs
-        ≡ past_nack time flow a (context_before c flows outstanding marked sizes sent evs) }
-    ensures feedback_value { says_of result.feedback ≡ past_nack_says time flow a (context_before c flows outstanding marked sizes sent evs) }
+    requires { sound_context (context_given c flows.now outstanding.now marked.old sizes.now sent.now evs.old) ≡ true }
+    ensures evs_value { answered_after (number_of result.verdict) result.state flows.now outstanding.now marked.new sizes.now sent.now evs.new
+        ≡ past_nack time flow a (context_before c flows.now outstanding.now marked.old sizes.now sent.now evs.old) }
+    ensures feedback_value { says_of result.feedback ≡ past_nack_says time flow a (context_before c flows.now outstanding.now marked.old sizes.now sent.now evs.old) }
 {
     let n = flow_table::count(flows);
     if n <= flow {
@@ -228,9 +228,9 @@ pub fn loss<'a, 'b, 'c>(
     flow: usize,
     a: Loss,
 ) -> Answer
-    requires { sound_context (context_given c flows outstanding marked sizes sent evs) ≡ true }
-    ensures { answered_after (number_of result.verdict) result.state flows outstanding marked sizes sent evs
-        ≡ past_loss time flow a (context_before c flows outstanding marked sizes sent evs) }
+    requires { sound_context (context_given c flows.now outstanding.now marked.old sizes.now sent.now evs.old) ≡ true }
+    ensures { answered_after (number_of result.verdict) result.state flows.now outstanding.now marked.new sizes.now sent.now evs.new
+        ≡ past_loss time flow a (context_before c flows.now outstanding.now marked.old sizes.now sent.now evs.old) }
 {
     let n = flow_table::count(flows);
     if n <= flow {
@@ -275,9 +275,9 @@ pub fn path<'a>(
     time: u64,
     flow: usize,
 ) -> Routed
-    requires { sound_context (context_given c flows outstanding marked sizes sent evs) ≡ true }
-    ensures { routed_after (number_of result.verdict) result.ev result.state flows outstanding marked sizes sent evs
-        ≡ past_path time flow (context_before c flows outstanding marked sizes sent evs) }
+    requires { sound_context (context_given c flows.now outstanding.now marked.now sizes.now sent.now evs.now) ≡ true }
+    ensures { routed_after (number_of result.verdict) result.ev result.state flows.now outstanding.now marked.now sizes.now sent.now evs.now
+        ≡ past_path time flow (context_before c flows.now outstanding.now marked.now sizes.now sent.now evs.now) }
 {
     let n = flow_table::count(flows);
     if n <= flow {
@@ -323,9 +323,9 @@ pub fn move_ev<'a>(
     evs: &'a [u64],
     time: u64,
 ) -> Answer
-    requires { sound_context (context_given c flows outstanding marked sizes sent evs) ≡ true }
-    ensures { answered_after (number_of result.verdict) result.state flows outstanding marked sizes sent evs
-        ≡ past_move time 0 (context_before c flows outstanding marked sizes sent evs) }
+    requires { sound_context (context_given c flows.now outstanding.now marked.now sizes.now sent.now evs.now) ≡ true }
+    ensures { answered_after (number_of result.verdict) result.state flows.now outstanding.now marked.now sizes.now sent.now evs.now
+        ≡ past_move time 0 (context_before c flows.now outstanding.now marked.now sizes.now sent.now evs.now) }
 {
     let s = joined(c, flow_table::flow_at(flows, 0));
     let told = sender::rely::move_ev(s, time);

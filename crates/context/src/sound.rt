@@ -22,7 +22,7 @@ pub(crate) fn is_cut<'a>(
     sent: &'a [u64],
 ) -> bool
     requires { n ≤ flows_most }
-    ensures { result ≡ is_cut n cap (memory_before outstanding marked sizes sent) }
+    ensures { result ≡ is_cut n cap (memory_before outstanding.now marked.now sizes.now sent.now) }
 {
     if !ledger::sound::is_capacity(cap) {
         return false;
@@ -47,8 +47,8 @@ fn stands_at<'a>(
     mtu: u64,
     clock: u64,
 ) -> bool
-    requires { (k < count_of flows.now) × Parted cap flows.now (memory_given outstanding marked sizes sent) }
-    ensures { result ≡ stands_on mtu clock cap flows.now (memory_before outstanding marked sizes sent) k }
+    requires { (k < count_of flows.now) × Parted cap flows.now (memory_given outstanding.now marked.now sizes.now sent.now) }
+    ensures { result ≡ stands_on mtu clock cap flows.now (memory_before outstanding.now marked.now sizes.now sent.now) k }
 {
     if !flow_table::fits_at(flows, k) {
         return false;
@@ -82,8 +82,8 @@ fn all_stand<'a>(
     mtu: u64,
     clock: u64,
 ) -> bool
-    requires { (n ≡ count_of flows.now) × Parted cap flows.now (memory_given outstanding marked sizes sent) }
-    ensures { result ≡ all_to (stands_on mtu clock cap flows.now (memory_before outstanding marked sizes sent))
+    requires { (n ≡ count_of flows.now) × Parted cap flows.now (memory_given outstanding.now marked.now sizes.now sent.now) }
+    ensures { result ≡ all_to (stands_on mtu clock cap flows.now (memory_before outstanding.now marked.now sizes.now sent.now))
         (count_of flows.now) }
 {
     let mut k = 0;
@@ -106,8 +106,8 @@ fn tally_at<'a>(
     sizes: &'a [u32],
     sent: &'a [u64],
 ) -> Tally
-    requires { (k < count_of flows.now) × Standing cap flows.now (memory_given outstanding marked sizes sent) }
-    ensures { (result ≡ tally_at cap flows.now (memory_before outstanding marked sizes sent) k)
+    requires { (k < count_of flows.now) × Standing cap flows.now (memory_given outstanding.now marked.now sizes.now sent.now) }
+    ensures { (result ≡ tally_at cap flows.now (memory_before outstanding.now marked.now sizes.now sent.now) k)
         × (result.outstanding ≤ 2 ^ 40) × (result.marked ≤ 2 ^ 40) × (result.marked_bytes ≤ 2 ^ 40) × (result.backlog ≤ 2 ^ 40) }
 {
     let flow = flow_table::flow_at(flows, k);
@@ -150,8 +150,8 @@ fn tally_all<'a>(
     sizes: &'a [u32],
     sent: &'a [u64],
 ) -> Tally
-    requires { (n ≡ count_of flows.now) × Standing cap flows.now (memory_given outstanding marked sizes sent) }
-    ensures { result ≡ tally_to cap flows.now (memory_before outstanding marked sizes sent) (count_of flows.now) }
+    requires { (n ≡ count_of flows.now) × Standing cap flows.now (memory_given outstanding.now marked.now sizes.now sent.now) }
+    ensures { result ≡ tally_to cap flows.now (memory_before outstanding.now marked.now sizes.now sent.now) (count_of flows.now) }
 {
     let mut all = Tally {
         outstanding: 0,
@@ -177,7 +177,7 @@ fn flows_ok<'a>(
     sizes: &'a [u32],
     sent: &'a [u64],
 ) -> bool
-    ensures { result ≡ flows_ok c flows.now (memory_before outstanding marked sizes sent) }
+    ensures { result ≡ flows_ok c flows.now (memory_before outstanding.now marked.now sizes.now sent.now) }
 {
     let settings = c.settings;
     let totals = c.totals;
@@ -217,7 +217,7 @@ pub fn is_sound<'a>(
     sent: &'a [u64],
     evs: &'a [u64],
 ) -> bool
-    ensures { result ≡ sound_context (context_before c flows outstanding marked sizes sent evs) }
+    ensures { result ≡ sound_context (context_before c flows.now outstanding.now marked.now sizes.now sent.now evs.now) }
 {
     let settings = c.settings;
     let window = c.window;

@@ -22,7 +22,7 @@ fn lengths_ok<'a>(
     sizes: &'a [u32],
     sent: &'a [u64],
 ) -> bool
-    ensures { result ≡ lengths_ok flows.now (memory_before outstanding marked sizes sent) }
+    ensures { result ≡ lengths_ok flows.now (memory_before outstanding.now marked.now sizes.now sent.now) }
 {
     if !flow_table::is_table(flows) {
         return false;
@@ -78,8 +78,8 @@ pub fn set_up<'a, 'b, 'c, 'd, 'e, 'f>(
     sent: &'e mut [u64],
     evs: &'f mut [u64],
 ) -> Answer
-    ensures { answered_after (number_of result.verdict) result.state flows outstanding marked sizes sent evs
-        ≡ on_set_up settings flows.old (memory_before outstanding marked sizes sent) evs.old }
+    ensures { answered_after (number_of result.verdict) result.state flows.new outstanding.new marked.new sizes.new sent.new evs.new
+        ≡ on_set_up settings flows.old (memory_before outstanding.old marked.old sizes.old sent.old) evs.old }
 {
     if !window::bounds::in_range(settings) {
         return not_set_up(Verdict::Setting);

@@ -15,19 +15,19 @@ use rules::verdict::Verdict;
 use sender::{Ack, Feedback, Loss, Nack, Send};
 
 // What a step leaves: the answer, and the table by value.
-#[derive(Drop)]
+#[derive(Clone, Copy)]
 pub(crate) struct StepAnswer {
     pub answer: Answer,
     pub flows: Flows,
 }
 
-#[derive(Drop)]
+#[derive(Clone, Copy)]
 pub(crate) struct StepHeard {
     pub answer: Heard,
     pub flows: Flows,
 }
 
-#[derive(Drop)]
+#[derive(Clone, Copy)]
 pub(crate) struct StepRouted {
     pub answer: Routed,
     pub flows: Flows,
@@ -46,8 +46,8 @@ pub(crate) fn new_data<'a, 'b, 'c, 'd, 'e>(
     flow: usize,
     bytes: u64,
 ) -> StepAnswer
-    ensures { stepped_after (number_of result.answer.verdict) result.answer.state result.flows outstanding marked sizes sent evs
-        ≡ on_flows fs (on_new_data time flow bytes) (front_before c fs outstanding marked sizes sent evs) }
+    ensures { stepped_after (number_of result.answer.verdict) result.answer.state result.flows outstanding.new marked.new sizes.new sent.new evs.new
+        ≡ on_flows fs (on_new_data time flow bytes) (front_before c fs outstanding.old marked.old sizes.old sent.old evs.old) }
 {
     let n = fs.n;
     if flow_table::FLOWS_MOST < n {
@@ -88,8 +88,8 @@ pub(crate) fn send<'a, 'b, 'c, 'd, 'e>(
     flow: usize,
     a: Send,
 ) -> StepAnswer
-    ensures { stepped_after (number_of result.answer.verdict) result.answer.state result.flows outstanding marked sizes sent evs
-        ≡ on_flows fs (on_send time flow a) (front_before c fs outstanding marked sizes sent evs) }
+    ensures { stepped_after (number_of result.answer.verdict) result.answer.state result.flows outstanding.new marked.new sizes.new sent.new evs.new
+        ≡ on_flows fs (on_send time flow a) (front_before c fs outstanding.old marked.old sizes.old sent.old evs.old) }
 {
     let n = fs.n;
     if flow_table::FLOWS_MOST < n {
@@ -130,10 +130,10 @@ pub(crate) fn ack<'a, 'b, 'c, 'd, 'e>(
     flow: usize,
     a: Ack,
 ) -> StepHeard
-    ensures { (stepped_after (number_of result.answer.verdict) result.answer.state result.flows outstanding marked sizes sent evs
-        ≡ on_flows fs (on_ack time flow a) (front_before c fs outstanding marked sizes sent evs))
+    ensures { (stepped_after (number_of result.answer.verdict) result.answer.state result.flows outstanding.new marked.new sizes.new sent.new evs.new
+        ≡ on_flows fs (on_ack time flow a) (front_before c fs outstanding.old marked.old sizes.old sent.old evs.old))
         × (says_of result.answer.feedback
-        ≡ unless_many fs none (ack_says time flow a (front_before c fs outstanding marked sizes sent evs))) }
+        ≡ unless_many fs none (ack_says time flow a (front_before c fs outstanding.old marked.old sizes.old sent.old evs.old))) }
 {
     let n = fs.n;
     if flow_table::FLOWS_MOST < n {
@@ -175,10 +175,10 @@ pub(crate) fn nack<'a, 'b, 'c, 'd, 'e>(
     flow: usize,
     a: Nack,
 ) -> StepHeard
-    ensures { (stepped_after (number_of result.answer.verdict) result.answer.state result.flows outstanding marked sizes sent evs
-        ≡ on_flows fs (on_nack time flow a) (front_before c fs outstanding marked sizes sent evs))
+    ensures { (stepped_after (number_of result.answer.verdict) result.answer.state result.flows outstanding.new marked.new sizes.new sent.new evs.new
+        ≡ on_flows fs (on_nack time flow a) (front_before c fs outstanding.old marked.old sizes.old sent.old evs.old))
         × (says_of result.answer.feedback
-        ≡ unless_many fs none (nack_says time flow a (front_before c fs outstanding marked sizes sent evs))) }
+        ≡ unless_many fs none (nack_says time flow a (front_before c fs outstanding.old marked.old sizes.old sent.old evs.old))) }
 {
     let n = fs.n;
     if flow_table::FLOWS_MOST < n {
@@ -220,8 +220,8 @@ pub(crate) fn loss<'a, 'b, 'c, 'd, 'e>(
     flow: usize,
     a: Loss,
 ) -> StepAnswer
-    ensures { stepped_after (number_of result.answer.verdict) result.answer.state result.flows outstanding marked sizes sent evs
-        ≡ on_flows fs (on_loss time flow a) (front_before c fs outstanding marked sizes sent evs) }
+    ensures { stepped_after (number_of result.answer.verdict) result.answer.state result.flows outstanding.new marked.new sizes.new sent.new evs.new
+        ≡ on_flows fs (on_loss time flow a) (front_before c fs outstanding.old marked.old sizes.old sent.old evs.old) }
 {
     let n = fs.n;
     if flow_table::FLOWS_MOST < n {
@@ -261,9 +261,9 @@ pub(crate) fn path<'a, 'b, 'c, 'd, 'e>(
     time: u64,
     flow: usize,
 ) -> StepRouted
-    ensures { (stepped_after (number_of result.answer.verdict) result.answer.state result.flows outstanding marked sizes sent evs
-        ≡ on_flows fs (λ x. route_answer (on_path time flow x)) (front_before c fs outstanding marked sizes sent evs))
-        × (result.answer.ev ≡ unless_many fs 0 (on_path time flow (front_before c fs outstanding marked sizes sent evs)).ev) }
+    ensures { (stepped_after (number_of result.answer.verdict) result.answer.state result.flows outstanding.new marked.new sizes.new sent.new evs.new
+        ≡ on_flows fs (λ x. route_answer (on_path time flow x)) (front_before c fs outstanding.old marked.old sizes.old sent.old evs.old))
+        × (result.answer.ev ≡ unless_many fs 0 (on_path time flow (front_before c fs outstanding.old marked.old sizes.old sent.old evs.old)).ev) }
 {
     let n = fs.n;
     if flow_table::FLOWS_MOST < n {
@@ -302,8 +302,8 @@ pub(crate) fn move_ev<'a, 'b, 'c, 'd, 'e>(
     evs: &'e mut [u64],
     time: u64,
 ) -> StepAnswer
-    ensures { stepped_after (number_of result.answer.verdict) result.answer.state result.flows outstanding marked sizes sent evs
-        ≡ on_flows fs (on_move time 0) (front_before c fs outstanding marked sizes sent evs) }
+    ensures { stepped_after (number_of result.answer.verdict) result.answer.state result.flows outstanding.new marked.new sizes.new sent.new evs.new
+        ≡ on_flows fs (on_move time 0) (front_before c fs outstanding.old marked.old sizes.old sent.old evs.old) }
 {
     let n = fs.n;
     if flow_table::FLOWS_MOST < n {

@@ -11,7 +11,7 @@ use ledger::Flow;
 pub const WORDS_MOST: usize = 32;
 
 // The table by value: how many flows it has, and room for eight.
-#[derive(Drop)]
+#[derive(Clone, Copy)]
 pub struct Flows {
     pub n: usize,
     pub at: [Flow; 8],

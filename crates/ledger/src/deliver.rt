@@ -69,11 +69,11 @@ fn cover<'a, 'b, 'c>(
     map: u64,
     totals: Totals,
 ) -> Totals
-    requires standing { Standing (memory_given outstanding marked sizes sent) flow }
-    requires reached { Reached (memory_given outstanding marked sizes sent) flow totals far cum map }
-    ensures standing_2 { Standing (memory_after outstanding marked sizes sent) flow }
-    ensures covered { Covered (ledger_shown flow totals (memory_before outstanding marked sizes sent)) cum map result
-        (shown flow.low flow.next (memory_after outstanding marked sizes sent)) }
+    requires standing { Standing (memory_given outstanding.old marked.old sizes.now sent.now) flow }
+    requires reached { Reached (memory_given outstanding.old marked.old sizes.now sent.now) flow totals far cum map }
+    ensures standing_2 { Standing (memory_after outstanding.new marked.new sizes.now sent.now) flow }
+    ensures covered { Covered (ledger_shown flow totals (memory_before outstanding.old marked.old sizes.now sent.now)) cum map result
+        (shown flow.low flow.next (memory_after outstanding.new marked.new sizes.now sent.now)) }
 {
     let cap = sent.len();
     let mut left = totals;
@@ -99,9 +99,9 @@ fn retire<'a, 'b, 'c>(
     n: u32,
 ) -> u32
     requires n_value { n ≡ long_of flow }
-    requires standing { Standing (memory_given outstanding marked sizes sent) flow }
-    ensures { Retired (shown flow.low flow.next (memory_before outstanding marked sizes sent)) flow.low n result
-        (shown (plus flow.low result) flow.next (memory_after outstanding marked sizes sent)) }
+    requires standing { Standing (memory_given outstanding.now marked.now sizes.old sent.old) flow }
+    ensures { Retired (shown flow.low flow.next (memory_before outstanding.now marked.now sizes.old sent.old)) flow.low n result
+        (shown (plus flow.low result) flow.next (memory_after outstanding.now marked.now sizes.new sent.new)) }
 {
     let cap = sent.len();
     let mut gone: u32 = 0;
@@ -129,11 +129,11 @@ fn retire_reached<'a, 'b, 'c>(
     far: u32,
 ) -> u32
     requires n_value { n ≡ long_of flow }
-    requires standing { Standing (memory_given outstanding marked sizes sent) flow }
+    requires standing { Standing (memory_given outstanding.now marked.now sizes.old sent.old) flow }
     requires n_value_2 { far ≡ 0
-        → done_run (queue_of (shown flow.low flow.next (memory_given outstanding marked sizes sent)) flow.low n) ≡ 0 }
-    ensures { Retired (shown flow.low flow.next (memory_before outstanding marked sizes sent)) flow.low n result
-        (shown (plus flow.low result) flow.next (memory_after outstanding marked sizes sent)) }
+        → done_run (queue_of (shown flow.low flow.next (memory_given outstanding.now marked.now sizes.old sent.old)) flow.low n) ≡ 0 }
+    ensures { Retired (shown flow.low flow.next (memory_before outstanding.now marked.now sizes.old sent.old)) flow.low n result
+        (shown (plus flow.low result) flow.next (memory_after outstanding.now marked.now sizes.new sent.new)) }
 {
     if far == 0 {
         return 0;
@@ -173,10 +173,10 @@ pub fn acknowledge<'a, 'b, 'c, 'd>(
     sizes: &'c mut [u32],
     sent: &'d mut [u64],
 ) -> Books
-    requires sound_ledger { SoundLedger (ledger_shown books.flow books.totals (memory_given outstanding marked sizes sent)) }
+    requires sound_ledger { SoundLedger (ledger_shown books.flow books.totals (memory_given outstanding.old marked.old sizes.old sent.old)) }
     requires count_value { first_of (ack_rows books.flow books.totals.in_flight cum map count) ≡ 0 }
-    ensures { kept result.flow result.totals (memory_after outstanding marked sizes sent)
-        ≡ kept_of (acknowledge_of cum map count (ledger_shown books.flow books.totals (memory_before outstanding marked sizes sent))) }
+    ensures { kept result.flow result.totals (memory_after outstanding.new marked.new sizes.new sent.new)
+        ≡ kept_of (acknowledge_of cum map count (ledger_shown books.flow books.totals (memory_before outstanding.old marked.old sizes.old sent.old))) }
 {
     let mut flow = books.flow;
     let low = flow.low;

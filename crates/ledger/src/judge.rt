@@ -67,9 +67,9 @@ pub fn judge_resend<'a>(
     psn: u32,
     bytes: u32,
 ) -> Verdict
-    requires { Lengths (memory_given outstanding marked sizes sent) }
+    requires { Lengths (memory_given outstanding.now marked.now sizes.now sent.now) }
     ensures { number_of result
-        ≡ first_of (resend_rows flow (shown flow.low flow.next (memory_before outstanding marked sizes sent)) psn bytes) }
+        ≡ first_of (resend_rows flow (shown flow.low flow.next (memory_before outstanding.now marked.now sizes.now sent.now)) psn bytes) }
 {
     let x = find(flow, outstanding, marked, sizes, sent, psn);
     if (x.status != crate::MARKED) | (bytes != x.size) {
@@ -103,10 +103,10 @@ pub fn judge_mark<'a>(
     sent: &'a [u64],
     psn: u32,
 ) -> Verdict
-    requires lengths { Lengths (memory_given outstanding marked sizes sent) }
+    requires lengths { Lengths (memory_given outstanding.now marked.now sizes.now sent.now) }
     requires flown { Flown (2 ^ 26) books.totals.in_flight }
     ensures { number_of result ≡ first_of (mark_rows books.flow books.totals.in_flight
-        (shown books.flow.low books.flow.next (memory_before outstanding marked sizes sent)) psn) }
+        (shown books.flow.low books.flow.next (memory_before outstanding.now marked.now sizes.now sent.now)) psn) }
 {
     let flow = books.flow;
     let totals = books.totals;

@@ -42,7 +42,7 @@ pub const IN_FLIGHT_LEAST: i64 = -16777216;
 pub const UNIT: u64 = 256;
 
 // What each connection has of its own: the ledger's packets are low..next-1, `held` is the held count.
-#[derive(Drop)]
+#[derive(Clone, Copy)]
 pub struct Flow {
     pub low: u32,
     pub next: u32,
@@ -51,7 +51,7 @@ pub struct Flow {
 }
 
 // What is held once, over the packets and the backlogs of all flows (request M-107).
-#[derive(Drop)]
+#[derive(Clone, Copy)]
 pub struct Totals {
     pub flying: u32,
     pub marked: u32,
@@ -61,14 +61,14 @@ pub struct Totals {
 }
 
 // The ledger but for the ring.
-#[derive(Drop)]
+#[derive(Clone, Copy)]
 pub struct Books {
     pub flow: Flow,
     pub totals: Totals,
 }
 
 // What a slot says of a packet; all zero where the slot is empty.
-#[derive(Drop)]
+#[derive(Clone, Copy)]
 pub struct Packet {
     pub status: u8,
     pub size: u32,

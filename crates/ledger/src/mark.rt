@@ -21,12 +21,12 @@ pub fn mark<'a, 'b>(
     sizes: &'b [u32],
     sent: &'b [u64],
 ) -> Books
-    requires sound_ledger { SoundLedger (ledger_shown books.flow books.totals (memory_given outstanding marked sizes sent)) }
+    requires sound_ledger { SoundLedger (ledger_shown books.flow books.totals (memory_given outstanding.now marked.old sizes.now sent.now)) }
     requires psn_value { is_flying (packet_of books.flow (shown books.flow.low books.flow.next
-        (memory_given outstanding marked sizes sent)) psn)
+        (memory_given outstanding.now marked.old sizes.now sent.now)) psn)
         ≡ true }
-    ensures { kept result.flow result.totals (memory_after outstanding marked sizes sent)
-        ≡ kept_of (mark_of psn (ledger_shown books.flow books.totals (memory_before outstanding marked sizes sent))) }
+    ensures { kept result.flow result.totals (memory_after outstanding.now marked.new sizes.now sent.now)
+        ≡ kept_of (mark_of psn (ledger_shown books.flow books.totals (memory_before outstanding.now marked.old sizes.now sent.now))) }
 {
     let flow = books.flow;
     let mut totals = books.totals;

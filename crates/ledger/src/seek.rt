@@ -43,9 +43,9 @@ pub fn next_marked<'a>(
     sent: &'a [u64],
     psn: u32,
 ) -> u32
-    requires { SoundLedger (ledger_shown books.flow books.totals (memory_given outstanding marked sizes sent)) }
+    requires { SoundLedger (ledger_shown books.flow books.totals (memory_given outstanding.now marked.now sizes.now sent.now)) }
     ensures { result ≡ next_marked_of books.flow
-        (shown books.flow.low books.flow.next (memory_before outstanding marked sizes sent)) psn }
+        (shown books.flow.low books.flow.next (memory_before outstanding.now marked.now sizes.now sent.now)) psn }
 {
     let flow = books.flow;
     let n = long(flow);

@@ -44,11 +44,11 @@ pub fn push<'a, 'b, 'c, 'd>(
     sizes: &'c mut [u32],
     sent: &'d mut [u64],
 ) -> Books
-    requires sound_ledger { SoundLedger (ledger_shown books.flow books.totals (memory_given outstanding marked sizes sent)) }
+    requires sound_ledger { SoundLedger (ledger_shown books.flow books.totals (memory_given outstanding.old marked.old sizes.old sent.old)) }
     requires bytes_le_backlog { (bytes ≤ books.flow.backlog) × (bytes < size_end) }
-    requires flow_bound { long_of books.flow < slots_of (memory_given outstanding marked sizes sent) }
-    ensures { kept result.flow result.totals (memory_after outstanding marked sizes sent)
-        ≡ kept_of (push_of time bytes (ledger_shown books.flow books.totals (memory_before outstanding marked sizes sent))) }
+    requires flow_bound { long_of books.flow < slots_of (memory_given outstanding.old marked.old sizes.old sent.old) }
+    ensures { kept result.flow result.totals (memory_after outstanding.new marked.new sizes.new sent.new)
+        ≡ kept_of (push_of time bytes (ledger_shown books.flow books.totals (memory_before outstanding.old marked.old sizes.old sent.old))) }
 {
     let mut flow = books.flow;
     let mut totals = books.totals;
@@ -87,12 +87,12 @@ pub fn resend<'a, 'b, 'c, 'd>(
     sizes: &'c mut [u32],
     sent: &'d mut [u64],
 ) -> Books
-    requires sound_ledger { SoundLedger (ledger_shown books.flow books.totals (memory_given outstanding marked sizes sent)) }
+    requires sound_ledger { SoundLedger (ledger_shown books.flow books.totals (memory_given outstanding.old marked.old sizes.old sent.old)) }
     requires psn_value { is_marked (packet_of books.flow (shown books.flow.low books.flow.next
-        (memory_given outstanding marked sizes sent)) psn)
+        (memory_given outstanding.old marked.old sizes.old sent.old)) psn)
         ≡ true }
-    ensures { kept result.flow result.totals (memory_after outstanding marked sizes sent)
-        ≡ kept_of (resend_of time psn (ledger_shown books.flow books.totals (memory_before outstanding marked sizes sent))) }
+    ensures { kept result.flow result.totals (memory_after outstanding.new marked.new sizes.new sent.new)
+        ≡ kept_of (resend_of time psn (ledger_shown books.flow books.totals (memory_before outstanding.old marked.old sizes.old sent.old))) }
 {
     let flow = books.flow;
     let mut totals = books.totals;

@@ -63,8 +63,8 @@ pub fn find<'a>(
     sent: &'a [u64],
     psn: u32,
 ) -> Packet
-    requires { Lengths (memory_given outstanding marked sizes sent) }
-    ensures { result ≡ packet_of flow (shown flow.low flow.next (memory_before outstanding marked sizes sent)) psn }
+    requires { Lengths (memory_given outstanding.now marked.now sizes.now sent.now) }
+    ensures { result ≡ packet_of flow (shown flow.low flow.next (memory_before outstanding.now marked.now sizes.now sent.now)) psn }
 {
     let low = flow.low;
     let offset = serial::psn_minus(psn, low);
@@ -99,9 +99,9 @@ pub(crate) fn fly<'a, 'b, 'c, 'd>(
     resent: u32,
     time: u64,
 )
-    requires lengths { Lengths (memory_given outstanding marked sizes sent) }
+    requires lengths { Lengths (memory_given outstanding.old marked.old sizes.old sent.old) }
     requires i_in_bounds { (i < length outstanding.old * word_bits) × (bytes < size_end) × (resent ≤ resent_most) }
-    ensures { memory_after outstanding marked sizes sent
+    ensures { memory_after outstanding.new marked.new sizes.new sent.new
         ≡ memory (put_bit outstanding.old i true) (put_bit marked.old i false)
         (slice_set sizes.old i (packed bytes resent)) (slice_set sent.old i time) }
 {

@@ -23,7 +23,7 @@ pub fn is_capacity(n: usize) -> bool
 
 // Whether the four slices go together: a number and a time for each bit, and as many as a capacity.
 fn is_ring<'a>(outstanding: &'a [u64], marked: &'a [u64], sizes: &'a [u32], sent: &'a [u64]) -> bool
-    ensures { result ≡ is_even (memory_before outstanding marked sizes sent) }
+    ensures { result ≡ is_even (memory_before outstanding.now marked.now sizes.now sent.now) }
 {
     let cap = sizes.len();
     let words = cap / bits::WORD_BITS;
@@ -100,7 +100,7 @@ fn head_ok<'a>(outstanding: &'a [u64], marked: &'a [u64], cap: usize, low: u32, 
 }
 
 // What a flow adds to the totals over all flows (request M-107): its outstanding and its marked packets, the bytes of these, its backlog.
-#[derive(Drop)]
+#[derive(Clone, Copy)]
 pub struct Tally {
     pub outstanding: u64,
     pub marked: u64,
@@ -116,8 +116,8 @@ pub fn tally_of<'a>(
     sizes: &'a [u32],
     sent: &'a [u64],
 ) -> Tally
-    requires { Lengths (memory_given outstanding marked sizes sent) }
-    ensures { (result ≡ tally_of flow (memory_before outstanding marked sizes sent))
+    requires { Lengths (memory_given outstanding.now marked.now sizes.now sent.now) }
+    ensures { (result ≡ tally_of flow (memory_before outstanding.now marked.now sizes.now sent.now))
         × (result.outstanding ≤ 4096) × (result.marked ≤ 4096) × (result.marked_bytes ≤ 2 ^ 28) }
 {
     Tally {
@@ -158,7 +158,7 @@ pub fn stands<'a>(
     mtu: u64,
     clock: u64,
 ) -> bool
-    ensures { result ≡ Sound·stands mtu clock flow (shown flow.low flow.next (memory_before outstanding marked sizes sent)) }
+    ensures { result ≡ Sound·stands mtu clock flow (shown flow.low flow.next (memory_before outstanding.now marked.now sizes.now sent.now)) }
 {
     if !is_ring(outstanding, marked, sizes, sent) {
         return false;

@@ -2,7 +2,7 @@
 use check::same;
 
 // What a word says.
-#[derive(Drop)]
+#[derive(Clone, Copy)]
 enum Word {
     Progress,
     Report,
@@ -18,7 +18,7 @@ enum Word {
 }
 
 // What the words say. A word is told by its index, 0 where there is none.
-#[derive(Drop)]
+#[derive(Clone, Copy)]
 pub(crate) struct Options {
     // Progress is told, a report made in place of lines, and how it ended written to descriptor 3.
     pub progress: bool,

@@ -11,7 +11,7 @@ ghost use Rattle.paths.specs.Path.{time_most, Early, with_time, avoids, avoided,
 const TIME_MOST: u64 = 1 << 63;
 
 // The EV that is taken, and the cursor after it.
-#[derive(Drop)]
+#[derive(Clone, Copy)]
 pub struct Choice {
     pub ev: usize,
     pub cursor: usize,
@@ -19,7 +19,7 @@ pub struct Choice {
 
 // What one round of the EVs from the cursor on tells: how many are passed before the first that is not avoided,
 // and how many are avoided in all.
-#[derive(Drop)]
+#[derive(Clone, Copy)]
 struct Round {
     passed: usize,
     avoided: usize,

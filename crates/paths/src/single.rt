@@ -3,7 +3,7 @@ ghost use Rattle.std.specs.Prelude.{◌≡◌, ◌^◌, ◌<◌, ◌≤◌};
 ghost use Rattle.paths.specs.Single.{sound_single, may_move, moved_to};
 
 // What the profile holds. Both numbers have 64 bits, so that a state with them has no gaps.
-#[derive(Drop)]
+#[derive(Clone, Copy)]
 pub struct Single {
     pub current_ev: u64,
     pub last_move: u64,

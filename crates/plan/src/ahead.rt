@@ -17,7 +17,7 @@ use rules::verdict::{Verdict, is_accepted};
 use sender::Send;
 
 // The flows' records and in-flight, as a plan's first sends leave them.
-#[derive(Drop)]
+#[derive(Clone, Copy)]
 pub struct Ahead {
     pub flows: Flows,
     pub in_flight: i64,
@@ -33,8 +33,8 @@ pub(crate) fn start<'a>(
     sent: &'a [u64],
     evs: &'a [u64],
 ) -> Ahead
-    requires { sound_context (context_given c flows outstanding marked sizes sent evs) ≡ true }
-    ensures { result ≡ ahead_of (context_before c flows outstanding marked sizes sent evs) }
+    requires { sound_context (context_given c flows.now outstanding.now marked.now sizes.now sent.now evs.now) ≡ true }
+    ensures { result ≡ ahead_of (context_before c flows.now outstanding.now marked.now sizes.now sent.now evs.now) }
 {
     let totals = c.totals;
     Ahead {
@@ -57,10 +57,10 @@ fn judge_again<'a>(
     k: usize,
     a: Send,
 ) -> Verdict
-    requires evs_value { sound_context (context_given c flows outstanding marked sizes sent evs) ≡ true }
+    requires evs_value { sound_context (context_given c flows.now outstanding.now marked.now sizes.now sent.now evs.now) ≡ true }
     requires k_bound { (k < count_of flows.now) × (i ≤ send_count plan.now) }
     ensures { number_of result
-        ≡ again_number (context_before c flows outstanding marked sizes sent evs) plan.now i k a }
+        ≡ again_number (context_before c flows.now outstanding.now marked.now sizes.now sent.now evs.now) plan.now i k a }
 {
     let x = context::look::packet_at(c, flows, outstanding, marked, sizes, sent, evs, k, a.psn);
     if (x.status != ledger::MARKED) | (a.size != x.size) {
@@ -103,10 +103,10 @@ pub(crate) fn judge_next<'a>(
     s: Ahead,
     p: Planned,
 ) -> Verdict
-    requires evs_value { sound_context (context_given c flows outstanding marked sizes sent evs) ≡ true }
+    requires evs_value { sound_context (context_given c flows.now outstanding.now marked.now sizes.now sent.now evs.now) ≡ true }
     requires i_bound { (i ≤ send_count plan.now) × Flown (2 ^ 26) s.in_flight }
     ensures { number_of result
-        ≡ ahead_number (context_before c flows outstanding marked sizes sent evs) plan.now i s p }
+        ≡ ahead_number (context_before c flows.now outstanding.now marked.now sizes.now sent.now evs.now) plan.now i s p }
 {
     let settings = c.settings;
     let a = p.send;

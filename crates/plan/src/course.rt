@@ -18,7 +18,7 @@ use sender::Send;
 
 // Beside what the judge keeps: the flows' records as they were handed in, each with low at its first packet that still waits to be sent
 // again, at next where none does; and the turn, which moves here only.
-#[derive(Drop)]
+#[derive(Clone, Copy)]
 pub struct Course {
     pub ahead: Ahead,
     pub waits: Flows,
@@ -37,9 +37,9 @@ fn waiting_from<'a>(
     k: usize,
     psn: u32,
 ) -> Flow
-    requires evs_value { sound_context (context_given c flows outstanding marked sizes sent evs) ≡ true }
+    requires evs_value { sound_context (context_given c flows.now outstanding.now marked.now sizes.now sent.now evs.now) ≡ true }
     requires k_bound { k < count_of flows.now }
-    ensures { result ≡ waiting_from k psn (context_before c flows outstanding marked sizes sent evs) }
+    ensures { result ≡ waiting_from k psn (context_before c flows.now outstanding.now marked.now sizes.now sent.now evs.now) }
 {
     let mut f = flow_table::flow_at(flows, k);
     f.low = context::look::marked_from(c, flows, outstanding, marked, sizes, sent, evs, k, psn);
@@ -56,9 +56,9 @@ fn all_waiting<'a>(
     sent: &'a [u64],
     evs: &'a [u64],
 ) -> Flows
-    requires { sound_context (context_given c flows outstanding marked sizes sent evs) ≡ true }
-    ensures { result ≡ waits_to (context_before c flows outstanding marked sizes sent evs)
-        (flow_count (context_before c flows outstanding marked sizes sent evs)) }
+    requires { sound_context (context_given c flows.now outstanding.now marked.now sizes.now sent.now evs.now) ≡ true }
+    ensures { result ≡ waits_to (context_before c flows.now outstanding.now marked.now sizes.now sent.now evs.now)
+        (flow_count (context_before c flows.now outstanding.now marked.now sizes.now sent.now evs.now)) }
 {
     let n = flow_table::count(flows);
     let mut fs = no_flows(n);
@@ -82,8 +82,8 @@ pub(crate) fn start<'a>(
     sent: &'a [u64],
     evs: &'a [u64],
 ) -> Course
-    requires { sound_context (context_given c flows outstanding marked sizes sent evs) ≡ true }
-    ensures { result ≡ course_of (context_before c flows outstanding marked sizes sent evs) }
+    requires { sound_context (context_given c flows.now outstanding.now marked.now sizes.now sent.now evs.now) ≡ true }
+    ensures { result ≡ course_of (context_before c flows.now outstanding.now marked.now sizes.now sent.now evs.now) }
 {
     Course {
         ahead: ahead::start(c, flows, outstanding, marked, sizes, sent, evs),
@@ -158,9 +158,9 @@ pub(crate) fn send_of<'a>(
     bytes: u32,
     k: usize,
 ) -> Planned
-    requires evs_value { sound_context (context_given c flows outstanding marked sizes sent evs) ≡ true }
+    requires evs_value { sound_context (context_given c flows.now outstanding.now marked.now sizes.now sent.now evs.now) ≡ true }
     requires k_bound { (k < count_of flows.now) × (k < flows_most) }
-    ensures { result ≡ send_by (context_before c flows outstanding marked sizes sent evs) s bytes k }
+    ensures { result ≡ send_by (context_before c flows.now outstanding.now marked.now sizes.now sent.now evs.now) s bytes k }
 {
     let ahead = s.ahead;
     let w = nth(s.waits, k);
@@ -195,9 +195,9 @@ fn waits_after<'a>(
     fs: Flows,
     p: Planned,
 ) -> Flows
-    requires evs_value { sound_context (context_given c flows outstanding marked sizes sent evs) ≡ true }
+    requires evs_value { sound_context (context_given c flows.now outstanding.now marked.now sizes.now sent.now evs.now) ≡ true }
     requires flow_bound { (p.flow < count_of flows.now) × (p.flow < flows_most) }
-    ensures { result ≡ waits_after (context_before c flows outstanding marked sizes sent evs) fs p }
+    ensures { result ≡ waits_after (context_before c flows.now outstanding.now marked.now sizes.now sent.now evs.now) fs p }
 {
     let a = p.send;
     let k = p.flow;
@@ -221,10 +221,10 @@ pub(crate) fn after<'a>(
     s: Course,
     p: Planned,
 ) -> Course
-    requires evs_value { sound_context (context_given c flows outstanding marked sizes sent evs) ≡ true }
+    requires evs_value { sound_context (context_given c flows.now outstanding.now marked.now sizes.now sent.now evs.now) ≡ true }
     requires flow_bound { (p.flow < count_of flows.now) × (p.flow < flows_most) × (Flown (2 ^ 26) s.ahead.in_flight) }
     requires size_bound { p.send.resend ≡ false → p.send.size ≤ (flow_by s.ahead p.flow).backlog }
-    ensures { result ≡ course_after (context_before c flows outstanding marked sizes sent evs) s p }
+    ensures { result ≡ course_after (context_before c flows.now outstanding.now marked.now sizes.now sent.now evs.now) s p }
 {
     Course {
         ahead: ahead::after(s.ahead, p),

@@ -14,7 +14,7 @@ use context::sound::is_sound;
 use rules::verdict::{Verdict, is_accepted};
 
 // The verdict on a plan, and the first send that fails, from 0; 0 where none is named.
-#[derive(Drop)]
+#[derive(Clone, Copy)]
 pub struct Judgement {
     pub verdict: Verdict,
     pub send: usize,
@@ -46,10 +46,10 @@ fn judge_each<'a>(
     time: u64,
     plan: &'a [u32],
 ) -> Judgement
-    requires evs_value { sound_context (context_given c flows outstanding marked sizes sent evs) ≡ true }
+    requires evs_value { sound_context (context_given c flows.now outstanding.now marked.now sizes.now sent.now evs.now) ≡ true }
     requires clock_le_time { (c.clock ≤ time) × (time < time_end) }
     ensures { judged (number_of result.verdict) result.send
-        ≡ made_from time 0 (plan_of plan.now) (context_before c flows outstanding marked sizes sent evs) }
+        ≡ made_from time 0 (plan_of plan.now) (context_before c flows.now outstanding.now marked.now sizes.now sent.now evs.now) }
 {
     let n = count(plan);
     let mut s = ahead::start(c, flows, outstanding, marked, sizes, sent, evs);
@@ -91,7 +91,7 @@ pub fn judge<'a>(
     plan: &'a [u32],
 ) -> Judgement
     ensures { judged (number_of result.verdict) result.send
-        ≡ on_judge time (plan_of plan.now) (context_before c flows outstanding marked sizes sent evs) }
+        ≡ on_judge time (plan_of plan.now) (context_before c flows.now outstanding.now marked.now sizes.now sent.now evs.now) }
 {
     if !is_sound(c, flows, outstanding, marked, sizes, sent, evs) {
         return no_send(Verdict::Unsound);

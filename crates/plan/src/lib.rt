@@ -26,7 +26,7 @@ pub const SIZE: usize = 3;
 pub const SENDS_MOST: usize = 64;
 
 // One send of a plan.
-#[derive(Drop)]
+#[derive(Clone, Copy)]
 pub struct Planned {
     pub flow: usize,
     pub send: Send,

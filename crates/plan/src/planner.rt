@@ -16,7 +16,7 @@ use context::sound::is_sound;
 use rules::verdict::{Verdict, is_accepted};
 
 // The verdict, and how many sends the plan has: none where it is refused.
-#[derive(Drop)]
+#[derive(Clone, Copy)]
 pub struct Proposal {
     pub verdict: Verdict,
     pub count: usize,
@@ -44,12 +44,12 @@ fn plan_each<'a, 'b>(
     bytes: u32,
     plan: &'b mut [u32],
 ) -> usize
-    requires evs_value { sound_context (context_given c flows outstanding marked sizes sent evs) ≡ true }
+    requires evs_value { sound_context (context_given c flows.now outstanding.now marked.now sizes.now sent.now evs.now) ≡ true }
     requires clock_le_time { (c.clock ≤ time) × (time < time_end) }
     ensures { (result ≡ length (planned_from (min (send_count plan.old) sends_most) time bytes
-        (context_before c flows outstanding marked sizes sent evs)))
+        (context_before c flows.now outstanding.now marked.now sizes.now sent.now evs.now)))
         × (plan.new ≡ written plan.old 0 (planned_from (min (send_count plan.old) sends_most) time bytes
-        (context_before c flows outstanding marked sizes sent evs))) }
+        (context_before c flows.now outstanding.now marked.now sizes.now sent.now evs.now))) }
 {
     let n = flow_table::count(flows);
     let cap = sizes.len() / n;
@@ -100,7 +100,7 @@ pub fn plan<'a, 'b>(
 ) -> Proposal
     ensures { proposal (number_of result.verdict) result.count plan.new
         ≡ proposed plan.old
-        (on_plan time bytes (send_count plan.old) (context_before c flows outstanding marked sizes sent evs)) }
+        (on_plan time bytes (send_count plan.old) (context_before c flows.now outstanding.now marked.now sizes.now sent.now evs.now)) }
 {
     if !is_sound(c, flows, outstanding, marked, sizes, sent, evs) {
         return Proposal {

@@ -20,7 +20,7 @@ use report_text::places::FIGURES;
 use rules::verdict::Verdict;
 
 // What a call answers: 2, or accepted. The figures are lent.
-#[derive(Drop)]
+#[derive(Clone, Copy)]
 pub struct Tallied {
     pub verdict: Verdict,
     pub place: Place,
@@ -41,12 +41,12 @@ fn tally_turns<'a, 'b, 'c, 'd, 'e, 'f, 'g, 'h>(
     log: &'g [u8],
     figures: &'h mut [u64],
 ) -> Tallied
-    requires evs_value { sound_place place (context_given state flows outstanding marked sizes sent evs) ≡ true }
+    requires evs_value { sound_place place (context_given state flows.old outstanding.old marked.old sizes.old sent.old evs.old) ≡ true }
     requires figures_len { length figures.old ≡ figure_count }
     ensures { tallying (number_of result.verdict) result.place result.state
-        flows.new (memory_after outstanding marked sizes sent) evs.new figures.new
+        flows.new (memory_after outstanding.new marked.new sizes.new sent.new) evs.new figures.new
         ≡ tally_turns_of (feed source log.now) place
-        (context_before state flows outstanding marked sizes sent evs) figures.old }
+        (context_before state flows.old outstanding.old marked.old sizes.old sent.old evs.old) figures.old }
 {
     let mut place = place;
     let mut state = state;
@@ -95,9 +95,9 @@ pub fn tally<'a, 'b, 'c, 'd, 'e, 'f, 'g, 'h>(
     figures: &'h mut [u64],
 ) -> Tallied
     ensures { tallying (number_of result.verdict) result.place result.state
-        flows.new (memory_after outstanding marked sizes sent) evs.new figures.new
+        flows.new (memory_after outstanding.new marked.new sizes.new sent.new) evs.new figures.new
         ≡ tally_of (feed source log.now) place
-        (context_before state flows outstanding marked sizes sent evs) figures.old }
+        (context_before state flows.old outstanding.old marked.old sizes.old sent.old evs.old) figures.old }
 {
     let whole = is_sound(place, state, flows, outstanding, marked, sizes, sent, evs);
     if (figures.len() != FIGURES) | !whole {

@@ -67,9 +67,9 @@ pub(crate) fn judge_send<'a>(
     a: Send,
 ) -> Verdict
     requires bounded { Bounded c }
-    requires lengths { Lengths (memory_given outstanding marked sizes sent) }
+    requires lengths { Lengths (memory_given outstanding.now marked.now sizes.now sent.now) }
     ensures { number_of result ≡ first_of (send_all_rows time a c
-        (shown c.flow.low c.flow.next (memory_before outstanding marked sizes sent))) }
+        (shown c.flow.low c.flow.next (memory_before outstanding.now marked.now sizes.now sent.now))) }
 {
     let settings = c.settings;
     let flow = c.flow;
@@ -122,9 +122,9 @@ pub(crate) fn judge_nack<'a>(
     a: Nack,
 ) -> Verdict
     requires bounded { Bounded c }
-    requires lengths { Lengths (memory_given outstanding marked sizes sent) }
+    requires lengths { Lengths (memory_given outstanding.now marked.now sizes.now sent.now) }
     ensures { number_of result ≡ first_of (nack_all_rows time a c
-        (shown c.flow.low c.flow.next (memory_before outstanding marked sizes sent))) }
+        (shown c.flow.low c.flow.next (memory_before outstanding.now marked.now sizes.now sent.now))) }
 {
     let settings = c.settings;
     let flow = c.flow;
@@ -159,9 +159,9 @@ pub(crate) fn judge_loss<'a>(
     a: Loss,
 ) -> Verdict
     requires bounded { Bounded c }
-    requires lengths { Lengths (memory_given outstanding marked sizes sent) }
+    requires lengths { Lengths (memory_given outstanding.now marked.now sizes.now sent.now) }
     ensures { number_of result ≡ first_of (loss_all_rows time a c
-        (shown c.flow.low c.flow.next (memory_before outstanding marked sizes sent))) }
+        (shown c.flow.low c.flow.next (memory_before outstanding.now marked.now sizes.now sent.now))) }
 {
     let settings = c.settings;
     let flow = c.flow;

@@ -36,7 +36,7 @@ pub const ACTIVE: u32 = 3;
 
 // One flow's record beside what all flows share: what its step works on. Numbers of 32 bits stand in pairs, here and in its parts, so that
 // it has no gaps: docs/DECISIONS.md, "A state with no gaps".
-#[derive(Drop)]
+#[derive(Clone, Copy)]
 pub struct Controller {
     pub settings: Settings,
     pub flow: Flow,
@@ -50,20 +50,20 @@ pub struct Controller {
 }
 
 // What an event answers: the whole state, and the verdict on it.
-#[derive(Drop)]
+#[derive(Clone, Copy)]
 pub struct Answer {
     pub state: Controller,
     pub verdict: Verdict,
 }
 
 // What an ACK or a NACK says of its sample (request M-103): nothing where it is refused.
-#[derive(Drop)]
+#[derive(Clone, Copy)]
 pub enum Feedback {
     Sampled(Sampling),
     Nothing,
 }
 
-#[derive(Drop)]
+#[derive(Clone, Copy)]
 pub struct Heard {
     pub state: Controller,
     pub verdict: Verdict,
@@ -71,7 +71,7 @@ pub struct Heard {
 }
 
 // What a path choice answers: the EV, 0 where it is refused.
-#[derive(Drop)]
+#[derive(Clone, Copy)]
 pub struct Routed {
     pub state: Controller,
     pub verdict: Verdict,
@@ -80,14 +80,14 @@ pub struct Routed {
 
 // Events, with fields wide enough for what firmware hands in wrongly. An ACK's map stands behind what a send and a NACK have: an event of
 // any kind is kept in the same bytes, and what would stand over the map's would cut it in pieces (docs/PERFORMANCE.md).
-#[derive(Drop)]
+#[derive(Clone, Copy)]
 pub struct Send {
     pub psn: u32,
     pub size: u32,
     pub resend: bool,
 }
 
-#[derive(Drop)]
+#[derive(Clone, Copy)]
 pub struct Ack {
     pub cum: u32,
     pub trigger: u32,
@@ -99,7 +99,7 @@ pub struct Ack {
     pub retx: bool,
 }
 
-#[derive(Drop)]
+#[derive(Clone, Copy)]
 pub struct Nack {
     pub psn: u32,
     pub ev: u32,
@@ -108,7 +108,7 @@ pub struct Nack {
     pub retx: bool,
 }
 
-#[derive(Drop)]
+#[derive(Clone, Copy)]
 pub struct Loss {
     pub psn: u32,
     pub ev: u32,

@@ -2,7 +2,7 @@
 use rules::verdict::Verdict;
 
 // What a look finds; 0 where it is refused.
-#[derive(Drop)]
+#[derive(Clone, Copy)]
 pub struct Look {
     pub verdict: Verdict,
     pub found: u32,

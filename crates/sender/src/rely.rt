@@ -29,9 +29,9 @@ pub fn new_data<'a>(
     time: u64,
     bytes: u64,
 ) -> Answer
-    requires { Holds (world_given c outstanding marked sizes sent evs) }
-    ensures { answered_after (number_of result.verdict) result.state outstanding marked sizes sent evs
-        ≡ past_new_data time bytes (world_before c outstanding marked sizes sent evs) }
+    requires { Holds (world_given c outstanding.now marked.now sizes.now sent.now evs.now) }
+    ensures { answered_after (number_of result.verdict) result.state outstanding.now marked.now sizes.now sent.now evs.now
+        ≡ past_new_data time bytes (world_before c outstanding.now marked.now sizes.now sent.now evs.now) }
 {
     let verdict = judge::judge_new_data(c, time, bytes);
     if !is_accepted(verdict) {
@@ -55,9 +55,9 @@ pub fn send<'a, 'b, 'c, 'd, 'e>(
     time: u64,
     a: Send,
 ) -> Answer
-    requires { Holds (world_given c outstanding marked sizes sent evs) }
-    ensures { answered_after (number_of result.verdict) result.state outstanding marked sizes sent evs
-        ≡ past_send time a (world_before c outstanding marked sizes sent evs) }
+    requires { Holds (world_given c outstanding.old marked.old sizes.old sent.old evs.now) }
+    ensures { answered_after (number_of result.verdict) result.state outstanding.new marked.new sizes.new sent.new evs.now
+        ≡ past_send time a (world_before c outstanding.old marked.old sizes.old sent.old evs.now) }
 {
     let verdict = judge::judge_send(c, outstanding, marked, sizes, sent, time, a);
     if !is_accepted(verdict) {
@@ -81,10 +81,10 @@ pub fn ack<'a, 'b, 'c, 'd, 'e>(
     time: u64,
     a: Ack,
 ) -> Heard
-    requires { Holds (world_given c outstanding marked sizes sent evs) }
-    ensures evs_value { answered_after (number_of result.verdict) result.state outstanding marked sizes sent evs
-        ≡ past_ack time a (world_before c outstanding marked sizes sent evs) }
-    ensures feedback_value { says_of result.feedback ≡ past_ack_says time a (world_before c outstanding marked sizes sent evs) }
+    requires { Holds (world_given c outstanding.old marked.old sizes.old sent.old evs.old) }
+    ensures evs_value { answered_after (number_of result.verdict) result.state outstanding.new marked.new sizes.new sent.new evs.new
+        ≡ past_ack time a (world_before c outstanding.old marked.old sizes.old sent.old evs.old) }
+    ensures feedback_value { says_of result.feedback ≡ past_ack_says time a (world_before c outstanding.old marked.old sizes.old sent.old evs.old) }
 {
     let verdict = judge::judge_ack(c, time, a);
     if !is_accepted(verdict) {
@@ -111,10 +111,10 @@ pub fn nack<'a, 'b, 'c>(
     time: u64,
     a: Nack,
 ) -> Heard
-    requires { Holds (world_given c outstanding marked sizes sent evs) }
-    ensures evs_value { answered_after (number_of result.verdict) result.state outstanding marked sizes sent evs
-        ≡ past_nack time a (world_before c outstanding marked sizes sent evs) }
-    ensures feedback_value { says_of result.feedback ≡ past_nack_says time a (world_before c outstanding marked sizes sent evs) }
+    requires { Holds (world_given c outstanding.now marked.old sizes.now sent.now evs.old) }
+    ensures evs_value { answered_after (number_of result.verdict) result.state outstanding.now marked.new sizes.now sent.now evs.new
+        ≡ past_nack time a (world_before c outstanding.now marked.old sizes.now sent.now evs.old) }
+    ensures feedback_value { says_of result.feedback ≡ past_nack_says time a (world_before c outstanding.now marked.old sizes.now sent.now evs.old) }
 {
     let verdict = judge::judge_nack(c, outstanding, marked, sizes, sent, time, a);
     let mut state = c;
@@ -143,9 +143,9 @@ pub fn loss<'a, 'b, 'c>(
     time: u64,
     a: Loss,
 ) -> Answer
-    requires { Holds (world_given c outstanding marked sizes sent evs) }
-    ensures { answered_after (number_of result.verdict) result.state outstanding marked sizes sent evs
-        ≡ past_loss time a (world_before c outstanding marked sizes sent evs) }
+    requires { Holds (world_given c outstanding.now marked.old sizes.now sent.now evs.old) }
+    ensures { answered_after (number_of result.verdict) result.state outstanding.now marked.new sizes.now sent.now evs.new
+        ≡ past_loss time a (world_before c outstanding.now marked.old sizes.now sent.now evs.old) }
 {
     let verdict = judge::judge_loss(c, outstanding, marked, sizes, sent, time, a);
     let mut state = c;
@@ -165,9 +165,9 @@ pub fn path<'a>(
     evs: &'a [u64],
     time: u64,
 ) -> Routed
-    requires { Holds (world_given c outstanding marked sizes sent evs) }
-    ensures { routed_after (number_of result.verdict) result.ev result.state outstanding marked sizes sent evs
-        ≡ past_path time (world_before c outstanding marked sizes sent evs) }
+    requires { Holds (world_given c outstanding.now marked.now sizes.now sent.now evs.now) }
+    ensures { routed_after (number_of result.verdict) result.ev result.state outstanding.now marked.now sizes.now sent.now evs.now
+        ≡ past_path time (world_before c outstanding.now marked.now sizes.now sent.now evs.now) }
 {
     let verdict = judge::judge_path(c, time);
     if !is_accepted(verdict) {

@@ -93,7 +93,7 @@ pub fn clear<'a, 'b, 'c, 'd, 'e>(
     sent: &'d mut [u64],
     evs: &'e mut [u64],
 )
-    ensures { (memory_after outstanding marked sizes sent ≡ clear_memory (memory_before outstanding marked sizes sent))
+    ensures { (memory_after outstanding.new marked.new sizes.new sent.new ≡ clear_memory (memory_before outstanding.old marked.old sizes.old sent.old))
         × (evs.new ≡ zeros evs.old) }
 {
     clear_64(outstanding);

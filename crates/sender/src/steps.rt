@@ -21,14 +21,14 @@ use window::delay::sample_in;
 use window::{Sampling, Settings};
 
 // A path choice: the state, and the EV.
-#[derive(Drop)]
+#[derive(Clone, Copy)]
 pub(crate) struct Stepped {
     pub state: Controller,
     pub ev: u32,
 }
 
 // An ACK or a NACK: the state, and what the sample step says.
-#[derive(Drop)]
+#[derive(Clone, Copy)]
 pub(crate) struct Sensed {
     pub state: Controller,
     pub sampling: Sampling,
@@ -86,10 +86,10 @@ pub(crate) fn send<'a, 'b, 'c, 'd, 'e>(
     time: u64,
     a: Send,
 ) -> Controller
-    requires holds { Holds (world_given c outstanding marked sizes sent evs) }
-    requires evs_value { first_of (send_all_rows time a c (ring_of (world_given c outstanding marked sizes sent evs))) ≡ 0 }
-    ensures { world_after result outstanding marked sizes sent evs
-        ≡ world_of (send_step time a (view_of (world_before c outstanding marked sizes sent evs))) }
+    requires holds { Holds (world_given c outstanding.old marked.old sizes.old sent.old evs.now) }
+    requires evs_value { first_of (send_all_rows time a c (ring_of (world_given c outstanding.old marked.old sizes.old sent.old evs.now))) ≡ 0 }
+    ensures { world_after result outstanding.new marked.new sizes.new sent.new evs.now
+        ≡ world_of (send_step time a (view_of (world_before c outstanding.old marked.old sizes.old sent.old evs.now))) }
 {
     let settings = c.settings;
     let window = c.window;
@@ -132,11 +132,11 @@ pub(crate) fn ack<'a, 'b, 'c, 'd, 'e>(
     time: u64,
     a: Ack,
 ) -> Sensed
-    requires holds { Holds (world_given c outstanding marked sizes sent evs) }
+    requires holds { Holds (world_given c outstanding.old marked.old sizes.old sent.old evs.old) }
     requires c_value { first_of (ack_all_rows time a c) ≡ 0 }
-    ensures evs_value { world_after result.state outstanding marked sizes sent evs
-        ≡ world_of (ack_step time a (view_of (world_before c outstanding marked sizes sent evs))) }
-    ensures sampling_value { result.sampling ≡ ack_sampling time a (view_of (world_before c outstanding marked sizes sent evs)) }
+    ensures evs_value { world_after result.state outstanding.new marked.new sizes.new sent.new evs.new
+        ≡ world_of (ack_step time a (view_of (world_before c outstanding.old marked.old sizes.old sent.old evs.old))) }
+    ensures sampling_value { result.sampling ≡ ack_sampling time a (view_of (world_before c outstanding.old marked.old sizes.old sent.old evs.old)) }
 {
     let settings = c.settings;
     let flow = c.flow;
@@ -177,11 +177,11 @@ pub(crate) fn nack<'a, 'b, 'c>(
     time: u64,
     a: Nack,
 ) -> Sensed
-    requires holds { Holds (world_given c outstanding marked sizes sent evs) }
-    requires evs_value { first_of (nack_all_rows time a c (ring_of (world_given c outstanding marked sizes sent evs))) ≡ 0 }
-    ensures evs_value_2 { world_after result.state outstanding marked sizes sent evs
-        ≡ world_of (nack_step time a (view_of (world_before c outstanding marked sizes sent evs))) }
-    ensures sampling_value { result.sampling ≡ nack_sampling time a (view_of (world_before c outstanding marked sizes sent evs)) }
+    requires holds { Holds (world_given c outstanding.now marked.old sizes.now sent.now evs.old) }
+    requires evs_value { first_of (nack_all_rows time a c (ring_of (world_given c outstanding.now marked.old sizes.now sent.now evs.old))) ≡ 0 }
+    ensures evs_value_2 { world_after result.state outstanding.now marked.new sizes.now sent.now evs.new
+        ≡ world_of (nack_step time a (view_of (world_before c outstanding.now marked.old sizes.now sent.now evs.old))) }
+    ensures sampling_value { result.sampling ≡ nack_sampling time a (view_of (world_before c outstanding.now marked.old sizes.now sent.now evs.old)) }
 {
     let settings = c.settings;
     let flow = c.flow;
@@ -221,10 +221,10 @@ pub(crate) fn loss<'a, 'b, 'c>(
     time: u64,
     a: Loss,
 ) -> Controller
-    requires holds { Holds (world_given c outstanding marked sizes sent evs) }
-    requires evs_value { first_of (loss_all_rows time a c (ring_of (world_given c outstanding marked sizes sent evs))) ≡ 0 }
-    ensures { world_after result outstanding marked sizes sent evs
-        ≡ world_of (loss_step time a (view_of (world_before c outstanding marked sizes sent evs))) }
+    requires holds { Holds (world_given c outstanding.now marked.old sizes.now sent.now evs.old) }
+    requires evs_value { first_of (loss_all_rows time a c (ring_of (world_given c outstanding.now marked.old sizes.now sent.now evs.old))) ≡ 0 }
+    ensures { world_after result outstanding.now marked.new sizes.now sent.now evs.new
+        ≡ world_of (loss_step time a (view_of (world_before c outstanding.now marked.old sizes.now sent.now evs.old))) }
 {
     let settings = c.settings;
     let flow = c.flow;

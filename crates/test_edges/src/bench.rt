@@ -5,7 +5,7 @@ use crate::worlds::World;
 use crate::{calls, fields, make, say, slots, words, worlds};
 
 // The world, the one before its last call or to compare it with, and the time of calls.
-#[derive(Drop)]
+#[derive(Clone, Copy)]
 pub struct Bench {
     pub before: World,
     pub world: World,

@@ -7,7 +7,7 @@ const MOST: usize = 8;
 pub type Numbers = [u64; 8];
 
 // `open` is whether the parenthesis of the case was read.
-#[derive(Drop)]
+#[derive(Clone, Copy)]
 pub struct Phrase {
     pub word: u32,
     pub numbers: Numbers,

@@ -30,7 +30,7 @@ pub(crate) fn end_of(s: &[u8], from: usize, word: bool) -> usize
 
 // A number as far as it is read: what stands before the last sign, that sign, and what follows it, alone or as a power of two; and whether
 // it is written as the cases write numbers.
-#[derive(Drop)]
+#[derive(Clone, Copy)]
 pub struct Sum {
     pub total: u64,
     pub minus: bool,

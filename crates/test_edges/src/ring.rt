@@ -47,7 +47,7 @@ fn slot_after(w: World, k: usize) -> usize {
 }
 
 // Slots of one kind.
-#[derive(Drop)]
+#[derive(Clone, Copy)]
 struct Run {
     kind: u8,
     count: u64,

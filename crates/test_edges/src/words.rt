@@ -200,7 +200,7 @@ pub const UNKNOWN: u32 = 78;
 
 // A word looked for in a list, and where it stands in a text: the place that the list's next word has, how far the word is compared,
 // whether it was the same so far, and the place where it was found.
-#[derive(Drop)]
+#[derive(Clone, Copy)]
 struct Search {
     from: usize,
     end: usize,

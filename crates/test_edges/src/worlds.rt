@@ -18,7 +18,7 @@ pub const SLOTS_MOST: usize = 576;
 
 // The first `table` words of `flows` are lent, and so much of the other memory as these flows have rings: of 64 slots, or one of 128
 // where it is wide. `flow` is the one that the case is at, `number` what the last call answered, `choice` whom it named.
-#[derive(Drop)]
+#[derive(Clone, Copy)]
 pub struct World {
     pub flows: [u64; TABLE_MOST],
     pub evs: [u64; 256],
@@ -35,7 +35,7 @@ pub struct World {
 }
 
 // An entry point, with what is handed to it.
-#[derive(Drop)]
+#[derive(Clone, Copy)]
 pub enum Call {
     SetUp(Settings),
     NewData(u64),
@@ -48,7 +48,7 @@ pub enum Call {
 }
 
 // What a call answered; only a choice names anybody.
-#[derive(Drop)]
+#[derive(Clone, Copy)]
 struct Got {
     number: u32,
     choice: Choice,

@@ -10,7 +10,7 @@ use window::Settings;
 
 // An entry point; the events are calls on empty rings that no row but 2, 10 or, by its EV, 23 or, by its flow, 25 refuses, and a choice is
 // refused by 2 alone.
-#[derive(Drop)]
+#[derive(Clone, Copy)]
 pub enum Call {
     SetUp(Settings),
     NewData,
@@ -23,7 +23,7 @@ pub enum Call {
 }
 
 // What a call answered; only a choice names anybody.
-#[derive(Drop)]
+#[derive(Clone, Copy)]
 pub struct Got {
     pub number: u32,
     pub choice: Choice,
@@ -31,7 +31,7 @@ pub struct Got {
 }
 
 // What the two looks answered.
-#[derive(Drop)]
+#[derive(Clone, Copy)]
 pub struct Looks {
     pub status: Look,
     pub next_marked: Look,

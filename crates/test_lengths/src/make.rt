@@ -17,7 +17,7 @@ pub const TABLE: usize = 64;
 
 // What a case says but for lengths: how many EVs the settings have, where the cursor stands, the EV of feedback, the flow that is called,
 // the one that has the backlog, and the held turn.
-#[derive(Drop)]
+#[derive(Clone, Copy)]
 pub struct Given {
     pub count: u64,
     pub cursor: u32,

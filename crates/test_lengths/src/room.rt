@@ -7,7 +7,7 @@ use crate::{calls, make, same};
 use context::choice::Choice;
 
 // The lengths of what is lent: words of the table, of outstanding and of marked bits, sizes, send times, EV times.
-#[derive(Drop)]
+#[derive(Clone, Copy)]
 pub struct Lengths {
     pub flows: usize,
     pub outstanding: usize,
@@ -18,7 +18,7 @@ pub struct Lengths {
 }
 
 // The number that a call answered, whom it named, and whether state and lent memory are what it must leave.
-#[derive(Drop)]
+#[derive(Clone, Copy)]
 pub struct Verdict {
     pub number: u32,
     pub choice: Choice,

@@ -1,0 +1,12 @@
+-- `deliver::retire_reached` meets its contract: with nothing reached none leaves, by the law of proofs/Retiring; else `retire` does it.
+use Rattle.std.proofs.Common.{◌<◌, arith, rules}
+use Rattle.serial.specs.Psn.{psns}
+use Rattle.ledger.proofs.Retiring.{none_retires}
+use Rattle.ledger.proofs.deliver.retire_reached.Goals as goal
+
+low_fits : (s : tie.Start) → s.args.flow.low < psns
+low_fits s = omega arith
+
+pub returns-then-far-eq0 : goal.returns-then-far-eq0
+returns-then-far-eq0 c =
+    none_retires c.requires.standing (low_fits c) c.requires.n_value (c.requires.n_value_2 c.if-far-eq0.true)

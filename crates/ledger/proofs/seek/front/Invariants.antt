@@ -1,0 +1,13 @@
+-- `seek::front` meets its contract: of the packets passed none is words. A turn looks at the rest of one word.
+use Rattle.std.proofs.Common.{◌≡◌, ℕ, ◌+◌, ◌-◌, ◌*◌, ◌/◌, ◌%◌, ◌^◌, ◌<◌, false, length, get_or, sym, ap, ◌∙◌, arith}
+use Rattle.serial.specs.Psn.{plus}
+use Rattle.ledger.specs.Ring.{place_of}
+use Rattle.ledger.proofs.Geometry.{Cap, cap_facts}
+use Rattle.ledger.proofs.Fronts.{Slot, Lowest, Passed, stops, stops_late, passes, none_left}
+use Rattle.ledger.proofs.seek.front.Given as goal
+
+abbrev pub invariant-loop-k : goal.invariant-loop-k
+invariant-loop-k l = Passed l.words l.low l.n l.k
+
+abbrev pub decreases-loop-k : goal.decreases-loop-k
+decreases-loop-k l = l.n - l.k
