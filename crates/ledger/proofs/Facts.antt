@@ -12,7 +12,7 @@ use Rattle.serial.specs.Psn.{psns}
 use Rattle.serial.specs.Count.{counts}
 use Rattle.ledger.specs.Packets.{flying_status, done_status, no_packet, is_done, flying_one, marked_one, marked_size, sum_of}
 use Rattle.ledger.specs.Bounds.{size_least, resent_most, backlog_most, in_bounds, Flown}
-use Rattle.ledger.specs.Ring.{Ring, Ledger, ledger, cap_of, packet_at, place_of, long_of, laid, packets, offset_of}
+use Rattle.ledger.specs.Ring.{Ring, Ledger, cap_of, packet_at, place_of, long_of, laid, packets, offset_of}
 use Rattle.ledger.specs.Ring.{packet_of}
 use Rattle.ledger.specs.Sound.{all_to, is_capacity, is_ring, is_live, is_zero, slot_ok, head_ok, stands, Others, tallies, sound_ledger, Even}
 use Rattle.ledger.specs.Sound.{Few, SoundLedger}

@@ -1,15 +1,15 @@
 -- What is kept after a new packet, a resend and a mark: the memory that shows the definition's ring.
 -- Assumes nothing.
-use Rattle.std.proofs.Common.{◌≡◌, ℕ, suc, ◌+◌, ◌-◌, ◌*◌, ◌%◌, ◌<◌, ◌≤◌, min, Bool, true, false, ltb, List, length, get_or, set, ℤ, pos, ◌+ℤ◌, ◌-ℤ◌, sym, refl, ap, ◌∙◌, mod-lt, arith, le-ltb, lt-ltb}
+use Rattle.std.proofs.Common.{◌≡◌, ℕ, ◌+◌, ◌-◌, ◌%◌, ◌<◌, min, Bool, true, false, List, length, get_or, set, ℤ, pos, ◌+ℤ◌, ◌-ℤ◌, sym, refl, ap, ◌∙◌, mod-lt, arith, le-ltb, lt-ltb}
 use mathlib.Core.Logic.{by_cases}
 use native.Mathlib.Decide.{dec_lt}
 use Rattle.rules.specs.Branch.{if_so}
-use Rattle.bits.specs.Bits.{word_bits, bit_at, put_bit}
+use Rattle.bits.specs.Bits.{put_bit}
 use Rattle.serial.specs.Wrap.{minus}
 use Rattle.serial.specs.Psn.{psns, plus}
 use Rattle.ledger.specs.Bounds.{resent_most}
-use Rattle.ledger.specs.Packets.{flying_status, marked_status, with_status, is_flying, is_marked}
-use Rattle.ledger.specs.Ring.{Ring, Ledger, ledger, cap_of, place_of, age_of, long_of, offset_of, packet_at, packet_of, put_at}
+use Rattle.ledger.specs.Packets.{flying_status, is_flying, is_marked}
+use Rattle.ledger.specs.Ring.{cap_of, place_of, age_of, long_of, offset_of, packet_at, packet_of}
 use Rattle.ledger.specs.Memory.{
   Memory,
   memory,
@@ -28,12 +28,12 @@ use Rattle.ledger.specs.Memory.{
   Words,
 }
 use Rattle.ledger.specs.Sound.{is_capacity, Lengths, SoundLedger}
-use Rattle.ledger.specs.Steps.{new_packet, push_of, resend_of, mark_of}
+use Rattle.ledger.specs.Steps.{push_of, resend_of, mark_of}
 use Rattle.ledger.specs.declared.Flow.{Flow}
 use Rattle.ledger.specs.declared.Totals.{Totals}
 use Rattle.ledger.specs.declared.Packet.{Packet}
 use Rattle.ledger.proofs.Geometry.{Cap, cap_facts, place_psn, place_age, age_place, packet_here}
-use Rattle.ledger.proofs.Facts.{Facts, sound_ledger_facts, packet_live, packet_some}
+use Rattle.ledger.proofs.Facts.{sound_ledger_facts, packet_live, packet_some}
 use Rattle.ledger.proofs.Shows.{
   slots_even,
   shown_cap,
@@ -45,7 +45,7 @@ use Rattle.ledger.proofs.Shows.{
   kept_is,
 }
 use Rattle.ledger.proofs.Puts.{in_window_lem, shown_put, flies_there, marked_there}
-use Rattle.ledger.proofs.Sends.{long_more, push_is, resend_is, flies, waits}
+use Rattle.ledger.proofs.Sends.{long_more, push_is, resend_is, flies}
 use Rattle.ledger.proofs.Marks.{mark_is}
 
 -- a slot that shows a flying packet is outstanding

@@ -1,9 +1,9 @@
 -- A slot overwritten: what a memory shows whose bits and numbers differ in one slot.
 -- Assumes nothing.
-use Rattle.std.proofs.Common.{◌≡◌, ℕ, ◌+◌, ◌*◌, ◌%◌, ◌<◌, ◌≤◌, Bool, true, false, ◌||◌, eqb, ltb, List, length, get_or, set, sym, refl, ap, ◌∙◌, ap₂, ⊎_elim, mod-lt, arith, length-set, get_or-set_other, get_or-set_same, lt-ltb}
+use Rattle.std.proofs.Common.{◌≡◌, ℕ, ◌*◌, ◌%◌, ◌<◌, ◌≤◌, Bool, true, false, length, get_or, set, sym, refl, ap, ◌∙◌, ap₂, ⊎_elim, mod-lt, arith, length-set, get_or-set_other, get_or-set_same, lt-ltb}
 use mathlib.Core.Logic.{by_cases}
 use native.Mathlib.Decide.{dec_lt}
-use Rattle.bits.specs.Bits.{word_bits, is_word, bit_at, put_bit}
+use Rattle.bits.specs.Bits.{word_bits, bit_at, put_bit}
 use Rattle.bits.proofs.Words.{same_or_not, put_long, put_same, put_other, put_word}
 use Rattle.serial.specs.Wrap.{minus}
 use Rattle.serial.specs.Psn.{psns}

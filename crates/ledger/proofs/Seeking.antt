@@ -7,7 +7,7 @@ use Rattle.bits.proofs.Words.{lowest_same}
 use Rattle.serial.specs.Psn.{psns, plus}
 use Rattle.serial.proofs.Cover.{plus_minus}
 use Rattle.ledger.specs.Packets.{marked_status, done_status, no_packet, is_marked}
-use Rattle.ledger.specs.Ring.{cap_of, place_of, long_of, offset_of, packets, packet_at}
+use Rattle.ledger.specs.Ring.{place_of, long_of, offset_of, packets, packet_at}
 use Rattle.ledger.specs.Memory.{Memory, slots_of, in_window, status_of, shown, ledger_shown}
 use Rattle.ledger.specs.Seek.{unmarked_run, next_marked_of}
 use Rattle.ledger.specs.Sound.{SoundLedger}

@@ -1,18 +1,16 @@
 -- The ring that a memory shows, slot by slot, and the memory of a ring: each is the other's inverse where the ring holds together.
 -- Assumes nothing.
-use Rattle.std.proofs.Common.{◌≡◌, ℕ, zero, suc, ◌+◌, ◌-◌, ◌*◌, ◌/◌, ◌%◌, ◌^◌, ◌<◌, ◌≤◌, Bool, true, false, ◌&&◌, ◌||◌, eqb, ltb, ◌⊎◌, List, [], ◌∷◌, map, length, get_or, set, sym, refl, ap, ◌∙◌, subst, ap₂, inl, inr, ⊎_elim, div-add-mod', mul-div_cancel, arith, ext_get_or, le-ltb, lt-ltb, eq-eqb, ne_eqb, eqb-true}
+use Rattle.std.proofs.Common.{◌≡◌, ℕ, zero, suc, ◌*◌, ◌/◌, ◌<◌, ◌≤◌, Bool, true, false, ◌&&◌, eqb, ◌⊎◌, List, map, length, get_or, sym, refl, ap, ◌∙◌, ap₂, inl, inr, ⊎_elim, arith, ext_get_or, le-ltb, lt-ltb, eq-eqb, eqb-true}
 use mathlib.Core.Bool.{false≢true}
 use mathlib.Core.Logic.{by_cases}
 use native.Mathlib.Decide.{dec_lt}
 use lib.ListN.{get_or-map, get_or-eq_default, length-map}
-use Rattle.rules.specs.Branch.{if_so, if_eq, so_yes, so_both, eq_yes, eq_no}
+use Rattle.rules.specs.Branch.{if_so, so_yes, so_both, eq_yes, eq_no}
 use Rattle.rules.specs.Test.{both, whole}
 use Rattle.bits.specs.Bits.{word_bits, is_word, bit_at, words_of}
-use Rattle.bits.proofs.Words.{same_or_not, words_long, words_at_lem, words_word, words_are, words_same}
-use Rattle.serial.specs.Wrap.{minus}
-use Rattle.serial.specs.Psn.{psns}
-use Rattle.ledger.specs.Packets.{flying_status, marked_status, done_status, no_packet}
-use Rattle.ledger.specs.Ring.{Ring, ring, Ledger, ledger, tabulate, age_of, place_of, cap_of, long_of, packet_at, laid, packets}
+use Rattle.bits.proofs.Words.{same_or_not, words_long, words_at_lem, words_word, words_are}
+use Rattle.ledger.specs.Packets.{flying_status, done_status, no_packet}
+use Rattle.ledger.specs.Ring.{Ring, Ledger, tabulate, age_of, cap_of, long_of, packet_at, laid, packets}
 use Rattle.ledger.specs.Memory.{
   Memory,
   memory,
@@ -40,8 +38,8 @@ use Rattle.ledger.specs.declared.Flow.{Flow}
 use Rattle.ledger.specs.declared.Totals.{Totals}
 use Rattle.ledger.specs.declared.Packet.{Packet}
 use Rattle.ledger.proofs.Walks.{length_tabulate, get_d_tabulate}
-use Rattle.ledger.proofs.Geometry.{Cap, cap_facts, place_age, age_lt, laid_at, laid_cap, rings}
-use Rattle.ledger.proofs.Facts.{Facts, Live, stands_facts, ring_even, ring_cap, packets_long, packets_same}
+use Rattle.ledger.proofs.Geometry.{Cap, cap_facts, place_age, age_lt, laid_at, rings}
+use Rattle.ledger.proofs.Facts.{Facts, Live, stands_facts, ring_even, packets_long, packets_same}
 
 -- ---- lengths
 

@@ -2,7 +2,7 @@
 -- the bits add up to the totals of the packets (`totals_are`).
 -- Assumes nothing.
 use Rattle.std.proofs.Common.{◌≡◌, ℕ, zero, suc, ◌+◌, ◌-◌, ◌*◌, ◌/◌, ◌%◌, ◌<◌, ◌≤◌, Bool, true, false, not, ◌&&◌, ◌||◌, eqb, ltb, leb, List, length, get_or, sym, refl, ap, ◌∙◌, zero-le, mod-lt, mod-eq_of_lt, zero-add, arith, le-ltb, lt-ltb, eq-eqb, ne_eqb, eqb-true, le-leb, leb-true}
-use mathlib.Core.Bool.{and-true, and_assoc, false≢true}
+use mathlib.Core.Bool.{and-true, false≢true}
 use mathlib.Core.Logic.{by_cases}
 use native.Mathlib.Nat.{mod-eq-sub-mod}
 use native.Mathlib.Decide.{dec_lt}

@@ -1,6 +1,6 @@
 -- What each accepted event does to the ledger. Document 01, "The ledger".
 -- Assumes nothing.
-use Rattle.std.specs.Prelude.{ℕ, ◌+◌, ◌-◌, ◌*◌, min, [], ◌∷◌, ◌++◌, drop, ℤ, pos, ◌+ℤ◌, slice_set}
+use Rattle.std.specs.Prelude.{ℕ, ◌+◌, ◌-◌, ◌*◌, min, [], ◌∷◌, ◌++◌, drop, pos, ◌+ℤ◌, slice_set}
 use Rattle.rules.specs.Branch.{if_so}
 use Rattle.serial.specs.Psn.{plus, covered}
 use Rattle.serial.specs.Count.{is_old, forward_of}

@@ -1,0 +1,10 @@
+-- `slots::fly` puts the two bits and stores the two numbers.
+use Rattle.std.proofs.Common.{refl}
+use Rattle.ledger.specs.Memory.{packed}
+use Rattle.ledger.proofs.Shows.{memories}
+use Rattle.ledger.proofs.slots.fly.Goals as goal
+
+pub returns : goal.returns
+unfolding packed
+returns c =
+    memories c.put.ensures c.put-2.ensures refl refl
