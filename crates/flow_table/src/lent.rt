@@ -1,5 +1,5 @@
-// The table as a lent slice of records, and the same by value. A function over the lent one is proved by a walk of its MIR, so there are
-// two: the records are taken over by value, an event works on their words, and they are stored again.
+// The table as a lent slice of records, and the same by value: the records are taken over by value, an event works on their words, and
+// they are stored again.
 ghost use Rattle.std.specs.Prelude.{◌≡◌, ◌*◌, ◌<◌, ◌≤◌, length, get_or};
 ghost use Rattle.flow_table.specs.Words.{flow_words, flows_most, AllFit, no_flow};
 ghost use Rattle.flow_table.specs.Lent.{room, loaded, saved, no_flows, with_record, value_words, value_from};
