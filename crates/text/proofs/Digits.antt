@@ -1,50 +1,66 @@
--- A number's decimal text: it is what `io` makes, the fewest digits that hold the number; how long it is; that it reads back as the number.
+-- A number's decimal text: it is what is written from its last digit back; how long it is; that it reads back as the number.
 -- Assumes nothing.
-use mathlib.Core.Path.{◌≡◌, refl, ◌∙◌}
-use Prim.Native.Nat.{ℕ, zero, suc, ◌+◌, ◌-◌, ◌*◌, ◌/◌, ◌%◌, ◌^◌, ◌≤◌, ◌<◌}
-use mathlib.Core.List.{List, [], ◌∷◌, ◌++◌}
-use lib.ListN.{length, length-append}
-use lib.Dec.{lit<, lit≤}
-use borrow.Author.Tests.{lt-ltb}
-use native.Mathlib.Nat.{pow-suc, one-le-pow}
+use Rattle.std.proofs.Common.{◌≡◌, ℕ, zero, suc, ◌+◌, ◌-◌, ◌*◌, ◌/◌, ◌%◌, ◌^◌, ◌≤◌, ◌<◌, List, [], ◌∷◌, ◌++◌, length, take, drop, set, refl, sym, ◌∙◌, drop_of_length-le, lit≤, pow-suc, arith}
+use Rattle.std.proofs.lemmas.List.{append-nil, drop-set, length-set, length-append, length-drop}
+use Rattle.std.proofs.Math.Seq.{append_snoc, take-length}
 use native.Mathlib.Numerals.{unary_clauses}
-use native.Mathlib.Omega.{arith}
-use Rattle.io.specs.Digits.{last_digits, hex_digit_ascii, IsDigitCount}
 use Rattle.rules.specs.Branch.{lt_yes, lt_no, lt_both}
 use Rattle.text.specs.Decimal.{digits_most, digits_in, decimal, value_from, value_of, zero_glyph}
 
-glyph_digit : (d : ℕ) → d < 10 → hex_digit_ascii d ≡ zero_glyph + d
-glyph_digit d h = simp (lt-ltb d 10 h)
+-- ---- as it is written, from the last digit back
 
--- ---- as `io` makes it
+-- before a turn: the digits that are still to write and those that stand behind `first` are n's
+pub record Filling (n : ℕ) (digits : List ℕ) (first rest : ℕ) : Type 0 where
+  pub long : length digits ≡ digits_most
+  pub room : first < digits_most
+  pub fits : rest < 10 ^ suc first
+  pub is : digits_in (suc first) rest ++ drop (suc first) digits ≡ decimal n
 
--- what has two digits or more
-tens : (k n : ℕ) → IsDigitCount 10 1 n (suc (suc k)) → (10 ^ k * 10 ≤ n) × (10 ≤ n)
-tens k n f =
-    let big : 10 ^ k * 10 ≤ n = simp unary_clauses at (f.2 (omega arith)) in
-    (big, omega (arith, one-le-pow k 10 (lit< tt)))
+drop_stored : (l : List ℕ) (i g : ℕ) → i < length l → drop i (set l i g) ≡ g ∷ drop (suc i) l
+drop_stored l i g h = simp unary_clauses at (drop-set l i g h)
 
--- digit by digit from the last; a number below 10^(most+1) needs no more digits than digitsIn has room for
-fewest : (most k n : ℕ) → n < 10 ^ suc most → IsDigitCount 10 1 n k → last_digits 10 k n ≡ digits_in (suc most) n
-unfolding digits_in
-fewest most zero n h f = absurd (omega (arith, f.0))
-fewest most (suc zero) n h f =
-    let small : n < 10 = omega (arith, f.1) in
-    let last : n % 10 ≡ n = omega arith in
-    lt_yes n 10 _ _ _ small (rw (glyph_digit (n % 10) (omega arith), last))
-fewest zero (suc (suc k)) n h f = absurd (omega (arith, tens k n f))
-fewest (suc most) (suc (suc k)) n h f =
-    let many = tens k n f in
-    let fits : n / 10 < 10 ^ suc most = omega (arith, pow-suc 10 (suc most)) in
-    let below : n / 10 < 10 ^ suc k = omega (arith, f.1, pow-suc 10 (suc k)) in
-    let above : 1 < suc k → 10 ^ (suc k - 1) ≤ n / 10 = λ _. simp unary_clauses (omega arith) in
-    let front = fewest most (suc k) (n / 10) fits (omega arith, below, above) in
-    lt_no n 10 _ _ _ many.1 (rw (front, glyph_digit (n % 10) (omega arith)))
-
--- what `io::decimal` makes of a number of 64 bits
-pub decimal_is : {words : List ℕ} (k n : ℕ) → n < 2 ^ 64 → IsDigitCount 10 1 n k × (words ≡ last_digits 10 k n) → words ≡ decimal n
+pub fill_none : (n : ℕ) (digits : List ℕ) → length digits ≡ digits_most → n < 2 ^ 64 → Filling n digits (digits_most - 1) n
 unfolding decimal
-decimal_is k n h made = made.1 ∙ fewest _ k n (omega arith) made.0
+fill_none n digits e h =
+    let none : drop digits_most digits ≡ [] = drop_of_length-le digits {i = digits_most} (omega arith) in
+    record { long = e; room = omega arith; fits = omega arith; is = rw none (append-nil (digits_in digits_most n)) }
+
+-- what has two digits or more: the last is written, and one place is left at least
+pub fill_more : {n : ℕ} {digits : List ℕ} (first rest : ℕ) → 10 ≤ rest → Filling n digits first rest
+    → (1 ≤ first) × Filling n (set digits first (zero_glyph + rest % 10)) (first - 1) (rest / 10)
+unfolding digits_in
+fill_more {n} {digits} zero rest h f = absurd (omega (arith, f.fits))
+fill_more {n} {digits} (suc first) rest h f =
+    let less : suc first - 1 ≡ first = omega arith in
+    let glyph = zero_glyph + rest % 10 in
+    let front = digits_in (suc first) (rest / 10) in
+    let stored : drop (suc first) (set digits (suc first) glyph) ≡ glyph ∷ drop (suc (suc first)) digits =
+    drop_stored digits (suc first) glyph (omega (arith, f.long, f.room)) in
+    let whole : digits_in (suc (suc first)) rest ≡ front ++ (glyph ∷ []) = sym (lt_no rest 10 _ _ _ h refl) in (
+      omega arith,
+      record {
+        long = length-set digits (suc first) glyph ∙ f.long;
+        room = omega (arith, f.room);
+        fits = rw less (omega (arith, f.fits, pow-suc 10 (suc first)));
+        is = rw (less, stored) (sym (append_snoc front glyph _) ∙ rw (← whole) f.is);
+      },
+    )
+
+-- the first digit
+pub fill_last : {n : ℕ} {digits : List ℕ} (first rest : ℕ) → rest < 10 → Filling n digits first rest
+    → drop first (set digits first (zero_glyph + rest)) ≡ decimal n
+unfolding digits_in
+fill_last {n} {digits} first rest h f =
+    let stored = drop_stored digits first (zero_glyph + rest) (omega (arith, f.long, f.room)) in
+    let whole : digits_in (suc first) rest ≡ (zero_glyph + rest) ∷ [] = sym (lt_yes rest 10 _ _ _ h refl) in
+    stored ∙ rw whole at f.is
+
+-- the bytes from the first digit on
+pub from_first : (n first : ℕ) (digits : List ℕ) → length digits ≡ digits_most → drop first digits ≡ decimal n
+    → take (digits_most - first) (drop first digits) ≡ decimal n
+from_first n first digits e d =
+    let long : length (drop first digits) ≡ digits_most - first = omega (arith, length-drop first digits) in
+    rw (← long) (take-length (drop first digits) ∙ d)
 
 -- ---- how long it is
 
