@@ -7,9 +7,8 @@ use lib.ListN.{length}
 use lib.Seq.{length-take-le}
 use native.Mathlib.Omega.{arith}
 use Rattle.rules.specs.Branch.{eq_yes, eq_no, lt_yes, lt_no}
-use Rattle.io.specs.Counts.{IsPrefixLen}
+use Rattle.text.specs.Counts.{IsPrefixLen}
 use Rattle.text.specs.Decimal.{Put}
-use Rattle.text.proofs.Puts.{put_long}
 use Rattle.report_text.specs.Places.{figure_count}
 use Rattle.report_text.specs.Sheet.{sheet_text, sheet_most, sheeted}
 

@@ -4,7 +4,7 @@
 pub mod places;
 
 ghost use Rattle.std.specs.Prelude.{◌≡◌, ◌+◌, ◌*◌, ◌≤◌, length};
-ghost use Rattle.io.specs.Counts.{IsPrefixLen};
+ghost use Rattle.text.specs.Counts.{IsPrefixLen};
 ghost use Rattle.text.specs.Decimal.{Put};
 ghost use Rattle.report_text.specs.Places.{figure_count};
 ghost use Rattle.report_text.specs.Sheet.{figure_line, count_line, count_lines, answer_lines, kind_lines, sample_lines, byte_lines};

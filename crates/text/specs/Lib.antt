@@ -1,2 +1,3 @@
 -- What the contracts of `text` cite.
 pub mod Decimal
+pub mod Counts
