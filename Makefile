@@ -12,7 +12,7 @@ LOGS =
 ANCHOR =
 
 # What the archive and the program are made of.
-SOURCES := crates.txt $(shell find crates -name must-fail -prune -o -type f -print)
+SOURCES := crates.txt $(shell find crates \( -name must-fail -o -name out \) -prune -o -type f -print)
 
 RUN = cargo run --release --quiet --offline --locked --manifest-path rust/Cargo.toml
 
@@ -30,7 +30,7 @@ test:
 fuzz: target/lib/libnscc.a target/bin/nscc
 	@$(RUN) -p differential --bin fuzz -- $(SECONDS)
 
-# What the library costs beside the model, as a table. On a processor other than x86-64 the same code is compiled for that processor first.
+# What the library costs beside the model, as a table, on x86-64, for which alone it is compiled.
 # With LOGS="a.log b.log" these are replayed instead, a line each: name, records, nanoseconds a record, FNV-1a sum of all answers.
 # With ANCHOR=program too, `program time LOG` is run in turn with ours, and the ratio printed; sums that differ are an error.
 bench: target/lib/libnscc.a

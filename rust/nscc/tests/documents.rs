@@ -6,9 +6,6 @@ use std::collections::{BTreeMap, BTreeSet};
 use std::fs;
 use std::path::{Path, PathBuf};
 
-/// The toolchain's own crates, which the map leaves out.
-const KIT: [&str; 5] = ["check", "io", "libc", "os", "std"];
-
 /// A word in backticks with one of these endings names a file, by its path from the root.
 const ENDINGS: [&str; 9] = [
     ".antt", ".c", ".edit", ".h", ".log", ".md", ".out", ".rs", ".rt",
@@ -45,16 +42,21 @@ fn documents() -> Vec<String> {
     all
 }
 
-/// The crates of `crates.txt`, a line each: `NAME: DEP DEP ..`.
+/// The crates of `crates.txt`, a line each: `NAME: DEP DEP ..`, or `NAME staticlib: DEP DEP ..`. A
+/// crate that has no line is the toolchain's, and the map leaves it out.
 fn listed() -> Uses {
     let text = text("crates.txt");
     let lines = text.lines().filter(|line| !line.starts_with('#'));
     let crates = lines.filter_map(|line| line.split_once(':'));
-    let crates = crates.map(|(name, on)| {
-        let on = on.split_whitespace().filter(|on| !KIT.contains(on));
+    let crates: Vec<(&str, &str)> = crates
+        .map(|(name, on)| (name.split(' ').next().expect("a first"), on))
+        .collect();
+    let own: BTreeSet<&str> = crates.iter().map(|(name, _)| *name).collect();
+    let uses = crates.iter().map(|(name, on)| {
+        let on = on.split_whitespace().filter(|on| own.contains(on));
         (name.to_string(), on.map(str::to_string).collect())
     });
-    crates.collect()
+    uses.collect()
 }
 
 /// The crates and arrows of the README's picture: `A --> B & C` is two arrows.

@@ -20,7 +20,7 @@ pub fn program() -> Result<Command, String> {
     if !program.is_file() {
         let program = program.display();
         return Err(format!(
-            "{program} is missing. Make it with `rt check nscc` at the repository's root, \
+            "{program} is missing. Make it with `tools/prove nscc` at the repository's root, \
              or name it in {PROGRAM}."
         ));
     }
