@@ -2,7 +2,7 @@
 -- rules and to the state's name.
 -- Assumes nothing.
 use mathlib.Core.Path.{◌≡◌, refl, ap, ◌∙◌}
-use mathlib.Core.Bool.{Bool, true, false, not, ◌||◌}
+use mathlib.Core.Bool.{Bool, true, false, ◌||◌}
 use mathlib.Core.List.{List, [], ◌∷◌, ◌++◌}
 use Prim.Native.Nat.{ℕ, ◌+◌, ◌≤◌, ◌<◌, ◌^◌}
 use native.Mathlib.Omega.{arith}
@@ -16,7 +16,6 @@ use borrow.Author.Tests.{ltb-false, leb-false, leb-true, le-leb, not-false}
 use Rattle.rules.specs.Branch.{if_so, if_eq, so_both, eq_both}
 use Rattle.rules.specs.Rows.{Row, row, first_of, none_here}
 use Rattle.rules.specs.Test.{inside_tells, neither}
-use Rattle.serial.specs.Psn.{covered}
 use Rattle.serial.specs.Count.{counts}
 use Rattle.window.specs.Range.{InRange}
 use Rattle.window.specs.Sound.{SoundWindow}
@@ -30,12 +29,9 @@ use Rattle.window.specs.declared.Sampling.{Sampling}
 use Rattle.window.proofs.Tests.{window_later, sample_bounds, same_sample}
 use Rattle.window.proofs.Keeps.{cwnd_most}
 use Rattle.window.proofs.MaxWnd.{max_wnd_high}
-use Rattle.paths.specs.Path.{choice}
-use Rattle.paths.specs.declared.Choice.{Choice}
-use Rattle.paths.proofs.Chosen.{choice_inside}
 use Rattle.ledger.specs.Packets.{is_flying, is_marked, is_out}
 use Rattle.ledger.specs.Bounds.{size_least, backlog_most, Flown}
-use Rattle.ledger.specs.Ring.{Ring, Ledger, ledger, cap_of, long_of, packets, packet_of}
+use Rattle.ledger.specs.Ring.{Ring, Ledger, cap_of, long_of, packet_of}
 use Rattle.ledger.specs.Memory.{Memory, size_end, stored, Kept, kept, kept_of}
 use Rattle.ledger.specs.Sound.{Others, sound_ledger}
 use Rattle.ledger.specs.Rows.{send_rows, ack_rows, mark_rows}
@@ -50,7 +46,6 @@ use Rattle.ledger.proofs.Sends.{supply_keeps, new_room, push_keeps, resend_keeps
 use Rattle.ledger.proofs.Marks.{mark_keeps}
 use Rattle.ledger.proofs.Acked.{ack_keeps}
 use Rattle.window.specs.Limits.{time_end}
-use Rattle.sender.specs.Limits.{reason_most}
 use Rattle.sender.specs.World.{world, View, world_of, ledger_in}
 use Rattle.sender.specs.Named.{has_room}
 use Rattle.sender.specs.Rows.{time_row, new_data_rows, send_all_rows, ack_all_rows, nack_all_rows, loss_all_rows}

@@ -1,0 +1,88 @@
+-- `loss` puts the ledger's step, the window's rules and the EV's time together (`loss_is`); each call's need is what a sound world and a
+-- loss that no row refuses leave (`marked_ready`).
+use Rattle.ledger.specs.Memory.{memory, kept}
+use Rattle.ledger.specs.Steps.{mark_of}
+use Rattle.sender.specs.World.{world, ring_of, view_of, ledger_of}
+use Rattle.sender.proofs.Sounds.{SoundFacts, among_facts, holds_ledger}
+use Rattle.sender.proofs.Views.{sound_lengths}
+use Rattle.sender.proofs.Stepping.{Markable, loss_facts, avoid_asks, Ready, ready_above, ready_word, state_asks, mark_flies}
+use Rattle.sender.proofs.Stepping.{mark_size, marked_ready, loss_is}
+use Rattle.sender.proofs.steps.loss.Goals as goal
+use Rattle.sender.proofs.steps.loss.Goals.{After-mark-after, Start}
+
+facts : (c : Start) →
+    let world-in = world c.args.c (memory c.args.outstanding.now c.args.marked.now c.args.sizes.now c.args.sent.now)
+    c.args.evs.now in
+    SoundFacts c.requires.holds.others (view_of (world-in))
+facts c =
+    let world-in = world c.args.c (memory c.args.outstanding.now c.args.marked.now c.args.sizes.now c.args.sent.now)
+    c.args.evs.now in
+    among_facts _ (view_of (world-in)) c.requires.holds.so
+
+accepted : (c : Start) →
+    let world-in = world c.args.c (memory c.args.outstanding.now c.args.marked.now c.args.sizes.now c.args.sent.now)
+    c.args.evs.now in
+    Markable c.args.time c.args.a.psn c.args.a.ev c.args.c (ring_of (world-in))
+accepted c =
+    let world-in = world c.args.c (memory c.args.outstanding.now c.args.marked.now c.args.sizes.now c.args.sent.now)
+    c.args.evs.now in
+    loss_facts c.args.time c.args.a c.args.c (ring_of (world-in)) c.requires.evs_value
+
+after : (c : After-mark-after) →
+    let world-in = world c.args.c (memory c.args.outstanding.now c.args.marked.now c.args.sizes.now c.args.sent.now)
+    c.args.evs.now in
+    let ledger-out = mark_of c.args.a.psn (ledger_of (world-in)) in
+    Ready c.requires.holds.others c.args.c.settings c.args.time
+    c.args.c.window (ledger-out)
+after c =
+    let world-in = world c.args.c (memory c.args.outstanding.now c.args.marked.now c.args.sizes.now c.args.sent.now)
+    c.args.evs.now in
+    let facts : SoundFacts c.requires.holds.others (view_of (world-in)) = among_facts _ (view_of (world-in)) c.requires.holds.so in
+    let accepted : Markable c.args.time c.args.a.psn c.args.a.ev c.args.c (ring_of (world-in)) = loss_facts c.args.time c.args.a c.args.c (ring_of (world-in)) c.requires.evs_value in
+    marked_ready (facts) (accepted)
+
+pub find-x-requires : goal.find-x-requires
+find-x-requires c =
+    let world-in = world c.args.c (memory c.args.outstanding.now c.args.marked.now c.args.sizes.now c.args.sent.now)
+    c.args.evs.now in
+    sound_lengths _ (world-in) c.requires.holds.so
+
+pub mark-after-requires : goal.mark-after-requires
+mark-after-requires c =
+    let world-in = world c.args.c (memory c.args.outstanding.now c.args.marked.now c.args.sizes.now c.args.sent.now)
+    c.args.evs.now in
+    record {
+      sound_ledger = holds_ledger (world-in) c.requires.holds;
+      psn_value = mark_flies (facts (goal.at.mark-after-requires c).Start) (accepted (goal.at.mark-after-requires c).Start);
+    }
+
+pub loss-w-requires : goal.loss-w-requires
+loss-w-requires c =
+    let R = after (goal.at.loss-w-requires c).After-mark-after in
+    record {
+      in_range = R.range;
+      sound_window = R.sound_window_lem;
+      size_le_mtu = (rw c.find-x.ensures (mark_size (facts (goal.at.loss-w-requires c).Start) (accepted (goal.at.loss-w-requires c).Start)), R.early, ready_above R c.mark-after.ensures);
+    }
+
+pub avoid-requires : goal.avoid-requires
+avoid-requires c = avoid_asks (facts (goal.at.avoid-requires c).Start) (accepted (goal.at.avoid-requires c).Start).timely (accepted (goal.at.avoid-requires c).Start).ev_ok
+
+pub state_of-requires : goal.state_of-requires
+state_of-requires c = record {
+  flown = (state_asks (after (goal.at.state_of-requires c).After-mark-after) c.mark-after.ensures c.loss-w.ensures.sound).0;
+  mtu_bound = (state_asks (after (goal.at.state_of-requires c).After-mark-after) c.mark-after.ensures c.loss-w.ensures.sound).1;
+}
+
+pub shape_of-marked : goal.shape_of-marked
+shape_of-marked c = c.mark-after.auto.marked
+
+pub returns : goal.returns
+returns c =
+    let world-in = world c.args.c (memory c.args.outstanding.now c.args.marked.now c.args.sizes.now c.args.sent.now)
+    c.args.evs.now in
+    let kept_out = kept c.mark-after.result.flow c.mark-after.result.totals
+    (memory c.args.outstanding.now c.mark-after.new.marked c.args.sizes.now c.args.sent.now) in
+    loss_is c.args.time (view_of (world-in)) {m = (kept_out).slots} (ready_word (after (goal.at.returns c).After-mark-after) c.mark-after.ensures) c.state_of.ensures
+    c.args.a c.find-x.ensures
+    c.mark-after.ensures c.loss-w.ensures.is c.avoid.ensures
