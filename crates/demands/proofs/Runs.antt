@@ -17,7 +17,7 @@ use Rattle.ledger.specs.Memory.{Memory}
 use Rattle.ledger.specs.Steps.{supply_of, push_of, resend_of, mark_of, acknowledge_of}
 use Rattle.sender.specs.World.{World, world, View, view_of, Answered, Routing, ledger_in}
 use Rattle.sender.specs.Sound.{sound}
-use Rattle.sender.specs.Rows.{with_sound, path_rows, move_rows, set_up_rows}
+use Rattle.sender.specs.Rows.{with_sound, path_rows, set_up_rows}
 use Rattle.sender.specs.Steps.{state_of, settled, new_data_state, new_data_step, send_step, ack_step, nack_step, loss_step, path_state, path_step, move_state, move_step}
 use Rattle.sender.specs.Steps.{route_of}
 use Rattle.sender.specs.Start.{no_settings, fresh_state, on_set_up}
