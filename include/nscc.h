@@ -23,8 +23,7 @@
  *   - nscc_new_data   bytes that wait to be sent;
  *   - nscc_path       which EV the next packet takes;
  *   - nscc_send       a new packet, or a marked one once more; 6 says that the window is full;
- *   - nscc_ack, nscc_nack, nscc_loss   what comes back, or does not;
- *   - nscc_move       in the single-path profile: send on the next EV from now on.
+ *   - nscc_ack, nscc_nack, nscc_loss   what comes back, or does not.
  * Where several flows send by turns, the send loop is: nscc_choose names a flow and its packet,
  * nscc_path the EV, nscc_send sends it; and so on until nobody is named. nscc_judge tells of sends
  * that another scheduler proposes whether they would be accepted, nscc_plan proposes some itself.
@@ -85,7 +84,6 @@ enum nscc_refusal {
     NSCC_REFUSED_EV = 23,           /* an EV that is not below the EV count */
     NSCC_REFUSED_TRIGGER = 24,      /* an ACK that does not cover its trigger */
     NSCC_REFUSED_FLOW = 25,         /* a flow that the table does not have */
-    NSCC_REFUSED_MOVE = 26,         /* nscc_move: a move before it is allowed, or outside the single-path profile */
     NSCC_REFUSED_PLAN_TOO_LONG = 27, /* nscc_judge: a plan of more than NSCC_PLAN_SENDS_MAX sends */
     NSCC_REFUSED_LOG_TOO_LONG = 28  /* nscc_chunk: with the chunk the log would have 2^48 bytes or more */
 };
@@ -151,11 +149,7 @@ enum nscc_state {
     NSCC_STATE_PHASE,           /* 0 IDLE, 1 PENDING, 2 READY, 3 ACTIVE */
     NSCC_STATE_EV_COUNT,        /* how many EVs there are, and EV times: 256, 512, 1024, 2048 or 4096 */
     NSCC_STATE_TURN,            /* the held turn, the flow from which the next round starts: below the number of flows */
-    NSCC_STATE_SINGLE_PATH,     /* the single-path profile, 0 or 1 */
-    NSCC_STATE_T_REROUTE,       /* 10..1000 base round trips in the profile; outside it any number of 32 bits */
-    NSCC_STATE_CURRENT_EV,      /* the profile's EV: below the EV count, outside the profile too */
-    NSCC_STATE_LAST_MOVE,       /* when it last moved: not past the clock */
-    NSCC_STATE_WORDS            /* how many there are: 42 */
+    NSCC_STATE_WORDS            /* how many there are: 38 */
 };
 
 /*
@@ -180,23 +174,18 @@ enum nscc_flow {
 #define NSCC_EVS_MIN 256
 #define NSCC_EVS_MAX 4096
 
-/* In the single-path profile t_reroute is a number from the one to the other. */
-#define NSCC_T_REROUTE_MIN 10
-#define NSCC_T_REROUTE_MAX 1000
-
 /*
  * Sets a context up: 1, then 2 on lengths; settings that are not NSCC_SETTING_WORDS numbers can't be
  * read, and are 2 before all else. An EV count that is not allowed is 1 like a setting outside its
- * range, and in the single-path profile so is a t_reroute outside NSCC_T_REROUTE_MIN..
- * NSCC_T_REROUTE_MAX; outside the profile it is held as it is given and says nothing. A table that
- * is not of one to NSCC_FLOWS_MAX whole flows, and a ring buffer that is not as many equal rings,
- * are 2. Clears the ring buffer and the EV times, starts every flow at the first PSN with a received
- * count and a backlog of 0, and writes the state's words; a refusal changes nothing. settings_len is NSCC_SETTING_WORDS, state_len NSCC_STATE_WORDS, evs_len the EV count.
+ * range. A table that is not of one to NSCC_FLOWS_MAX whole flows, and a ring buffer that is not as
+ * many equal rings, are 2. Clears the ring buffer and the EV times, starts every flow at the first
+ * PSN with a received count and a backlog of 0, and writes the state's words; a refusal changes
+ * nothing. settings_len is NSCC_SETTING_WORDS, state_len NSCC_STATE_WORDS, evs_len the EV count.
  */
 uint32_t nscc_set_up(const uint64_t *settings, size_t settings_len, uint32_t first_psn, bool quick_adapt_off, uint32_t ev_count,
-                     bool single_path, uint32_t t_reroute, uint64_t *state, size_t state_len, uint64_t *flows, size_t flows_len,
-                     uint64_t *outstanding, size_t outstanding_len, uint64_t *marked, size_t marked_len,
-                     uint32_t *sizes, size_t sizes_len, uint64_t *sent, size_t sent_len, uint64_t *evs, size_t evs_len);
+                     uint64_t *state, size_t state_len, uint64_t *flows, size_t flows_len, uint64_t *outstanding, size_t outstanding_len,
+                     uint64_t *marked, size_t marked_len, uint32_t *sizes, size_t sizes_len, uint64_t *sent, size_t sent_len,
+                     uint64_t *evs, size_t evs_len);
 
 /* New data in a flow's backlog: 2, 3, 25, 20. The ring buffer and the EV times are only read. */
 uint32_t nscc_new_data(uint64_t *state, size_t state_len, uint64_t *flows, size_t flows_len,
@@ -238,25 +227,13 @@ uint32_t nscc_loss(uint64_t *state, size_t state_len, uint64_t *flows, size_t fl
 
 /*
  * The next path, which is the same for every flow: the number (2, 3, 25) in the low 32 bits of the
- * answer; above them the EV, 0 where it is refused. In the single-path profile it is the current EV,
- * and the cursor stays. The table, the ring buffer and the EV times are only read.
+ * answer; above them the EV, 0 where it is refused. The table, the ring buffer and the EV times are
+ * only read.
  */
 uint64_t nscc_path(uint64_t *state, size_t state_len, const uint64_t *flows, size_t flows_len,
                    const uint64_t *outstanding, size_t outstanding_len, const uint64_t *marked, size_t marked_len,
                    const uint32_t *sizes, size_t sizes_len, const uint64_t *sent, size_t sent_len, const uint64_t *evs, size_t evs_len,
                    uint64_t time, size_t flow);
-
-/*
- * In the single-path profile, which sends on one EV at a time and whose ACKs, NACKs and losses change
- * no EV time: the current EV becomes the next one, modulo the EV count. 2, 3, then 26 unless nothing
- * flies on any flow (marked packets do not fly), or at least t_reroute * base ticks have passed since
- * the last move, or since 0; 26 outside the profile too. The table, the ring buffer and the EV times
- * are only read.
- */
-uint32_t nscc_move(uint64_t *state, size_t state_len, const uint64_t *flows, size_t flows_len,
-                   const uint64_t *outstanding, size_t outstanding_len, const uint64_t *marked, size_t marked_len,
-                   const uint32_t *sizes, size_t sizes_len, const uint64_t *sent, size_t sent_len, const uint64_t *evs, size_t evs_len,
-                   uint64_t time);
 
 /* The words of what a choice names, all 0 where it is nobody. */
 enum nscc_turn {
@@ -401,7 +378,7 @@ enum nscc_part {
 };
 
 /* The room of the piece, which holds the record that is not whole yet: exactly so many bytes. */
-#define NSCC_PIECE_BYTES 65
+#define NSCC_PIECE_BYTES 61
 
 /*
  * Replays a log that comes in chunks of any length, possibly of none, with records cut anywhere:

@@ -10,7 +10,7 @@
 #include <stdlib.h>
 #include <string.h>
 
-enum function { SET_UP, NEW_DATA, SEND, ACK, NACK, LOSS, PATH, MOVE, REPLAY, CHUNK, STATUS, NEXT_MARKED, CHOOSE, JUDGE, PLAN };
+enum function { SET_UP, NEW_DATA, SEND, ACK, NACK, LOSS, PATH, REPLAY, CHUNK, STATUS, NEXT_MARKED, CHOOSE, JUDGE, PLAN };
 
 /* First are the settings of setting up, the place of a replay, the part of a log in chunks, or the turn of a choice; the log may be a chunk of one;
    planned is a plan, or room for one. */
@@ -72,7 +72,7 @@ static uint64_t call(const struct request *request)
     const uint64_t *a = request->argument, *n = request->length;
     switch (request->function) {
     case SET_UP:
-        return nscc_set_up(LENT(FIRST), a[0], a[1], a[2], a[3], a[4], CONTEXT);
+        return nscc_set_up(LENT(FIRST), a[0], a[1], a[2], CONTEXT);
     case NEW_DATA:
         return nscc_new_data(CONTEXT, a[0], a[1], a[2]);
     case SEND:
@@ -85,8 +85,6 @@ static uint64_t call(const struct request *request)
         return nscc_loss(CONTEXT, a[0], a[1], a[2], a[3]);
     case PATH:
         return nscc_path(CONTEXT, a[0], a[1]);
-    case MOVE:
-        return nscc_move(CONTEXT, a[0]);
     case REPLAY:
         return nscc_replay(LENT(FIRST), CONTEXT, LENT(LOG), LENT(ANSWERS));
     case CHUNK:

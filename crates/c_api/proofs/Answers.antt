@@ -85,39 +85,39 @@ module _ (ws : List ℕ) (given : Unpacked) (given_is : given ≡ unpacked ws) w
 
 -- ---- setting up, by the tests in their order
 
-module _ (ns : List ℕ) (psn off evs single reroute : ℕ) (ws fs : List ℕ) (r : Memory) (t : List ℕ) where
-  pub few_settings : (length ns ≡ settings_count → ⊥) → called 2 ws fs r t ≡ on_set_up_words ns psn off evs single reroute ws fs r t
+module _ (ns : List ℕ) (psn off : ℕ) (evs : ℕ) (ws fs : List ℕ) (r : Memory) (t : List ℕ) where
+  pub few_settings : (length ns ≡ settings_count → ⊥) → called 2 ws fs r t ≡ on_set_up_words ns psn off evs ws fs r t
   unfolding on_set_up_words
   few_settings h = so_no _ _ _ _ (ne_eqb (length ns) settings_count h) refl
 
   module _
-      (enough : length ns ≡ settings_count) (g : Settings) (g-is : g ≡ settings_from ns psn off evs single reroute) (range : Bool)
+      (enough : length ns ≡ settings_count) (g : Settings) (g-is : g ≡ settings_from ns psn off evs) (range : Bool)
       (range-is : range ≡ in_range g)
     where
-      range_same : in_range (settings_from ns psn off evs single reroute) ≡ range
+      range_same : in_range (settings_from ns psn off evs) ≡ range
       range_same = sym (range-is ∙ ap in_range g-is)
 
-      pub out_of_range : not range ≡ true → called 1 ws fs r t ≡ on_set_up_words ns psn off evs single reroute ws fs r t
+      pub out_of_range : not range ≡ true → called 1 ws fs r t ≡ on_set_up_words ns psn off evs ws fs r t
       unfolding on_set_up_words
       out_of_range e = so_yes _ _ _ _ (eq-eqb (length ns) settings_count enough) (so_no _ _ _ _ (range_same ∙ not-true range e) refl)
 
       module _ (in-range : not range ≡ false) where
         past_range :
             (x : Called)
-            → x ≡ if_so (eqb (length ws) word_count) (packed ws (on_set_up (settings_from ns psn off evs single reroute) fs r t)) (called 2 ws fs r t) →
-            x ≡ on_set_up_words ns psn off evs single reroute ws fs r t
+            → x ≡ if_so (eqb (length ws) word_count) (packed ws (on_set_up (settings_from ns psn off evs) fs r t)) (called 2 ws fs r t) →
+            x ≡ on_set_up_words ns psn off evs ws fs r t
         unfolding on_set_up_words
         past_range x e =
             so_yes _ _ _ _ (eq-eqb (length ns) settings_count enough) (so_yes _ _ _ _ (range_same ∙ not-false range in-range) e)
 
-        pub wrong_words : (length ws ≡ word_count → ⊥) → called 2 ws fs r t ≡ on_set_up_words ns psn off evs single reroute ws fs r t
+        pub wrong_words : (length ws ≡ word_count → ⊥) → called 2 ws fs r t ≡ on_set_up_words ns psn off evs ws fs r t
         wrong_words h = past_range _ (so_no _ _ _ _ (ne_eqb (length ws) word_count h) refl)
 
         pub set_up_on :
             length ws ≡ word_count → (a : Answer) (gs : List ℕ) (s : Memory) (u : List ℕ)
             → answered (number_of a.verdict) a.state gs s u ≡ on_set_up g fs r t →
             (n : ℕ) (xs : List ℕ) → (n ≡ number_of a.verdict) × (xs ≡ words_after n ws a.state) →
-            called n xs gs s u ≡ on_set_up_words ns psn off evs single reroute ws fs r t
+            called n xs gs s u ≡ on_set_up_words ns psn off evs ws fs r t
         set_up_on h a gs s u e n xs k =
             past_range _
             (so_yes _ _ _ _ (eq-eqb (length ws) word_count h)

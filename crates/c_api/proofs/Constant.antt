@@ -1,5 +1,5 @@
 -- WHAT THE HEADER CALLS CONST IS LEFT AS IT WAS, whatever is answered: the ring buffer and the EV times by new data, the table of flows too
--- by a path choice and by a move, the EV times by a send, and all but the marked bits and the EV times by a NACK and by a loss. Assumes nothing.
+-- by a path choice, the EV times by a send, and all but the marked bits and the EV times by a NACK and by a loss. Assumes nothing.
 use mathlib.Core.Path.{◌≡◌, refl, sym, ap, ◌∙◌}
 use mathlib.Core.Bool.{true, not}
 use mathlib.Core.List.{List}
@@ -22,7 +22,7 @@ use Rattle.flow_table.specs.Parts.{around, words_in, put_part}
 use Rattle.flow_table.proofs.Places.{with_same}
 use Rattle.flow_table.proofs.Cuts.{put_part_lem}
 use Rattle.sender.specs.World.{World, ring_of, view_of, ledger_of}
-use Rattle.sender.specs.Steps.{state_of, settled, new_data_step, send_step, nack_step, loss_step, path_state, path_step, move_state, move_step}
+use Rattle.sender.specs.Steps.{state_of, settled, new_data_step, send_step, nack_step, loss_step, path_state, path_step}
 use Rattle.sender.specs.declared.Send.{Send}
 use Rattle.sender.specs.declared.Nack.{Nack}
 use Rattle.sender.specs.declared.Loss.{Loss}
@@ -32,10 +32,10 @@ use Rattle.sender.proofs.Stepping.{Markable, nack_facts, loss_facts, mark_flies}
 use Rattle.context.specs.Context.{Context, context, Answered, Routing, flow_count, cap_in, memory_in, joined_of, world_at, put_world}
 use Rattle.context.specs.Sound.{sound_context}
 use Rattle.context.specs.Rows.{with_sound}
-use Rattle.context.specs.Events.{decided, chosen, nack_of, loss_of, path_of, move_of, on_new_data, on_send, on_nack, on_loss, on_path, on_move}
+use Rattle.context.specs.Events.{decided, chosen, nack_of, loss_of, path_of, on_new_data, on_send, on_nack, on_loss, on_path}
 use Rattle.context.proofs.Sounds.{SoundContext, context_facts, others_of, one_among, one_holds}
 use Rattle.context.proofs.Lifts.{flow_passed}
-use Rattle.context.proofs.Kept.{new_data_stepped, nack_stepped, loss_stepped, path_stepped, move_stepped}
+use Rattle.context.proofs.Kept.{new_data_stepped, nack_stepped, loss_stepped, path_stepped}
 use Rattle.c_state.specs.Layout.{state_from, words_ok}
 use Rattle.c_api.specs.Calls.{Called, path_beside, nack_beside, on_words, on_beside_words}
 
@@ -181,23 +181,6 @@ module _ (time k : ℕ) (x : Context) where
   unfolding on_path path_step put_world world_at
   path_times = chosen_keeps (λ (y : Context). y.times) x _ _ _ (λ _. refl)
 
-  -- a move, made on what flow 0 sees
-  move_flows : (m : ℕ) → (on_move time m x).after.flows ≡ x.flows
-  unfolding on_move move_step move_state state_of put_world world_at joined_of
-  move_flows m = decided_keeps (λ (y : Context). y.flows) x _ _ (λ _. with_same x.flows m)
-
-  move_slots : (m : ℕ) → (on_move time m x).after.slots ≡ x.slots
-  unfolding on_move move_step put_world
-  move_slots m =
-      decided_keeps (λ (y : Context). y.slots) x _ _
-      (λ none.
-      let n = none_sound x (move_of time m x) none in
-      ring_back x n.0 m (move_stepped x n.0 time m n.1).there)
-
-  move_times : (m : ℕ) → (on_move time m x).after.times ≡ x.times
-  unfolding on_move move_step put_world world_at
-  move_times m = decided_keeps (λ (y : Context). y.times) x _ _ (λ _. refl)
-
 -- ---- over lent words
 
 module _ (ws fs : List ℕ) (r : Memory) (t : List ℕ) (time k : ℕ) where
@@ -236,11 +219,4 @@ module _ (ws fs : List ℕ) (r : Memory) (t : List ℕ) (time k : ℕ) where
   path_const =
       so_both (λ (x : Called). (x.flows ≡ fs) × (x.slots ≡ r) × (x.times ≡ t)) (words_ok ws) _ _
       (λ _. (path_flows time k given, path_slots time k given, path_times time k given))
-      (λ _. (refl, refl, refl))
-
-  pub move_const : let x = on_words ws fs r t (on_move time 0) in (x.flows ≡ fs) × (x.slots ≡ r) × (x.times ≡ t)
-  unfolding on_words
-  move_const =
-      so_both (λ (x : Called). (x.flows ≡ fs) × (x.slots ≡ r) × (x.times ≡ t)) (words_ok ws) _ _
-      (λ _. (move_flows time k given 0, move_slots time k given 0, move_times time k given 0))
       (λ _. (refl, refl, refl))

@@ -19,9 +19,9 @@ use Rattle.sender.specs.Start.{fresh_state as freshSender}
 use Rattle.context.specs.Context.{Context, Answered, shared_of}
 use Rattle.context.specs.Sound.{sound_context}
 use Rattle.context.specs.Start.{set_up_rows, fresh_state, on_set_up}
-use Rattle.context.specs.Events.{on_new_data, on_send, on_ack, on_nack, on_loss, on_path, on_move}
+use Rattle.context.specs.Events.{on_new_data, on_send, on_ack, on_nack, on_loss, on_path}
 use Rattle.context.proofs.Starts.{set_up_sound}
-use Rattle.context.proofs.Kept.{new_data_lasts, send_lasts, ack_lasts, nack_lasts, loss_lasts, path_lasts, move_lasts}
+use Rattle.context.proofs.Kept.{new_data_lasts, send_lasts, ack_lasts, nack_lasts, loss_lasts, path_lasts}
 use Rattle.replay.specs.Answers.{sound_after, on_first, on_later, on_event, Telling}
 use Rattle.replay.specs.Places.{Feed, sound_place, Turning, place_after, turn_of, turns_of, last_place, last_context}
 use Rattle.replay.specs.declared.Place.{Place}
@@ -44,7 +44,6 @@ later_machine (event.Ack time k a) w s = sound_machine (on_ack time k a w).after
 later_machine (event.Nack time k a) w s = sound_machine (on_nack time k a w).after (nack_lasts w s time k a)
 later_machine (event.Loss time k a) w s = sound_machine (on_loss time k a w).after (loss_lasts w s time k a)
 later_machine (event.Path time k) w s = sound_machine (on_path time k w).after (path_lasts w s time k)
-later_machine (event.Move time) w s = sound_machine (on_move time 0 w).after (move_lasts w s time 0)
 later_machine (event.SetUp x) w s = sound_machine w s
 
 -- ---- record 1
@@ -62,8 +61,6 @@ zeros_machine =
       trigger = omega arith;
       cursor = omega arith;
       phase = omega arith;
-      single_path = omega arith;
-      t_reroute = omega arith;
       flown = record { low = omega arith; high = omega arith };
     }
 
@@ -98,7 +95,6 @@ first_machine (event.Ack time k a) w n = absurd (n refl)
 first_machine (event.Nack time k a) w n = absurd (n refl)
 first_machine (event.Loss time k a) w n = absurd (n refl)
 first_machine (event.Path time k) w n = absurd (n refl)
-first_machine (event.Move time) w n = absurd (n refl)
 first_machine (event.SetUp s) w n = set_up_machine s w
 
 -- a 12 changes nothing
@@ -110,7 +106,6 @@ first_twelve (event.Ack time k a) w e = refl
 first_twelve (event.Nack time k a) w e = refl
 first_twelve (event.Loss time k a) w e = refl
 first_twelve (event.Path time k) w e = refl
-first_twelve (event.Move time) w e = refl
 first_twelve (event.SetUp s) w e = absurd (no_twelve s w e)
 
 -- ---- turns

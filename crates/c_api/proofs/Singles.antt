@@ -25,7 +25,7 @@ use Rattle.context.specs.Context.{Context, context, Answered, Routing, flow_coun
 use Rattle.context.specs.Sound.{sound_context}
 use Rattle.context.specs.Rows.{flow_row, with_sound}
 use Rattle.context.specs.Events.{decided, chosen, new_data_of, send_of, ack_of, ack_left, nack_of, nack_left, loss_of, path_of, path_left}
-use Rattle.context.specs.Events.{on_new_data, on_send, on_ack, on_nack, on_loss, on_path, move_of, on_move}
+use Rattle.context.specs.Events.{on_new_data, on_send, on_ack, on_nack, on_loss, on_path}
 use Rattle.context.proofs.Entries.{unsound_answer, unsound_route}
 use Rattle.replay.specs.Answers.{stated, shown_says, heard_by, routed_by, shown_path, on_later}
 use Rattle.replay.specs.Batches.{above_of, Saying, worded, once_of}
@@ -38,7 +38,7 @@ use Rattle.c_api.specs.Calls.{Called, called, words_after, packed_word, Beside, 
 use Rattle.c_api.specs.Calls.{on_words, on_event_words, on_beside_words}
 
 -- a number stands in the low 32 bits, another above them
-pub word_parts : (ev n : ℕ) → n ≤ 26 → ((2 ^ 32 * ev + n) % 2 ^ 32 ≡ n) × ((2 ^ 32 * ev + n) / 2 ^ 32 ≡ ev)
+pub word_parts : (ev n : ℕ) → n ≤ 25 → ((2 ^ 32 * ev + n) % 2 ^ 32 ≡ n) × ((2 ^ 32 * ev + n) / 2 ^ 32 ≡ ev)
 word_parts ev n h = (omega arith, omega arith)
 
 -- a word and a context
@@ -49,20 +49,20 @@ said n x = record { word = n; after = x }
 
 -- 2, 3, a flow out of range (25), and the other rows of an event, whose numbers are those of 01's table
 with_most : (x : Context) (late : Bool) (k : ℕ) (xs : List Row) → numbered xs ≡ true
-    → first_of (with_sound x (row late 3 ∷ flow_row k x ∷ xs)) ≤ 26
+    → first_of (with_sound x (row late 3 ∷ flow_row k x ∷ xs)) ≤ 25
 unfolding first_of
 with_most x late k xs e =
-    so_both (λ (n : ℕ). n ≤ 26) (not (sound_context x)) 2 _ (λ _. omega arith)
+    so_both (λ (n : ℕ). n ≤ 25) (not (sound_context x)) 2 _ (λ _. omega arith)
     (λ _.
-    so_both (λ (n : ℕ). n ≤ 26) late 3 _ (λ _. omega arith)
+    so_both (λ (n : ℕ). n ≤ 25) late 3 _ (λ _. omega arith)
     (λ _.
-    so_both (λ (n : ℕ). n ≤ 26) (leb (flow_count x) k) 25 _ (λ _. omega arith)
+    so_both (λ (n : ℕ). n ≤ 25) (leb (flow_count x) k) 25 _ (λ _. omega arith)
     (λ _. omega (arith, first_most xs e))))
 
 -- the event's answer is what one event is answered, and its number is one of the table's
 pub record Single (e : Event) (x : Context) (a : Answered) : Type 0 where
   pub is : once_of e x ≡ said a.number a.after
-  pub most : a.number ≤ 26
+  pub most : a.number ≤ 25
 
 plain : (n : ℕ) → 2 ^ 32 * 0 + n ≡ n
 plain n = omega arith
@@ -71,9 +71,9 @@ module _ (e : Event) (x : Context) (xs : List Row) (after : Context) where
   abbrev judged : Answered
   judged = decided (first_of (with_sound x xs)) x after
 
-  judged_most : first_of (with_sound x xs) ≤ 26 → judged.number ≤ 26
+  judged_most : first_of (with_sound x xs) ≤ 25 → judged.number ≤ 25
   unfolding decided
-  judged_most m = eq_both (λ (a : Answered). a.number ≤ 26) (first_of (with_sound x xs)) 0 _ _ (λ _. omega arith) (λ _. m)
+  judged_most m = eq_both (λ (a : Answered). a.number ≤ 25) (first_of (with_sound x xs)) 0 _ _ (λ _. omega arith) (λ _. m)
 
   judged_unsound : sound_context x ≡ false → record { number = 2; after = x } ≡ judged
   judged_unsound h = unsound_answer x h xs after
@@ -87,7 +87,7 @@ module _ (e : Event) (x : Context) (xs : List Row) (after : Context) where
       sym (so_no (sound_context x) (said 2 x) (worded (on_later e x)) (said 2 x) h refl)
       ∙ ap (λ (a : Answered). said a.number a.after) (judged_unsound h)
 
-  single_by : first_of (with_sound x xs) ≤ 26 → on_later e x ≡ stated judged → Single e x judged
+  single_by : first_of (with_sound x xs) ≤ 25 → on_later e x ≡ stated judged → Single e x judged
   single_by m q = record { is = judged_said q (sound_context x) refl; most = judged_most m }
 
 module _ (time k : ℕ) (x : Context) where
@@ -104,16 +104,12 @@ module _ (time k : ℕ) (x : Context) where
   unfolding on_loss on_later numbered inside
   loss_single a = single_by (event.Loss time k a) x (loss_of time k a x) _ (with_most x _ k _ refl) refl
 
-  pub move_single : Single (event.Move time) x (on_move time 0 x)
-  unfolding on_move on_later numbered inside
-  move_single = single_by (event.Move time) x (move_of time 0 x) _ (with_most x _ 0 _ refl) refl
-
 -- ---- an event whose answer has a second number
 
 -- the event's answer is what one event is answered, its word of both numbers, and the first is one of the table's
 pub record Double (e : Event) (x : Context) (a : Beside) : Type 0 where
   pub is : once_of e x ≡ said (beside_word a) a.after
-  pub most : a.number ≤ 26
+  pub most : a.number ≤ 25
 
 -- from its word where state and buffers hold together, and from 2 alone where they don't
 double_said : (e : Event) (x : Context) (a : Beside) → worded (on_later e x) ≡ said (beside_word a) a.after
@@ -136,10 +132,10 @@ unfolding shown_path
 shown_no n ev h = sym (eq_no n 0 State (Path ev) State h refl)
 
 module _ (time k : ℕ) (x : Context) where
-  pub path_most : (on_path time k x).number ≤ 26
+  pub path_most : (on_path time k x).number ≤ 25
   unfolding on_path chosen numbered inside
   path_most =
-      eq_both (λ (a : Routing). a.number ≤ 26) (first_of (with_sound x (path_of time k x))) 0 _ _ (λ _. omega arith)
+      eq_both (λ (a : Routing). a.number ≤ 25) (first_of (with_sound x (path_of time k x))) 0 _ _ (λ _. omega arith)
       (λ _. with_most x _ k _ refl)
 
   -- its word has the EV where it was accepted; a refused one has the EV 0
@@ -187,7 +183,7 @@ module _ (e : Event) (x : Context) (xs : List Row) (after : Context) (sampling :
   unfolding says kind_in if_eq
   heard_unsound h = ap beside (judged_unsound e x xs after h)
 
-  heard_double : first_of (with_sound x xs) ≤ 26 → on_later e x ≡ heard_by (says sensed.number sampling) sensed → Double e x (beside sensed)
+  heard_double : first_of (with_sound x xs) ≤ 25 → on_later e x ≡ heard_by (says sensed.number sampling) sensed → Double e x (beside sensed)
   heard_double m q =
       record {
         is =
@@ -223,11 +219,11 @@ module _ (ws fs : List ℕ) (r : Memory) (t : List ℕ) where
       ∙ ap (λ (n : ℕ). called a.number (words_after n ws a.after.state) a.after.flows a.after.slots a.after.times) low)
 
   pub word_most_lem : (e : Event) (on : Context → Answered) → ((x : Context) → Single e x (on x)) → (c : Called)
-      → c ≡ on_event_words e ws fs r t → c.number ≤ 26
+      → c ≡ on_event_words e ws fs r t → c.number ≤ 25
   unfolding on_words
   word_most_lem e on single c q =
       rw (q ∙ words_on e on single)
-      (so_both (λ (d : Called). d.number ≤ 26) (words_ok ws) _ _ (λ _. (single (context (state_from ws) fs r t)).most) (λ _. omega arith))
+      (so_both (λ (d : Called). d.number ≤ 25) (words_ok ws) _ _ (λ _. (single (context (state_from ws) fs r t)).most) (λ _. omega arith))
 
   pub beside_words_on : (e : Event) (on : Context → Beside) → ((x : Context) → Double e x (on x))
       → on_event_words e ws fs r t ≡ on_beside_words ws fs r t on

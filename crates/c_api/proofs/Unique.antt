@@ -5,7 +5,7 @@ use mathlib.Core.Bool.{Bool}
 use mathlib.Core.List.{List}
 use Prim.Native.Nat.{ℕ}
 use Rattle.ledger.specs.Memory.{Memory}
-use Rattle.context.specs.Events.{on_new_data, on_send, on_loss, on_move}
+use Rattle.context.specs.Events.{on_new_data, on_send, on_loss}
 use Rattle.rules.specs.Unique.{OneOutcome, one_outcome, unique_plain}
 use Rattle.c_api.specs.Calls.{send_by, ack_by, nack_by, loss_by, Called, called, on_words, path_beside, ack_beside, nack_beside}
 use Rattle.c_api.specs.Calls.{on_beside_words, on_set_up_words}
@@ -35,9 +35,8 @@ call_unique = one_outcome made back (λ x. refl)
 
 -- handed the words of a state, a table of flows, a ring buffer and EV times; of flow k
 module _ (ws fs : List ℕ) (r : Memory) (t : List ℕ) where
-  pub set_up_unique : (settings : List ℕ) (psn off evs single reroute : ℕ)
-      → OneOutcome made (on_set_up_words settings psn off evs single reroute ws fs r t)
-  set_up_unique settings psn off evs single reroute = call_unique _
+  pub set_up_unique : (settings : List ℕ) (psn off : ℕ) (evs : ℕ) → OneOutcome made (on_set_up_words settings psn off evs ws fs r t)
+  set_up_unique settings psn off evs = call_unique _
 
   pub new_data_unique : (time k bytes : ℕ) → OneOutcome made (on_words ws fs r t (on_new_data time k bytes))
   new_data_unique time k bytes = call_unique _
@@ -59,9 +58,6 @@ module _ (ws fs : List ℕ) (r : Memory) (t : List ℕ) where
 
   pub path_unique : (time k : ℕ) → OneOutcome made (on_beside_words ws fs r t (path_beside time k))
   path_unique time k = call_unique _
-
-  pub move_unique : (time : ℕ) → OneOutcome made (on_words ws fs r t (on_move time 0))
-  move_unique time = call_unique _
 
 -- ---- a choice, which has the table, the ring buffer and the EV times to read only
 

@@ -27,7 +27,7 @@ use Rattle.sender.specs.declared.Loss.{Loss}
 use Rattle.sender.proofs.Rowing.{answer_other}
 use Rattle.context.specs.Context.{Context, context, Answered, answered, Routing, shared_of}
 use Rattle.context.specs.Sound.{sound_context}
-use Rattle.context.specs.Events.{decided, chosen, on_new_data, on_send, on_ack, on_nack, on_loss, on_path, on_move}
+use Rattle.context.specs.Events.{decided, chosen, on_new_data, on_send, on_ack, on_nack, on_loss, on_path}
 use Rattle.context.specs.Turns.{Chosen, chose, past_choose, on_choose}
 use Rattle.context.specs.Start.{set_up_rows, fresh_state, fresh_table, on_set_up}
 use Rattle.context.specs.declared.Controller.{Controller}
@@ -175,10 +175,6 @@ module _ (ws fs : List ℕ) (r : Memory) (t : List ℕ) where
     unfolding on_loss
     loss_untouched a = refused_words (on_loss time k a) (λ x. refused_same _ x _)
 
-    pub move_untouched : Spared (on_words ws fs r t (on_move time 0))
-    unfolding on_move
-    move_untouched = refused_words (on_move time 0) (λ x. refused_same _ x _)
-
     pub ack_untouched : (a : Ack) → SparedBeside (on_beside_words ws fs r t (ack_beside time k a))
     unfolding on_ack
     ack_untouched a = refused_beside (ack_beside time k a) (λ x. ack_word time k x a) (λ x. refused_same _ x _)
@@ -191,10 +187,10 @@ module _ (ws fs : List ℕ) (r : Memory) (t : List ℕ) where
     unfolding on_path
     path_untouched = refused_beside (path_beside time k) (path_word time k) (λ x. chosen_same _ _ x _)
 
-  pub set_up_untouched : (ns : List ℕ) (psn off evs single reroute : ℕ) → Spared (on_set_up_words ns psn off evs single reroute ws fs r t)
+  pub set_up_untouched : (ns : List ℕ) (psn off : ℕ) (evs : ℕ) → Spared (on_set_up_words ns psn off evs ws fs r t)
   unfolding on_set_up_words
-  set_up_untouched ns psn off evs single reroute =
-      let g = settings_from ns psn off evs single reroute in
+  set_up_untouched ns psn off evs =
+      let g = settings_from ns psn off evs in
       let a = on_set_up g fs r t in
       so_both Spared _ _ _
       (λ _.

@@ -114,10 +114,10 @@ unfoldable pub on_beside_words : List ℕ → List ℕ → Memory → List ℕ �
 on_beside_words ws fs r t event = if_so (words_ok ws) (packed_beside ws (event (context (state_from ws) fs r t))) (called 2 ws fs r t)
 
 -- setting up: 1, then 2 on lengths. Settings that are not twelve numbers can't be read: 2
-unfoldable pub on_set_up_words : List ℕ → ℕ → ℕ → ℕ → ℕ → ℕ → List ℕ → List ℕ → Memory → List ℕ → Called
-on_set_up_words ns psn off evs single reroute ws fs r t =
+unfoldable pub on_set_up_words : List ℕ → ℕ → ℕ → ℕ → List ℕ → List ℕ → Memory → List ℕ → Called
+on_set_up_words ns psn off evs ws fs r t =
     if_so (eqb (length ns) settings_count)
-    (if_so (in_range (settings_from ns psn off evs single reroute))
-    (if_so (eqb (length ws) word_count) (packed ws (on_set_up (settings_from ns psn off evs single reroute) fs r t)) (called 2 ws fs r t))
+    (if_so (in_range (settings_from ns psn off evs))
+    (if_so (eqb (length ws) word_count) (packed ws (on_set_up (settings_from ns psn off evs) fs r t)) (called 2 ws fs r t))
     (called 1 ws fs r t))
     (called 2 ws fs r t)

@@ -1,4 +1,4 @@
-// The library for C: every event of a flow over lent words. Slices only: the state's 42 words (`c_state`), the table of flows
+// The library for C: every event of a flow over lent words. Slices only: the state's 38 words (`c_state`), the table of flows
 // (request M-107), the ring buffer's four slices, the EV times, a log's bytes. A call is a replay's batch of one event
 // (`replay::once`), so that the archive has the rules once, in the replay's loop. No function has a `requires`; what no proof
 // can see, that pointers and lengths are true and that nothing overlaps, is said in include/nscc.h.
@@ -15,7 +15,7 @@ ghost use Rattle.std.specs.Prelude.{◌≡◌, length};
 ghost use Rattle.rules.specs.Mode.{mode_of};
 ghost use Rattle.ledger.specs.Lent.{memory_before};
 ghost use Rattle.ledger.specs.Memory.{memory};
-ghost use Rattle.context.specs.Events.{on_new_data, on_send, on_loss, on_move};
+ghost use Rattle.context.specs.Events.{on_new_data, on_send, on_loss};
 ghost use Rattle.c_state.specs.Layout.{word_count};
 ghost use Rattle.c_api.specs.Calls.{called_after, words_after, on_event_words, on_words, ack_beside, nack_beside, path_beside, on_beside_words};
 ghost use Rattle.c_api.specs.Calls.{on_set_up_words, send_by, ack_by, nack_by, loss_by};
@@ -63,16 +63,13 @@ fn take<'a, 'b, 'c, 'd, 'e, 'f, 'g>(
     word
 }
 
-// Setting up: the twelve settings, the first PSN, the flag that disables quick adapt, the number of EVs, and (request M-112) the flag of
-// the single-path profile and its t_reroute.
+// Setting up: the twelve settings, the first PSN, the flag that disables quick adapt, the number of EVs.
 #[unsafe(no_mangle)]
 pub extern "C" fn nscc_set_up(
     settings: &[u64],
     first_psn: u32,
     quick_adapt_off: bool,
     ev_count: u32,
-    single_path: bool,
-    t_reroute: u32,
     state: &mut [u64],
     flows: &mut [u64],
     outstanding: &mut [u64],
@@ -82,15 +79,14 @@ pub extern "C" fn nscc_set_up(
     evs: &mut [u64],
 ) -> u32
     ensures { called_after result state.new flows.new outstanding.new marked.new sizes.new sent.new evs.new
-        ≡ on_set_up_words settings.now first_psn (mode_of quick_adapt_off) ev_count (mode_of single_path) t_reroute
-        state.old flows.old (memory_before outstanding.old marked.old sizes.old sent.old) evs.old }
+        ≡ on_set_up_words settings.now first_psn (mode_of quick_adapt_off) ev_count state.old
+        flows.old (memory_before outstanding.old marked.old sizes.old sent.old) evs.old }
 {
     if settings.len() != c_state::SETTINGS {
         return number_of(Verdict::Unsound);
     }
     let off = rules::mode_of(quick_adapt_off);
-    let single = rules::mode_of(single_path);
-    let given = c_state::settings_of(settings, first_psn, off, ev_count as u64, single, t_reroute);
+    let given = c_state::settings_of(settings, first_psn, off, ev_count as u64);
     if !window::bounds::in_range(given) {
         return number_of(Verdict::Setting);
     }
@@ -318,32 +314,4 @@ pub extern "C" fn nscc_path(
         sent,
         evs,
     )
-}
-
-// A move to the next EV, in the single-path profile (request M-112).
-#[unsafe(no_mangle)]
-pub extern "C" fn nscc_move(
-    state: &mut [u64],
-    flows: &mut [u64],
-    outstanding: &mut [u64],
-    marked: &mut [u64],
-    sizes: &mut [u32],
-    sent: &mut [u64],
-    evs: &mut [u64],
-    time: u64,
-) -> u32
-    ensures { called_after result state.new flows.new outstanding.new marked.new sizes.new sent.new evs.new
-        ≡ on_words state.old flows.old (memory_before outstanding.old marked.old sizes.old sent.old) evs.old
-        (on_move time 0) }
-{
-    take(
-        Event::Move(time),
-        state,
-        flows,
-        outstanding,
-        marked,
-        sizes,
-        sent,
-        evs,
-    ) as u32
 }

@@ -29,9 +29,7 @@ module _ (ws : List ℕ) where
   pub words_facts : words_ok ws ≡ true → WordsFacts ws
   unfolding words_ok
   words_facts e =
-      let t_reroute = below _ (word ws place.t_reroute) field_end e in
-      let single_path = below _ (word ws place.single_path) field_end t_reroute.0 in
-      let phase = below _ (word ws place.phase) field_end single_path.0 in
+      let phase = below _ (word ws place.phase) field_end e in
       let cursor = below _ (word ws place.cursor) field_end phase.0 in
       let trigger = below _ (word ws place.trigger) field_end cursor.0 in
       let fast = below _ (word ws place.fast) field_end trigger.0 in
@@ -59,8 +57,7 @@ module _ (ws : List ℕ) where
       && ltb (word ws place.flying) field_end && ltb (word ws place.marked) field_end
       && ltb (word ws place.in_flight) (in_flight_most + in_flight_added + 1)
       && ltb (word ws place.fast) field_end && ltb (word ws place.trigger) field_end
-      && ltb (word ws place.cursor) field_end && ltb (word ws place.phase) field_end
-      && ltb (word ws place.single_path) field_end && ltb (word ws place.t_reroute) field_end) ≡ words_ok ws
+      && ltb (word ws place.cursor) field_end && ltb (word ws place.phase) field_end) ≡ words_ok ws
   unfolding words_ok
   rest_left h = rw (eq-eqb (length ws) word_count h)
 

@@ -8,7 +8,6 @@ use Prim.Native.Nat.{ℕ}
 use native.Mathlib.Omega.{arith}
 use lib.ListN.{length}
 use lib.Seq.{ext_get_or}
-use Rattle.window.proofs.Tests.{single_high, reroute_fits}
 use Rattle.ledger.specs.Ring.{tabulate}
 use Rattle.ledger.proofs.Signs.{sound_ledger_flown}
 use Rattle.ledger.proofs.Walks.{length_tabulate, get_d_tabulate}
@@ -19,7 +18,7 @@ use Rattle.context.specs.declared.Controller.{Controller}
 use Rattle.context.proofs.Sounds.{context_facts, one_holds}
 use Rattle.c_state.specs.Places as place
 use Rattle.c_state.specs.Layout.{word_count, state_words, word}
-use Rattle.c_state.specs.Layout.{settings_from, totals_from, window_from, single_from, state_from, words_ok}
+use Rattle.c_state.specs.Layout.{settings_from, totals_from, window_from, state_from, words_ok}
 use Rattle.c_state.specs.Statements.{WordsFacts, Machine}
 use Rattle.c_state.proofs.Checked.{words_facts, facts_words}
 use Rattle.c_state.proofs.InFlight.{word_most_lem, word_back, back_word}
@@ -33,14 +32,14 @@ spelled ws n e =
     ext_get_or 0 (tabulate (λ i. word ws i) n) ws (long ∙ sym e) (λ i h. get_d_tabulate (λ k. word ws k) 0 n i (omega arith))
 
 pub pack_unpack : (ws : List ℕ) → words_ok ws ≡ true → state_words (state_from ws) ≡ ws
-unfolding state_words state_from settings_from totals_from window_from single_from tabulate
+unfolding state_words state_from settings_from totals_from window_from tabulate
 pack_unpack ws ok =
     let W = words_facts ws ok in
     rw (back_word (word ws place.in_flight) W.in_flight) (spelled ws word_count W.long)
 
 -- ---- a state to words and back
 
--- a state has 42 words
+-- a state has 38 words
 pub long : (c : Controller) → length (state_words c) ≡ word_count
 unfolding state_words
 long c = refl
@@ -60,12 +59,10 @@ module _ (c : Controller) (M : Machine c) where
         trigger = M.trigger;
         cursor = M.cursor;
         phase = M.phase;
-        single_path = M.single_path;
-        t_reroute = M.t_reroute;
       }
 
   state_back : state_from (state_words c) ≡ c
-  unfolding state_words state_from settings_from totals_from window_from single_from
+  unfolding state_words state_from settings_from totals_from window_from
   state_back = rw (word_back c.totals.in_flight M.flown)
 
   pub unpack_pack : (words_ok (state_words c) ≡ true) × (state_from (state_words c) ≡ c)
@@ -88,7 +85,5 @@ sound_machine x e =
       trigger = omega (arith, S.sound_window_lem.trigger_high);
       cursor = omega (arith, S.cursor_ok, (holds_bounded (world_at 0 x) H).evs_high);
       phase = rw S.named (omega (arith, phase_high x.state.settings.mtu x.state.window.cwnd x.state.totals));
-      single_path = omega (arith, single_high x.state.settings S.range.profile_allowed);
-      t_reroute = reroute_fits x.state.settings S.range.profile_allowed;
       flown = sound_ledger_flown C;
     }

@@ -1,8 +1,7 @@
 -- The shared state of a context as words, in the order of `Places`: the settings in document 01's order, the first PSN and the mode that
 -- disables quick adapt; the totals over all flows: backlog, flying, marked, marked bytes and in-flight; the window; the clock, the path
--- cursor and the state's name; the number of EVs (request M-110); the held turn (request M-108); the single-path profile's flag and
--- t_reroute, the current EV and the time of the last move (request M-112). Low, next, held and backlog of each flow "sit in a lent table of
--- flow records" (request M-107), not here.
+-- cursor and the state's name; the number of EVs (request M-110); the held turn (request M-108). Low, next, held and backlog of each flow
+-- "sit in a lent table of flow records" (request M-107), not here.
 -- Assumes nothing.
 use Rattle.std.specs.Prelude.{Bool, true, false, ◌&&◌, List, [], ◌∷◌, ℕ, ◌+◌, ◌^◌, ltb, eqb, ℤ, pos, nat_abs, ◌+ℤ◌, ◌-ℤ◌, length, get_or}
 use Rattle.std.specs.Int.Signed.{lt_z}
@@ -10,7 +9,6 @@ use Rattle.rules.specs.Branch.{if_so}
 use Rattle.window.specs.declared.Settings.{Settings}
 use Rattle.window.specs.declared.Window.{Window}
 use Rattle.ledger.specs.declared.Totals.{Totals}
-use Rattle.paths.specs.declared.single.Single.{Single}
 use Rattle.sender.specs.Start.{no_settings}
 use Rattle.context.specs.Start.{fresh_state}
 use Rattle.context.specs.declared.Controller.{Controller}
@@ -19,7 +17,7 @@ use Rattle.c_state.specs.declared.Unpacked.{Unpacked}
 
 -- how many words a state has
 abbrev pub word_count : ℕ
-word_count = 42
+word_count = 38
 
 -- how many numbers the settings have, which come first
 abbrev pub settings_count : ℕ
@@ -86,10 +84,6 @@ state_words c =
     ∷ c.phase
     ∷ c.settings.ev_count
     ∷ c.turn
-    ∷ c.settings.single_path
-    ∷ c.settings.t_reroute
-    ∷ c.single.current_ev
-    ∷ c.single.last_move
     ∷ []
 
 -- ---- the state of words
@@ -98,10 +92,9 @@ state_words c =
 abbrev pub word : List ℕ → ℕ → ℕ
 word ws i = get_or ws i 0
 
--- the twelve numbers, the first PSN, the mode that disables quick adapt, the number of EVs, the mode of the single-path profile and its
--- t_reroute
-unfoldable pub settings_from : List ℕ → ℕ → ℕ → ℕ → ℕ → ℕ → Settings
-settings_from ws psn off evs single reroute =
+-- the twelve numbers, the first PSN, the mode that disables quick adapt and the number of EVs
+unfoldable pub settings_from : List ℕ → ℕ → ℕ → ℕ → Settings
+settings_from ws psn off evs =
     record {
       mtu = word ws place.mtu;
       maxwnd = word ws place.maxwnd;
@@ -118,8 +111,6 @@ settings_from ws psn off evs single reroute =
       first_psn = psn;
       quick_adapt_off = off;
       ev_count = evs;
-      single_path = single;
-      t_reroute = reroute;
     }
 
 unfoldable pub totals_from : List ℕ → Totals
@@ -151,28 +142,22 @@ window_from ws =
       last_dec = word ws place.last_dec;
     }
 
-unfoldable pub single_from : List ℕ → Single
-single_from ws = record { current_ev = word ws place.current_ev; last_move = word ws place.last_move }
-
 unfoldable pub state_from : List ℕ → Controller
 state_from ws =
     record {
-      settings =
-          settings_from ws (word ws place.first_psn) (word ws place.quick_adapt_off) (word ws place.ev_count)
-          (word ws place.single_path) (word ws place.t_reroute);
+      settings = settings_from ws (word ws place.first_psn) (word ws place.quick_adapt_off) (word ws place.ev_count);
       totals = totals_from ws;
       window = window_from ws;
       clock = word ws place.clock;
       cursor = word ws place.cursor;
       phase = word ws place.phase;
       turn = word ws place.turn;
-      single = single_from ws;
     }
 
 -- ---- words that are those of a state
 
--- a 32-bit field holds a number of 32 bits, and in-flight is in its range; the other bounds, of modes, the name, the turn, the current EV
--- and the last move too, are number 2's
+-- a 32-bit field holds a number of 32 bits, and in-flight is in its range; the other bounds, of modes, the name and the turn too, are
+-- number 2's
 unfoldable pub words_ok : List ℕ → Bool
 words_ok ws =
     eqb (length ws) word_count
@@ -185,8 +170,6 @@ words_ok ws =
     && ltb (word ws place.trigger) field_end
     && ltb (word ws place.cursor) field_end
     && ltb (word ws place.phase) field_end
-    && ltb (word ws place.single_path) field_end
-    && ltb (word ws place.t_reroute) field_end
 
 -- the state, or a state of zeros
 unfoldable pub unpacked : List ℕ → Unpacked

@@ -122,16 +122,3 @@ ev_count = 36
 -- the held turn, request M-108
 abbrev pub turn : ℕ
 turn = 37
-
--- the single-path profile, request M-112: its flag and t_reroute; the current EV and the time of the last move
-abbrev pub single_path : ℕ
-single_path = 38
-
-abbrev pub t_reroute : ℕ
-t_reroute = 39
-
-abbrev pub current_ev : ℕ
-current_ev = 40
-
-abbrev pub last_move : ℕ
-last_move = 41

@@ -18,8 +18,6 @@ pub record WordsFacts (ws : List ℕ) : Type 0 where
   pub trigger : word ws place.trigger < field_end
   pub cursor : word ws place.cursor < field_end
   pub phase : word ws place.phase < field_end
-  pub single_path : word ws place.single_path < field_end
-  pub t_reroute : word ws place.t_reroute < field_end
 
 -- a state that the machine can hold: 32-bit fields of 32 bits; and in-flight in its bounds for some MaxWnd
 pub record Machine (c : Controller) : Type 0 where
@@ -31,6 +29,4 @@ pub record Machine (c : Controller) : Type 0 where
   pub trigger : c.window.trigger < field_end
   pub cursor : c.cursor < field_end
   pub phase : c.phase < field_end
-  pub single_path : c.settings.single_path < field_end
-  pub t_reroute : c.settings.t_reroute < field_end
   pub flown : Flown in_flight_most c.totals.in_flight

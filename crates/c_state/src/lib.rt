@@ -1,4 +1,4 @@
-// The shared state of a context as words, for callers that hold it as plain memory: 42 numbers of 64 bits each at its place in `places`.
+// The shared state of a context as words, for callers that hold it as plain memory: 38 numbers of 64 bits each at its place in `places`.
 // The flows' own records are words already, in a lent table (request M-107).
 #![tactic(auto)]
 
@@ -6,16 +6,15 @@ pub mod places;
 
 ghost use Rattle.std.specs.Prelude.{◌≡◌, ◌≤◌, length};
 ghost use Rattle.c_state.specs.Layout.{word_count, settings_count, in_flight_word, state_words};
-ghost use Rattle.c_state.specs.Layout.{settings_from, totals_from, window_from, single_from, state_from, words_ok, unpacked};
+ghost use Rattle.c_state.specs.Layout.{settings_from, totals_from, window_from, state_from, words_ok, unpacked};
 ghost use Rattle.c_state.specs.Statements.{WordsFacts};
 
 use context::Controller;
 use ledger::Totals;
-use paths::single::Single;
 use window::{Settings, Window};
 
 // How many words a state has.
-pub const WORDS: usize = 42;
+pub const WORDS: usize = 38;
 
 // How many numbers the settings have, which come first.
 pub const SETTINGS: usize = 12;
@@ -59,7 +58,6 @@ pub fn pack(state: Controller) -> [u64; WORDS]
     let s = state.settings;
     let t = state.totals;
     let w = state.window;
-    let single = state.single;
     [
         s.mtu,
         s.maxwnd,
@@ -99,10 +97,6 @@ pub fn pack(state: Controller) -> [u64; WORDS]
         state.phase as u64,
         s.ev_count,
         state.turn,
-        s.single_path as u64,
-        s.t_reroute as u64,
-        single.current_ev,
-        single.last_move,
     ]
 }
 
@@ -122,22 +116,13 @@ fn words_ok(ws: &[u64]) -> bool
         & (ws[places::TRIGGER] < FIELD_END)
         & (ws[places::CURSOR] < FIELD_END)
         & (ws[places::PHASE] < FIELD_END)
-        & (ws[places::SINGLE_PATH] < FIELD_END)
-        & (ws[places::T_REROUTE] < FIELD_END)
 }
 
-// The settings: twelve numbers in document 01's order, the first PSN, the mode that disables quick adapt, the number of EVs (request
-// M-110), the mode of the single-path profile and its t_reroute (request M-112). An inner step: the caller proves that there are twelve.
-pub fn settings_of(
-    ws: &[u64],
-    first_psn: u32,
-    quick_adapt_off: u32,
-    ev_count: u64,
-    single_path: u32,
-    t_reroute: u32,
-) -> Settings
+// The settings: twelve numbers in document 01's order, the first PSN, the mode that disables quick adapt and the number of EVs. An inner
+// step: the caller proves that there are twelve.
+pub fn settings_of(ws: &[u64], first_psn: u32, quick_adapt_off: u32, ev_count: u64) -> Settings
     requires { settings_count ≤ length ws.now }
-    ensures { result ≡ settings_from ws.now first_psn quick_adapt_off ev_count single_path t_reroute }
+    ensures { result ≡ settings_from ws.now first_psn quick_adapt_off ev_count }
 {
     Settings {
         mtu: ws[places::MTU],
@@ -155,8 +140,6 @@ pub fn settings_of(
         first_psn,
         quick_adapt_off,
         ev_count,
-        single_path,
-        t_reroute,
     }
 }
 
@@ -196,16 +179,6 @@ fn window_from(ws: &[u64]) -> Window
     }
 }
 
-fn single_from(ws: &[u64]) -> Single
-    requires { WordsFacts ws.now }
-    ensures { result ≡ single_from ws.now }
-{
-    Single {
-        current_ev: ws[places::CURRENT_EV],
-        last_move: ws[places::LAST_MOVE],
-    }
-}
-
 fn state_from(ws: &[u64]) -> Controller
     requires { WordsFacts ws.now }
     ensures { result ≡ state_from ws.now }
@@ -216,8 +189,6 @@ fn state_from(ws: &[u64]) -> Controller
             ws[places::FIRST_PSN] as u32,
             ws[places::QUICK_ADAPT_OFF] as u32,
             ws[places::EV_COUNT],
-            ws[places::SINGLE_PATH] as u32,
-            ws[places::T_REROUTE] as u32,
         ),
         totals: totals_from(ws),
         window: window_from(ws),
@@ -225,7 +196,6 @@ fn state_from(ws: &[u64]) -> Controller
         cursor: ws[places::CURSOR] as u32,
         phase: ws[places::PHASE] as u32,
         turn: ws[places::TURN],
-        single: single_from(ws),
     }
 }
 
@@ -245,7 +215,7 @@ pub fn unpack(ws: &[u64]) -> Unpacked
     }
 }
 
-// Stores a state's words over those that were lent. An inner step: the caller proves that there are 42.
+// Stores a state's words over those that were lent. An inner step: the caller proves that there are 38.
 pub fn store(ws: &mut [u64], state: Controller)
     requires { length ws.old ≡ word_count }
     ensures { ws.new ≡ state_words state }

@@ -82,12 +82,3 @@ pub const EV_COUNT: usize = 36;
 
 // The held turn, request M-108.
 pub const TURN: usize = 37;
-
-// The single-path profile, request M-112: its flag and t_reroute; the current EV and the time of the last move.
-pub const SINGLE_PATH: usize = 38;
-
-pub const T_REROUTE: usize = 39;
-
-pub const CURRENT_EV: usize = 40;
-
-pub const LAST_MOVE: usize = 41;

@@ -19,13 +19,12 @@ use Rattle.sender.specs.declared.Loss.{Loss}
 use Rattle.context.specs.Context.{Context, Answered, Routing, flow_count, cap_in, put_world}
 use Rattle.context.specs.Sound.{sound_context}
 use Rattle.context.specs.Rows.{with_sound}
-use Rattle.context.specs.Events.{decided, chosen, path_of, on_new_data, on_send, on_ack, on_nack, on_loss, on_path, on_move}
+use Rattle.context.specs.Events.{decided, chosen, path_of, on_new_data, on_send, on_ack, on_nack, on_loss, on_path}
 use Rattle.context.specs.Statements.{OthersKept}
 use Rattle.context.proofs.Sounds.{SoundContext, context_facts}
 use Rattle.context.proofs.Puts.{put_count, put_cap, other_flow, other_memory, other_ring}
 use Rattle.context.proofs.Kept.{Stepped, stepped_rings}
 use Rattle.context.proofs.Kept.{new_data_stepped, send_stepped, ack_stepped, nack_stepped, loss_stepped, path_stepped}
-use Rattle.context.proofs.Kept.{move_stepped}
 
 -- another world for flow k
 pub put_apart : (x : Context) (S : SoundContext x) (k : ℕ) → k < flow_count x → (w : World) → Rings 1 (cap_in x) w.slots
@@ -99,7 +98,3 @@ module _ (time k : ℕ) (x : Context) where
   path_apart =
       eq_both (λ (a : Routing). OthersKept k x a.after) (first_of (with_sound x (path_of time k x))) 0 _ _
       (step_apart _ _ (λ S. path_stepped x S time k)) (λ _. same_apart k x)
-
-  pub move_apart : OthersKept k x (on_move time k x).after
-  unfolding on_move
-  move_apart = decided_apart _ _ (λ S. move_stepped x S time k)

@@ -15,7 +15,6 @@ use Rattle.flow_table.proofs.Places.{with_length}
 use Rattle.sender.specs.World.{World, view_of, world_of}
 use Rattle.sender.specs.Events.{says}
 use Rattle.sender.specs.Steps.{new_data_step, send_step, ack_sampling, ack_step, nack_sampling, nack_step, loss_step, path_step, route_of}
-use Rattle.sender.specs.Steps.{move_step}
 use Rattle.sender.specs.declared.Send.{Send}
 use Rattle.sender.specs.declared.Ack.{Ack}
 use Rattle.sender.specs.declared.Nack.{Nack}
@@ -24,10 +23,10 @@ use Rattle.context.specs.Context.{Context, Answered, Routing, world_at, put_worl
 use Rattle.context.specs.Sound.{sound_context}
 use Rattle.context.specs.Rows.{with_sound}
 use Rattle.context.specs.Events.{decided, chosen, new_data_of, send_of, ack_of, nack_of, loss_of, path_of, path_left, ack_says, nack_says}
-use Rattle.context.specs.Events.{on_new_data, on_send, on_ack, on_nack, on_loss, on_path, move_of, on_move}
+use Rattle.context.specs.Events.{on_new_data, on_send, on_ack, on_nack, on_loss, on_path}
 use Rattle.context.specs.Table.{route_answer}
 use Rattle.context.proofs.Entries.{unsound_answer, unsound_route}
-use Rattle.context.proofs.Kept.{new_data_lasts, send_lasts, ack_lasts, nack_lasts, loss_lasts, path_lasts, move_lasts}
+use Rattle.context.proofs.Kept.{new_data_lasts, send_lasts, ack_lasts, nack_lasts, loss_lasts, path_lasts}
 
 pub record Event (on : Context → Answered) : Type 0 where
   pub refuses : (x : Context) → sound_context x ≡ false → on x ≡ record { number = 2; after = x }
@@ -93,15 +92,6 @@ module _ (time k : ℕ) where
         refuses = rows_refuse k (loss_of time k a) (λ x. world_of (loss_step time a (view_of (world_at k x))));
         lasts = λ x e. loss_lasts x e time k a;
         long = rows_long k (loss_of time k a) (λ x. world_of (loss_step time a (view_of (world_at k x))));
-      }
-
-  pub move_event : Event (on_move time k)
-  unfolding on_move
-  move_event =
-      record {
-        refuses = rows_refuse k (move_of time k) (λ x. world_of (move_step time (view_of (world_at k x))));
-        lasts = λ x e. move_lasts x e time k;
-        long = rows_long k (move_of time k) (λ x. world_of (move_step time (view_of (world_at k x))));
       }
 
   -- ---- a path choice, with the EV

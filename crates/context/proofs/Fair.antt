@@ -178,7 +178,6 @@ turn_sound turn x h e =
       times_ok_lem = S.times_ok_lem;
       cursor_ok = S.cursor_ok;
       turn_ok = h;
-      single_ok = S.single_ok;
       named = S.named;
     })
 

@@ -28,7 +28,7 @@ use Rattle.sender.specs.Sound.{sound_among}
 use Rattle.sender.specs.Rows.{time_row}
 use Rattle.sender.specs.Events.{says}
 use Rattle.sender.specs.Steps.{state_of, settled, new_data_state, new_data_step, send_step, ack_sampling, ack_step, nack_sampling, nack_step}
-use Rattle.sender.specs.Steps.{loss_step, path_state, path_step, route_of, move_state, move_step}
+use Rattle.sender.specs.Steps.{loss_step, path_state, path_step, route_of}
 use Rattle.sender.specs.declared.Send.{Send}
 use Rattle.sender.specs.declared.Ack.{Ack}
 use Rattle.sender.specs.declared.Nack.{Nack}
@@ -36,15 +36,15 @@ use Rattle.sender.specs.declared.Loss.{Loss}
 use Rattle.sender.proofs.Sounds.{SoundFacts, among_facts}
 use Rattle.sender.proofs.Views.{world_sound}
 use Rattle.sender.proofs.Stepping.{time_facts}
-use Rattle.sender.proofs.Kept.{new_data_kept, send_kept, ack_kept, nack_kept, loss_kept, path_kept, move_kept}
+use Rattle.sender.proofs.Kept.{new_data_kept, send_kept, ack_kept, nack_kept, loss_kept, path_kept}
 use Rattle.context.specs.Context.{Context, Answered, Routing, flow_count, cap_in, flow_in, memory_in, ring_in}
 use Rattle.context.specs.Context.{joined_of, shared_of, world_at, put_world}
 use Rattle.context.specs.Sound.{stands_at, sound_context}
 use Rattle.context.specs.Rows.{flow_row, with_sound}
-use Rattle.context.specs.Events.{decided, chosen, new_data_of, send_of, ack_of, nack_of, loss_of, path_of, move_of}
+use Rattle.context.specs.Events.{decided, chosen, new_data_of, send_of, ack_of, nack_of, loss_of, path_of}
 use Rattle.context.specs.Events.{path_left, past_ack_says, past_nack_says, ack_says, nack_says}
-use Rattle.context.specs.Events.{past_new_data, past_send, past_ack, past_nack, past_loss, past_path, past_move}
-use Rattle.context.specs.Events.{on_new_data, on_send, on_ack, on_nack, on_loss, on_path, on_move}
+use Rattle.context.specs.Events.{past_new_data, past_send, past_ack, past_nack, past_loss, past_path}
+use Rattle.context.specs.Events.{on_new_data, on_send, on_ack, on_nack, on_loss, on_path}
 use Rattle.context.proofs.Sounds.{SoundContext, context_facts, facts_context, others_of, one_among}
 use Rattle.context.proofs.Puts.{put_count, put_cap, put_cut, own_flow, own_ring, other_flow, other_ring, put_adds, put_backlogs}
 
@@ -95,7 +95,6 @@ module _ (x : Context) (S : SoundContext x) (k : ℕ) (h : k < flow_count x) (w 
         times_ok_lem = F.times_ok_lem;
         cursor_ok = F.cursor_ok;
         turn_ok = omega (arith, S.turn_ok, put_count x S k h w P);
-        single_ok = F.single_ok;
         named = F.named;
       }
 
@@ -201,10 +200,6 @@ module _ (x : Context) (S : SoundContext x) (time k : ℕ) where
   unfolding world_at joined_of path_step path_state state_of
   path_stepped e = stepped _ _ e (path_kept (others_of k x) time seen) refl refl refl
 
-  pub move_stepped : first_of (move_of time k x) ≡ 0 → Stepped k x (move_step time seen)
-  unfolding world_at joined_of move_step move_state state_of
-  move_stepped e = stepped _ _ e (move_kept (others_of k x) time seen) refl refl refl
-
 -- ---- whatever is answered
 
 module _ (x : Context) (e : sound_context x ≡ true) (time k : ℕ) where
@@ -242,10 +237,6 @@ module _ (x : Context) (e : sound_context x ≡ true) (time k : ℕ) where
   past_path_lasts =
       eq_both (λ (a : Routing). sound_context a.after ≡ true) (first_of (path_of time k x)) 0 _ _
       (λ z. stepped_sound x S k (path_stepped x S time k z)) (λ _. e)
-
-  pub past_move_lasts : sound_context (past_move time k x).after ≡ true
-  unfolding past_move
-  past_move_lasts = decided_lasts _ _ (move_stepped x S time k)
 
   -- ---- an event of a sound context, with its test of number 2 and past it
 
@@ -286,10 +277,6 @@ module _ (x : Context) (e : sound_context x ≡ true) (time k : ℕ) where
   past_path_lem =
       ap (λ (n : ℕ). chosen n (route_of time (view_of (world_at k x))).ev x (path_left time k x)) (sound_passed (path_of time k x))
 
-  pub past_move_lem : past_move time k x ≡ on_move time k x
-  unfolding past_move on_move
-  past_move_lem = past_decided _ _
-
   -- EACH EVENT LEAVES A SOUND CONTEXT SOUND
   pub new_data_lasts : (bytes : ℕ) → sound_context (on_new_data time k bytes x).after ≡ true
   new_data_lasts bytes = ap (λ (r : Answered). sound_context r.after) (sym (past_new_data_lem bytes)) ∙ past_new_data_lasts bytes
@@ -308,6 +295,3 @@ module _ (x : Context) (e : sound_context x ≡ true) (time k : ℕ) where
 
   pub path_lasts : sound_context (on_path time k x).after ≡ true
   path_lasts = ap (λ (r : Routing). sound_context r.after) (sym past_path_lem) ∙ past_path_lasts
-
-  pub move_lasts : sound_context (on_move time k x).after ≡ true
-  move_lasts = ap (λ (r : Answered). sound_context r.after) (sym past_move_lem) ∙ past_move_lasts

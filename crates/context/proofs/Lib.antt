@@ -5,7 +5,6 @@ pub mod Sounds
 pub mod Numbering
 pub mod Joins
 pub mod Lifts
-pub mod Moves
 pub mod Puts
 pub mod Kept
 pub mod Apart

@@ -17,7 +17,6 @@ use Rattle.window.specs.Range.{in_range}
 use Rattle.window.specs.Sound.{sound_window}
 use Rattle.window.proofs.Tests.{range_facts, window_facts}
 use Rattle.window.proofs.MaxWnd.{max_wnd_high}
-use Rattle.paths.specs.Single.{sound_single}
 use Rattle.ledger.specs.Bounds.{in_bounds, Flown}
 use Rattle.ledger.specs.Memory.{Memory}
 use Rattle.ledger.specs.Packets.{flying_one, marked_one, marked_size}
@@ -195,21 +194,18 @@ module _ (x : Context) (range : Bool) (range-is : range ≡ in_range x.state.set
               }
 
           pub tests_left :
-              (times single : Bool) (n name : ℕ) → times ≡ times_ok x.times →
-              single ≡ sound_single x.state.settings.ev_count x.state.clock x.state.single → n ≡ flow_count x →
+              (times : Bool) (n name : ℕ) → times ≡ times_ok x.times → n ≡ flow_count x →
               name ≡ phase_of x.state.settings.mtu x.state.window.cwnd x.state.totals →
               (ltb x.state.clock time_end && eqb (length x.times) x.state.settings.ev_count && times
-              && ltb x.state.cursor x.state.settings.ev_count && ltb x.state.turn n && single
-              && eqb x.state.phase name)
+              && ltb x.state.cursor x.state.settings.ev_count && ltb x.state.turn n && eqb x.state.phase name)
               ≡ sound_context x
           unfolding sound_context named_ok
-          tests_left times single n name t one count is =
+          tests_left times n name t count is =
               rw (
                 sym range-is ∙ not-false range r,
                 sym window-is ∙ not-false window-ok h,
                 sym (flows_test x) ∙ sym ok-is ∙ not-false ok l,
                 t,
-                one,
                 count,
                 is,
               )

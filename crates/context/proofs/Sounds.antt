@@ -13,8 +13,6 @@ use Rattle.window.specs.Limits.{time_end}
 use Rattle.window.specs.Range.{in_range, InRange}
 use Rattle.window.specs.Sound.{sound_window, SoundWindow}
 use Rattle.window.proofs.Tests.{range_facts, range_test, window_facts, window_test}
-use Rattle.paths.specs.Single.{sound_single, SoundSingle}
-use Rattle.paths.proofs.Singles.{single_facts, single_test}
 use Rattle.ledger.specs.Bounds.{in_bounds, Flown}
 use Rattle.ledger.specs.Packets.{flying_one, marked_one, marked_size, sum_of}
 use Rattle.ledger.specs.Ring.{packets}
@@ -53,7 +51,6 @@ pub record SoundContext (x : Context) : Type 0 where
   pub times_ok_lem : times_ok x.times ≡ true
   pub cursor_ok : x.state.cursor < x.state.settings.ev_count
   pub turn_ok : x.state.turn < flow_count x
-  pub single_ok : SoundSingle x.state.settings.ev_count x.state.clock x.state.single
   pub named : x.state.phase ≡ phase_of x.state.settings.mtu x.state.window.cwnd x.state.totals
 
 pub cut_facts : (n cap : ℕ) (m : Memory) → is_cut n cap m ≡ true → (is_capacity cap ≡ true) × Rings n cap m
@@ -82,8 +79,7 @@ unfolding sound_context totals_over named_ok
 context_facts x e =
     let c = x.state in
     let name = both _ (eqb c.phase (phase_of c.settings.mtu c.window.cwnd c.totals)) e in
-    let single = both _ (sound_single c.settings.ev_count c.clock c.single) name.0 in
-    let turn = both _ (ltb c.turn (flow_count x)) single.0 in
+    let turn = both _ (ltb c.turn (flow_count x)) name.0 in
     let cursor = both _ (ltb c.cursor c.settings.ev_count) turn.0 in
     let times = both _ (times_ok x.times) cursor.0 in
     let long = both _ (eqb (length x.times) c.settings.ev_count) times.0 in
@@ -116,7 +112,6 @@ context_facts x e =
       times_ok_lem = times.1;
       cursor_ok = ltb-true _ _ cursor.1;
       turn_ok = ltb-true _ _ turn.1;
-      single_ok = single_facts c.settings.ev_count c.clock c.single single.1;
       named = eqb-true _ _ name.1;
     }
 
@@ -124,7 +119,7 @@ pub facts_context : (x : Context) → SoundContext x → sound_context x ≡ tru
 unfolding sound_context totals_over named_ok
 facts_context x S =
     let c = x.state in
-    whole (whole (whole (whole (whole (whole (whole (whole (whole (whole (whole
+    whole (whole (whole (whole (whole (whole (whole (whole (whole (whole
     (whole (range_test c.settings S.range) (window_test c.settings c.clock c.window S.sound_window_lem))
     (facts_table x.flows S.table))
     (facts_cut (flow_count x) (cap_in x) x.slots S.cap S.cut))
@@ -136,7 +131,6 @@ facts_context x S =
     S.times_ok_lem)
     (lt-ltb _ _ S.cursor_ok))
     (lt-ltb _ _ S.turn_ok))
-    (single_test c.settings.ev_count c.clock c.single S.single_ok))
     (eq-eqb _ _ S.named)
 
 -- ---- one flow among the others
@@ -201,7 +195,6 @@ module _ (x : Context) (S : SoundContext x) where
           times_long = S.times_long;
           times_ok_lem = S.times_ok_lem;
           cursor_ok = S.cursor_ok;
-          single_ok = S.single_ok;
           named = S.named;
         })
 

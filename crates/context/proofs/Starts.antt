@@ -195,7 +195,6 @@ module _ (s : Settings) (flows : List ℕ) (m : Memory) (times : List ℕ) where
           times_ok_lem = F.times_ok_lem;
           cursor_ok = F.cursor_ok;
           turn_ok = omega (arith, begun_count, T.some);
-          single_ok = F.single_ok;
           named = F.named;
         }
 

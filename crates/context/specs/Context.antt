@@ -70,7 +70,6 @@ joined_of c f =
       clock = c.clock;
       cursor = c.cursor;
       phase = c.phase;
-      single = c.single;
     }
 
 unfoldable pub shared_of : ℕ → Sender → Controller
@@ -83,7 +82,6 @@ shared_of turn s =
       cursor = s.cursor;
       phase = s.phase;
       turn = turn;
-      single = s.single;
     }
 
 -- f is what an event of this answer leaves of a flow's record g: g where it was refused; else g but for the words that the event can change

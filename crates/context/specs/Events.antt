@@ -7,9 +7,8 @@ use Rattle.rules.specs.Branch.{if_eq}
 use Rattle.rules.specs.Rows.{Row, first_of}
 use Rattle.window.specs.declared.Sampling.{Sampling}
 use Rattle.sender.specs.World.{World, ring_of, view_of, world_of}
-use Rattle.sender.specs.Rows.{new_data_rows, send_all_rows, ack_all_rows, nack_all_rows, loss_all_rows, path_rows, move_rows}
+use Rattle.sender.specs.Rows.{new_data_rows, send_all_rows, ack_all_rows, nack_all_rows, loss_all_rows, path_rows}
 use Rattle.sender.specs.Steps.{new_data_step, send_step, ack_sampling, ack_step, nack_sampling, nack_step, loss_step, path_step, route_of}
-use Rattle.sender.specs.Steps.{move_step}
 use Rattle.sender.specs.Events.{says}
 use Rattle.sender.specs.declared.Send.{Send}
 use Rattle.sender.specs.declared.Ack.{Ack}
@@ -41,11 +40,6 @@ loss_of time k a x = with_flow_row k x (loss_all_rows time a (world_at k x).stat
 abbrev pub path_of : ℕ → ℕ → Context → List Row
 path_of time k x = with_flow_row k x (path_rows time (world_at k x).state)
 
--- request M-112, a move: it looks at what all flows share and at nothing of flow k's own. The log's kind 7 has no flow; like the other old
--- kinds it means flow 0 (M-107), which every context has
-abbrev pub move_of : ℕ → ℕ → Context → List Row
-move_of time k x = with_flow_row k x (move_rows time (world_at k x).state)
-
 -- what each leaves where no row refuses it
 abbrev pub new_data_left : ℕ → ℕ → ℕ → Context → Context
 new_data_left time k bytes x = put_world k x (world_of (new_data_step time bytes (view_of (world_at k x))))
@@ -64,9 +58,6 @@ loss_left time k a x = put_world k x (world_of (loss_step time a (view_of (world
 
 abbrev pub path_left : ℕ → ℕ → Context → Context
 path_left time k x = put_world k x (world_of (path_step time (view_of (world_at k x))))
-
-abbrev pub move_left : ℕ → ℕ → Context → Context
-move_left time k x = put_world k x (world_of (move_step time (view_of (world_at k x))))
 
 -- a path choice answers the EV too, 0 where it is refused
 unfoldable pub chosen : ℕ → ℕ → Context → Context → Routing
@@ -99,9 +90,6 @@ past_loss time k a x = decided (first_of (loss_of time k a x)) x (loss_left time
 unfoldable pub past_path : ℕ → ℕ → Context → Routing
 past_path time k x = chosen (first_of (path_of time k x)) (route_of time (view_of (world_at k x))).ev x (path_left time k x)
 
-unfoldable pub past_move : ℕ → ℕ → Context → Answered
-past_move time k x = decided (first_of (move_of time k x)) x (move_left time k x)
-
 -- ---- with the test of number 2
 
 unfoldable pub on_new_data : ℕ → ℕ → ℕ → Context → Answered
@@ -127,6 +115,3 @@ on_loss time k a x = decided (first_of (with_sound x (loss_of time k a x))) x (l
 
 unfoldable pub on_path : ℕ → ℕ → Context → Routing
 on_path time k x = chosen (first_of (with_sound x (path_of time k x))) (route_of time (view_of (world_at k x))).ev x (path_left time k x)
-
-unfoldable pub on_move : ℕ → ℕ → Context → Answered
-on_move time k x = decided (first_of (with_sound x (move_of time k x))) x (move_left time k x)

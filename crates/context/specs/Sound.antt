@@ -5,7 +5,6 @@ use Rattle.bits.specs.Bits.{sum_to}
 use Rattle.window.specs.Limits.{time_end}
 use Rattle.window.specs.Range.{in_range}
 use Rattle.window.specs.Sound.{sound_window}
-use Rattle.paths.specs.Single.{sound_single}
 use Rattle.ledger.specs.Bounds.{in_bounds}
 use Rattle.ledger.specs.Packets.{flying_one, marked_one, marked_size, sum_of}
 use Rattle.ledger.specs.Ring.{packets}
@@ -56,8 +55,7 @@ totals_over x =
 unfoldable pub named_ok : Controller → Bool
 named_ok c = eqb c.phase (phase_of c.settings.mtu c.window.cwnd c.totals)
 
--- request M-108: "A held turn that names no flow is refusal 2." M-112: "Refusal 2 also covers a current EV outside the count and a last
--- move past the clock"
+-- request M-108: "A held turn that names no flow is refusal 2."
 unfoldable pub sound_context : Context → Bool
 sound_context x =
     let c = x.state in
@@ -72,5 +70,4 @@ sound_context x =
     && times_ok x.times
     && ltb c.cursor c.settings.ev_count
     && ltb c.turn (flow_count x)
-    && sound_single c.settings.ev_count c.clock c.single
     && named_ok c

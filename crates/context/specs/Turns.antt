@@ -86,7 +86,6 @@ with_turn turn c =
       cursor = c.cursor;
       phase = c.phase;
       turn = turn;
-      single = c.single;
     }
 
 -- the number that is answered, what is to be sent, nothing where nobody is named, and the context afterwards

@@ -150,7 +150,6 @@ fn with_turn(c: Controller, turn: u64) -> Controller
     let settings = c.settings;
     let totals = c.totals;
     let window = c.window;
-    let single = c.single;
     Controller {
         settings,
         totals,
@@ -159,7 +158,6 @@ fn with_turn(c: Controller, turn: u64) -> Controller
         cursor: c.cursor,
         phase: c.phase,
         turn,
-        single,
     }
 }
 

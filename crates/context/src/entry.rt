@@ -4,7 +4,7 @@ ghost use Rattle.std.specs.Prelude.{◌≡◌};
 ghost use Rattle.rules.specs.Verdict.{number_of};
 ghost use Rattle.sender.specs.Events.{says_of};
 ghost use Rattle.context.specs.Lent.{context_before, answered_after, routed_after};
-ghost use Rattle.context.specs.Events.{on_new_data, on_send, on_ack, ack_says, on_nack, nack_says, on_loss, on_path, on_move};
+ghost use Rattle.context.specs.Events.{on_new_data, on_send, on_ack, ack_says, on_nack, nack_says, on_loss, on_path};
 
 use crate::sound::is_sound;
 use crate::{Answer, Controller, Heard, Routed, rely};
@@ -199,7 +199,7 @@ pub fn loss<'a, 'b, 'c>(
 }
 
 // Which EV the next packet takes. 2, 3, 25; else the first from the cursor on that is not avoided, or the cursor itself where more than
-// half are; in the single-path profile the current one. All that is lent is only read.
+// half are. All that is lent is only read.
 pub fn path<'a>(
     c: Controller,
     flows: &'a [u64],
@@ -222,27 +222,4 @@ pub fn path<'a>(
         };
     }
     rely::path(c, flows, outstanding, marked, sizes, sent, evs, time, flow)
-}
-
-// The current EV moves to the next (request M-112). 2, 3, 26. All that is lent is only read.
-pub fn move_ev<'a>(
-    c: Controller,
-    flows: &'a [u64],
-    outstanding: &'a [u64],
-    marked: &'a [u64],
-    sizes: &'a [u32],
-    sent: &'a [u64],
-    evs: &'a [u64],
-    time: u64,
-) -> Answer
-    ensures { answered_after (number_of result.verdict) result.state flows.now outstanding.now marked.now sizes.now sent.now evs.now
-        ≡ on_move time 0 (context_before c flows.now outstanding.now marked.now sizes.now sent.now evs.now) }
-{
-    if !is_sound(c, flows, outstanding, marked, sizes, sent, evs) {
-        return Answer {
-            state: c,
-            verdict: Verdict::Unsound,
-        };
-    }
-    rely::move_ev(c, flows, outstanding, marked, sizes, sent, evs, time)
 }

@@ -20,7 +20,6 @@ pub(crate) fn joined(c: Controller, flow: Flow) -> sender::Controller
     let settings = c.settings;
     let totals = c.totals;
     let window = c.window;
-    let single = c.single;
     sender::Controller {
         settings,
         flow,
@@ -29,7 +28,6 @@ pub(crate) fn joined(c: Controller, flow: Flow) -> sender::Controller
         clock: c.clock,
         cursor: c.cursor,
         phase: c.phase,
-        single,
     }
 }
 
@@ -40,7 +38,6 @@ pub(crate) fn shared(turn: u64, s: sender::Controller) -> Controller
     let settings = s.settings;
     let totals = s.totals;
     let window = s.window;
-    let single = s.single;
     Controller {
         settings,
         totals,
@@ -49,7 +46,6 @@ pub(crate) fn shared(turn: u64, s: sender::Controller) -> Controller
         cursor: s.cursor,
         phase: s.phase,
         turn,
-        single,
     }
 }
 

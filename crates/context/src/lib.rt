@@ -15,11 +15,10 @@ mod table;
 ghost use Rattle.std.specs.Prelude.{◌≡◌};
 ghost use Rattle.rules.specs.Verdict.{number_of};
 ghost use Rattle.sender.specs.Events.{says_of};
-ghost use Rattle.context.specs.Events.{on_new_data, on_send, on_ack, ack_says, on_nack, nack_says, on_loss, on_path, on_move};
+ghost use Rattle.context.specs.Events.{on_new_data, on_send, on_ack, ack_says, on_nack, nack_says, on_loss, on_path};
 ghost use Rattle.context.specs.Table.{words_before, tabled_after, in_records, route_answer};
 
 use ledger::{Flow, Totals};
-use paths::single::Single;
 use rules::verdict::Verdict;
 use sender::{Ack, Feedback, Loss, Nack, Send};
 use window::{Settings, Window};
@@ -35,8 +34,6 @@ pub struct Controller {
     pub phase: u32,
     // The flow from which the next round starts (request M-108).
     pub turn: u64,
-    // The current EV and the time of the last move (request M-112).
-    pub single: Single,
 }
 
 // What an event answers: the whole shared state, and the verdict on it.
@@ -252,26 +249,6 @@ impl Controller {
     {
         let fs = flow_table::lent::load(table);
         let r = table::path(self, fs, outstanding, marked, sizes, sent, evs, time, flow);
-        flow_table::lent::save(table, r.flows);
-        r.answer
-    }
-
-    // The current EV moves to the next, in the single-path profile (request M-112). What is lent is only read.
-    pub fn move_ev(
-        self,
-        table: &mut [Flow],
-        outstanding: &mut [u64],
-        marked: &mut [u64],
-        sizes: &mut [u32],
-        sent: &mut [u64],
-        evs: &mut [u64],
-        time: u64,
-    ) -> Answer
-        ensures { tabled_after (number_of result.verdict) result.state table.new outstanding.new marked.new sizes.new sent.new evs.new
-            ≡ in_records (on_move time 0 (words_before self table.old outstanding.old marked.old sizes.old sent.old evs.old)) }
-    {
-        let fs = flow_table::lent::load(table);
-        let r = table::move_ev(self, fs, outstanding, marked, sizes, sent, evs, time);
         flow_table::lent::save(table, r.flows);
         r.answer
     }

@@ -6,7 +6,6 @@ ghost use Rattle.sender.specs.Events.{says_of};
 ghost use Rattle.context.specs.Lent.{context_given, context_before, answered_after, routed_after};
 ghost use Rattle.context.specs.Sound.{sound_context};
 ghost use Rattle.context.specs.Events.{past_new_data, past_send, past_ack, past_ack_says, past_nack, past_nack_says, past_loss, past_path};
-ghost use Rattle.context.specs.Events.{past_move};
 
 use crate::join::{cut_of, joined, keep_acked, keep_backlog, keep_sent, no_flow, shared};
 use crate::{Answer, Controller, Heard, Routed};
@@ -308,31 +307,5 @@ pub fn path<'a>(
         state: shared(c.turn, after),
         verdict,
         ev: chosen.ev,
-    }
-}
-
-// A move to the next EV (request M-112). Like every old kind it is flow 0's, which every context has, and it changes what is shared alone:
-// all that is lent is only read.
-pub fn move_ev<'a>(
-    c: Controller,
-    flows: &'a [u64],
-    outstanding: &'a [u64],
-    marked: &'a [u64],
-    sizes: &'a [u32],
-    sent: &'a [u64],
-    evs: &'a [u64],
-    time: u64,
-) -> Answer
-    requires { sound_context (context_given c flows.now outstanding.now marked.now sizes.now sent.now evs.now) ≡ true }
-    ensures { answered_after (number_of result.verdict) result.state flows.now outstanding.now marked.now sizes.now sent.now evs.now
-        ≡ past_move time 0 (context_before c flows.now outstanding.now marked.now sizes.now sent.now evs.now) }
-{
-    let s = joined(c, flow_table::flow_at(flows, 0));
-    let told = sender::rely::move_ev(s, time);
-    let after = told.state;
-    let verdict = told.verdict;
-    Answer {
-        state: shared(c.turn, after),
-        verdict,
     }
 }

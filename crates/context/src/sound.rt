@@ -231,12 +231,10 @@ pub fn is_sound<'a>(
         return false;
     }
     let totals = c.totals;
-    let single = c.single;
     (c.clock < sender::TIME_END)
         & (evs.len() as u64 == settings.ev_count)
         & sender::sound::times_ok(evs)
         & ((c.cursor as u64) < settings.ev_count)
         & (c.turn < flow_table::count(flows) as u64)
-        & paths::single::is_sound(single, settings.ev_count, c.clock)
         & (c.phase == sender::naming::phase_of(settings.mtu, window.cwnd, totals))
 }

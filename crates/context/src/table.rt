@@ -6,7 +6,7 @@ ghost use Rattle.std.specs.Prelude.{◌≡◌};
 ghost use Rattle.std.proofs.Math.Option.{none};
 ghost use Rattle.rules.specs.Verdict.{number_of};
 ghost use Rattle.sender.specs.Events.{says_of};
-ghost use Rattle.context.specs.Events.{on_new_data, on_send, on_ack, ack_says, on_nack, nack_says, on_loss, on_path, on_move};
+ghost use Rattle.context.specs.Events.{on_new_data, on_send, on_ack, ack_says, on_nack, nack_says, on_loss, on_path};
 ghost use Rattle.context.specs.Table.{front_before, stepped_after, unless_many, on_flows, route_answer};
 
 use crate::{Answer, Controller, Heard, Routed, entry};
@@ -289,42 +289,4 @@ pub(crate) fn path<'a, 'b, 'c, 'd, 'e>(
     );
     let flows = flow_table::lent::from_words(n, &words);
     StepRouted { answer, flows }
-}
-
-// The current EV moves to the next.
-pub(crate) fn move_ev<'a, 'b, 'c, 'd, 'e>(
-    c: Controller,
-    fs: Flows,
-    outstanding: &'a mut [u64],
-    marked: &'b mut [u64],
-    sizes: &'c mut [u32],
-    sent: &'d mut [u64],
-    evs: &'e mut [u64],
-    time: u64,
-) -> StepAnswer
-    ensures { stepped_after (number_of result.answer.verdict) result.answer.state result.flows outstanding.new marked.new sizes.new sent.new evs.new
-        ≡ on_flows fs (on_move time 0) (front_before c fs outstanding.old marked.old sizes.old sent.old evs.old) }
-{
-    let n = fs.n;
-    if flow_table::FLOWS_MOST < n {
-        let answer = Answer {
-            state: c,
-            verdict: Verdict::Unsound,
-        };
-        return StepAnswer { answer, flows: fs };
-    }
-    let mut words = flow_table::lent::to_words(fs);
-    let end = flow_table::FLOW_WORDS * n;
-    let answer = entry::move_ev(
-        c,
-        &words[0..end],
-        outstanding,
-        marked,
-        sizes,
-        sent,
-        evs,
-        time,
-    );
-    let flows = flow_table::lent::from_words(n, &words);
-    StepAnswer { answer, flows }
 }

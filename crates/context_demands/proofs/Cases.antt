@@ -12,8 +12,7 @@ use Rattle.serial.specs.Wrap.{minus}
 use Rattle.serial.specs.Psn.{plus, bit_of, covered, back_of, span_of, unsent_or_old}
 use Rattle.serial.specs.Count.{ahead_of, is_old, forward_of}
 use Rattle.window.specs.Limits.{max_wnd_of}
-use Rattle.window.specs.Range.{is_ev_count, is_profile, in_range}
-use Rattle.paths.specs.Single.{sound_single, routed}
+use Rattle.window.specs.Range.{is_ev_count, in_range}
 use Rattle.window.specs.Sound.{sound_window, fresh_of}
 use Rattle.window.specs.Delays.{one_send, sample_of, avg_delay_of, update_delay_of, feed_of, update_base_rtt_of, measure_of}
 use Rattle.window.specs.Cases.{leave_fast_mode_of, is_near, fast_increase_of, add_inc_bytes_of, proportional_increase_of, factor_of, may_decrease}
@@ -43,8 +42,8 @@ use Rattle.context_demands.specs.Cases.{context_with, delivered_of, acknowledged
 
 pub event_cases_hold : agree event_cases ≡ true
 unfolding agree same event_cases settings_e context_with delivered_of acknowledged chosen is_delivered if_so if_lt if_eq inside
-    first_of minus plus bit_of covered back_of span_of unsent_or_old ahead_of is_old forward_of count_leading_zeros max_wnd_of is_ev_count is_profile in_range
-    sound_window sound_single routed fresh_of one_send sample_of avg_delay_of update_delay_of feed_of update_base_rtt_of measure_of leave_fast_mode_of is_near fast_increase_of add_inc_bytes_of
+    first_of minus plus bit_of covered back_of span_of unsent_or_old ahead_of is_old forward_of count_leading_zeros max_wnd_of is_ev_count in_range sound_window
+    fresh_of one_send sample_of avg_delay_of update_delay_of feed_of update_base_rtt_of measure_of leave_fast_mode_of is_near fast_increase_of add_inc_bytes_of
     proportional_increase_of factor_of may_decrease multiplicative_decrease_of respond_of enough_received period_passed fulfill_adjustment_of adjust_of
     avoids avoided first_free steps landed choice is_flying is_done is_out flying_one marked_one marked_size sum_of cover_one cover_all done_run
     in_bounds sinks packet_at tabulate place_of age_of lay laid queue_of long_of packets offset_of packet_of all_to is_capacity is_ring is_live is_zero

@@ -13,7 +13,7 @@ use Rattle.rules.specs.Test.{both, whole}
 use Rattle.sender.specs.Statements.{silent, First, Exact}
 use Rattle.sender.proofs.Rowing.{first_past}
 use Rattle.context.specs.Context.{Context}
-use Rattle.demands.specs.Events.{Event, new_data, send, ack, nack, loss, path, move}
+use Rattle.demands.specs.Events.{Event, new_data, send, ack, nack, loss, path}
 use Rattle.context_demands.specs.Events.{rows_at}
 
 -- no row has the number 0
@@ -87,4 +87,3 @@ rows_some k (ack time a) x = refl
 rows_some k (nack time a) x = refl
 rows_some k (loss time a) x = refl
 rows_some k (path time) x = refl
-rows_some k (move time) x = refl

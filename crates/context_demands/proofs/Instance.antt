@@ -20,8 +20,7 @@ use Rattle.bits.specs.Bits.{bit, is_word, bit_at, one, value_of, words_of, sum_t
 use Rattle.serial.specs.Wrap.{minus}
 use Rattle.serial.specs.Psn.{plus, bit_of, covered, back_of, span_of, unsent_or_old}
 use Rattle.serial.specs.Count.{counts, half, ahead_of, is_old, forward_of}
-use Rattle.window.specs.Range.{is_ev_count, is_profile, in_range}
-use Rattle.paths.specs.Single.{sound_single}
+use Rattle.window.specs.Range.{is_ev_count, in_range}
 use Rattle.window.specs.Sound.{sound_window, fresh_of}
 use Rattle.window.specs.Limits.{max_wnd_of}
 use Rattle.window.specs.Delays.{one_send, sample_of, avg_delay_of, update_delay_of, feed_of, update_base_rtt_of, measure_of}
@@ -82,8 +81,8 @@ unfoldable pub fresh : Context
 fresh = context (fresh_state settings_e) table slots free
 
 pub set_up_here : SetUp settings_e table slots free fresh
-unfolding fresh on_set_up first_of if_so if_eq settings_e in_range is_on is_mode inside is_ev_count is_profile lengths_ok is_table is_cut
-    is_capacity fresh_table recordWords
+unfolding fresh on_set_up first_of if_so if_eq settings_e in_range is_mode inside is_ev_count lengths_ok is_table is_cut is_capacity
+    fresh_table recordWords
 set_up_here = record { accepted = refl; gives = refl }
 
 -- ---- a history from it: flow 1's packet is reported, flow 0's is lost and sent again; there is no flow 2
@@ -174,8 +173,8 @@ pub record Turned : Type 0 where
 
 computed : WorkedSums × Starts × Turned
 unfolding fresh start fresh_state freshSender settings_e sum remember_at remember sent_by reported_by lost_by if_so if_lt if_eq inside first_of
-    minus plus bit_of covered back_of span_of unsent_or_old ahead_of is_old forward_of count_leading_zeros max_wnd_of is_ev_count is_profile in_range sound_window
-    sound_single fresh_of one_send sample_of avg_delay_of update_delay_of feed_of update_base_rtt_of measure_of fires_of fire_of restart_of quick_adapt_of count_newly_of
+    minus plus bit_of covered back_of span_of unsent_or_old ahead_of is_old forward_of count_leading_zeros max_wnd_of is_ev_count in_range sound_window fresh_of
+    one_send sample_of avg_delay_of update_delay_of feed_of update_base_rtt_of measure_of fires_of fire_of restart_of quick_adapt_of count_newly_of
     leave_fast_mode_of raise_cwnd_of is_near fast_increase_of add_inc_bytes_of proportional_increase_of fair_increase_of factor_of may_decrease
     multiplicative_decrease_of respond_of enough_received period_passed fulfill_adjustment_of adjust_of go_on_of react_of window.ack_of shrink_of
     loss_of is_flying is_marked is_done is_out flying_one marked_one marked_size sum_of cover_one cover_all covered_sum done_run in_bounds sinks

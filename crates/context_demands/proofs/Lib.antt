@@ -6,7 +6,6 @@ pub mod Bursts
 pub mod Sampled
 pub mod Histories
 pub mod Turns
-pub mod Single
 pub mod Sending
 pub mod Sends
 pub mod Instance

@@ -22,7 +22,7 @@ use Rattle.sender.specs.World.{World, world}
 use Rattle.sender.specs.World.{Answered as OneAnswered, Routing as OneRouting}
 use Rattle.sender.specs.Rows.{path_rows}
 use Rattle.sender.specs.Events.{decided as oneDecided}
-use Rattle.sender.specs.Events.{past_new_data, past_send, past_ack, past_nack, past_loss, past_path, past_move}
+use Rattle.sender.specs.Events.{past_new_data, past_send, past_ack, past_nack, past_loss, past_path}
 use Rattle.context.specs.Context.{Context, context, Answered, flow_count, cap_in, memory_in, joined_of, shared_of, world_at, put_world}
 use Rattle.context.specs.Sound.{sound_context}
 use Rattle.context.specs.Rows.{with_flow_row}
@@ -32,7 +32,7 @@ use Rattle.context.proofs.Joins.{put_same}
 use Rattle.context.proofs.Lifts.{flow_passed}
 use Rattle.context.proofs.Puts.{put_count, put_cap, own_flow}
 use Rattle.context.proofs.Kept.{stepped_rings}
-use Rattle.demands.specs.Events.{Event, new_data, send, ack, nack, loss, path, move}
+use Rattle.demands.specs.Events.{Event, new_data, send, ack, nack, loss, path}
 use Rattle.demands.specs.Events.{step_of as oneStep}
 use Rattle.demands.specs.Burst.{Arrival}
 use Rattle.demands.specs.Past.{past_rows, past_answer, past_deliver}
@@ -102,13 +102,12 @@ lift_decided k x same n w =
 
 -- the sender's event past number 2, by the number of its rows; a path choice too, once its EV is left out
 past_decided : (e : Event) (w : World) → past_answer e w ≡ oneDecided (first_of (past_rows e w)) w (oneStep e w)
-unfolding past_new_data past_send past_ack past_nack past_loss past_path past_move oneDecided
+unfolding past_new_data past_send past_ack past_nack past_loss past_path oneDecided
 past_decided (new_data time bytes) w = refl
 past_decided (send time a) w = refl
 past_decided (ack time a) w = refl
 past_decided (nack time a) w = refl
 past_decided (loss time a) w = refl
-past_decided (move time) w = refl
 past_decided (path time) w =
     let n = first_of (path_rows time w.state) in
     eq_both (λ (r : OneRouting). record { number = r.number; after = r.after } ≡ oneDecided n w (oneStep (path time) w)) n 0 _ _
@@ -123,7 +122,6 @@ module _ (k : ℕ) (e : Event) (x : Context) (l : k < flow_count x) where
   flow_one (nack time a) = flow_passed k x _ _ l
   flow_one (loss time a) = flow_passed k x _ _ l
   flow_one (path time) = flow_passed k x _ _ l
-  flow_one (move time) = flow_passed k x _ _ l
 
   module _ (h : sound_context x ≡ true) where
     rows_one : first_of (past_rows e (world_at k x)) ≡ first_of (rows_at k e x)

@@ -19,14 +19,14 @@ use Rattle.sender.proofs.Rowing.{answer_number}
 use Rattle.context.specs.Context.{Context, context, Answered, Routing, world_at}
 use Rattle.context.specs.Sound.{sound_context}
 use Rattle.context.specs.Rows.{with_flow_row, with_sound}
-use Rattle.context.specs.Events.{decided, chosen, path_of, path_left, on_new_data, on_send, on_ack, on_nack, on_loss, on_path, on_move}
+use Rattle.context.specs.Events.{decided, chosen, path_of, path_left, on_new_data, on_send, on_ack, on_nack, on_loss, on_path}
 use Rattle.context.specs.Start.{set_up_rows, fresh_state, on_set_up}
 use Rattle.context.proofs.Sounds.{SoundContext, context_facts}
-use Rattle.context.proofs.Kept.{Stepped, new_data_stepped, send_stepped, ack_stepped, nack_stepped, loss_stepped, path_stepped, move_stepped}
-use Rattle.context.proofs.Kept.{new_data_lasts, send_lasts, ack_lasts, nack_lasts, loss_lasts, path_lasts, move_lasts}
+use Rattle.context.proofs.Kept.{Stepped, new_data_stepped, send_stepped, ack_stepped, nack_stepped, loss_stepped, path_stepped}
+use Rattle.context.proofs.Kept.{new_data_lasts, send_lasts, ack_lasts, nack_lasts, loss_lasts, path_lasts}
 use Rattle.context.proofs.Starts.{set_up_sound}
 use Rattle.context.proofs.Starts as starts
-use Rattle.demands.specs.Events.{Event, new_data, send, ack, nack, loss, path, move, view_step}
+use Rattle.demands.specs.Events.{Event, new_data, send, ack, nack, loss, path, view_step}
 use Rattle.demands.specs.Past.{past_rows}
 use Rattle.context_demands.specs.Events.{Flowed, rows_at, answer_at, answer, step_at, run, SetUp}
 use Rattle.context_demands.specs.Demands.{NumberExact, SetUpExact, RefusedSame, SetUpRefused, RulesHold, PathTaken, SetUpFresh}
@@ -44,14 +44,13 @@ route_decided n ev x after =
     (λ z. eq_yes n 0 _ _ _ z refl) (λ z. eq_no n 0 _ _ _ z refl)
 
 pub answer_decided : (k : ℕ) (e : Event) (x : Context) → answer_at k e x ≡ decided (first_of (rows_at k e x)) x (step_at k e x)
-unfolding on_new_data on_send on_ack on_nack on_loss on_path on_move
+unfolding on_new_data on_send on_ack on_nack on_loss on_path
 answer_decided k (new_data time bytes) x = refl
 answer_decided k (send time a) x = refl
 answer_decided k (ack time a) x = refl
 answer_decided k (nack time a) x = refl
 answer_decided k (loss time a) x = refl
 answer_decided k (path time) x = route_decided (first_of (with_sound x (path_of time k x))) _ x (path_left time k x)
-answer_decided k (move time) x = refl
 
 pub decided_number : (n : ℕ) (x after : Context) → n ≡ (decided n x after).number
 unfolding decided
@@ -131,7 +130,6 @@ event_stepped k (ack time a) x S = ack_stepped x S time k a
 event_stepped k (nack time a) x S = nack_stepped x S time k a
 event_stepped k (loss time a) x S = loss_stepped x S time k a
 event_stepped k (path time) x S = path_stepped x S time k
-event_stepped k (move time) x S = move_stepped x S time k
 
 -- ---- a run
 
@@ -142,7 +140,6 @@ answer_lasts k (ack time a) x h = ack_lasts x h time k a
 answer_lasts k (nack time a) x h = nack_lasts x h time k a
 answer_lasts k (loss time a) x h = loss_lasts x h time k a
 answer_lasts k (path time) x h = path_lasts x h time k
-answer_lasts k (move time) x h = move_lasts x h time k
 
 run_lasts : (es : List Flowed) (x : Context) → sound_context x ≡ true → sound_context (run x es) ≡ true
 run_lasts [] x h = h

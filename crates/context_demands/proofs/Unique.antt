@@ -21,8 +21,8 @@ use Rattle.sender.specs.declared.Nack.{Nack}
 use Rattle.sender.specs.declared.Loss.{Loss}
 use Rattle.context.specs.Context.{Context, context, Answered, answered, Routing, routed}
 use Rattle.context.specs.Start.{on_set_up}
-use Rattle.context.specs.Events.{on_new_data, on_send, on_ack, ack_says, on_nack, nack_says, on_loss, on_path, on_move}
-use Rattle.context.specs.Events.{past_new_data, past_send, past_ack, past_ack_says, past_nack, past_nack_says, past_loss, past_path, past_move}
+use Rattle.context.specs.Events.{on_new_data, on_send, on_ack, ack_says, on_nack, nack_says, on_loss, on_path}
+use Rattle.context.specs.Events.{past_new_data, past_send, past_ack, past_ack_says, past_nack, past_nack_says, past_loss, past_path}
 use Rattle.context.specs.Look.{on_status, on_next_marked}
 use Rattle.context.specs.Turns.{choice_of, Chosen, chose, on_choose}
 use Rattle.context.specs.Table.{Tabled, tabled, in_records, route_answer}
@@ -86,8 +86,6 @@ pub data Call : Type 0 where
   new_data_past : Context → ℕ → ℕ → ℕ → Call
   send_past : Context → ℕ → ℕ → Send → Call
   loss_past : Context → ℕ → ℕ → Loss → Call
-  moves : Context → ℕ → Call
-  moves_past : Context → ℕ → Call
 
 -- what its contract wants
 abbrev pub wanted : Call → Answered
@@ -98,10 +96,8 @@ wanted (loss x time k a) = on_loss time k a x
 wanted (new_data_past x time k bytes) = past_new_data time k bytes x
 wanted (send_past x time k a) = past_send time k a x
 wanted (loss_past x time k a) = past_loss time k a x
-wanted (moves x time) = on_move time 0 x
-wanted (moves_past x time) = past_move time 0 x
 
--- no two outcomes of `set_up`, `new_data`, `send`, `loss` or `move_ev` satisfy its contract ..
+-- no two outcomes of `set_up`, `new_data`, `send` or `loss` satisfy its contract ..
 pub calls_unique : (c : Call) → OneOutcome made (wanted c)
 calls_unique c = unique made made_tells (wanted c)
 
@@ -213,6 +209,3 @@ module _ (x : Context) (time k : ℕ) where
 
   pub method_path_unique : OneOutcome made_tabled_route (in_records (route_answer (on_path time k x)), (on_path time k x).ev)
   method_path_unique = unique made_tabled_route tabled_route_tells _
-
-  pub method_move_unique : OneOutcome made_tabled (in_records (on_move time 0 x))
-  method_move_unique = unique made_tabled tabled_tells _

@@ -3,7 +3,6 @@
 -- Assumes nothing.
 use Rattle.std.specs.Prelude.{false, cond, List, [], ◌∷◌, ◌++◌, ℕ, ◌+◌, ◌-◌, ◌*◌, ◌^◌, pos, replicate}
 use Rattle.window.specs.Sound.{fresh_of}
-use Rattle.paths.specs.Single.{no_move}
 use Rattle.ledger.specs.Ring.{Ledger, laid}
 use Rattle.ledger.specs.Memory.{stored}
 use Rattle.ledger.specs.Steps.{new_packet}
@@ -24,7 +23,7 @@ unfoldable pub context_with : Flow → ℕ → ℕ → List ℕ → Context
 context_with f n in_flight times =
     context
     (shared_of 0 (state_of settings_e f
-    (record { flying = n; marked = 0; marked_bytes = 0; backlog = f.backlog; in_flight = pos in_flight }) (fresh_of settings_e) 0 0 no_move))
+    (record { flying = n; marked = 0; marked_bytes = 0; backlog = f.backlog; in_flight = pos in_flight }) (fresh_of settings_e) 0 0))
     (words_of (f ∷ []))
     (stored (laid 64 f.low (replicate n (new_packet 0 4096))))
     times

@@ -7,9 +7,9 @@ use Rattle.window.specs.declared.Settings.{Settings}
 use Rattle.ledger.specs.Memory.{Memory}
 use Rattle.context.specs.Context.{Context, Answered, world_at, put_world}
 use Rattle.context.specs.Rows.{with_flow_row, with_sound}
-use Rattle.context.specs.Events.{on_new_data, on_send, on_ack, on_nack, on_loss, on_path, on_move}
+use Rattle.context.specs.Events.{on_new_data, on_send, on_ack, on_nack, on_loss, on_path}
 use Rattle.context.specs.Start.{on_set_up}
-use Rattle.demands.specs.Events.{Event, new_data, send, ack, nack, loss, path, move}
+use Rattle.demands.specs.Events.{Event, new_data, send, ack, nack, loss, path}
 use Rattle.demands.specs.Events.{step_of as oneStep}
 use Rattle.demands.specs.Past.{past_rows}
 
@@ -33,7 +33,6 @@ answer_at k (ack time a) x = on_ack time k a x
 answer_at k (nack time a) x = on_nack time k a x
 answer_at k (loss time a) x = on_loss time k a x
 answer_at k (path time) x = record { number = (on_path time k x).number; after = (on_path time k x).after }
-answer_at k (move time) x = on_move time k x
 
 abbrev pub answer : Flowed → Context → Answered
 answer e x = answer_at e.flow e.event x

@@ -5,5 +5,4 @@ pub mod Burst
 pub mod Permitted
 pub mod Demands
 pub mod Turns
-pub mod Single
 pub mod Cases

@@ -17,11 +17,11 @@ use Rattle.window.specs.declared.Sample.{Sample}
 use Rattle.window.specs.declared.Sample.TheVariants.{Ticks, Absent}
 use Rattle.sender.specs.World.{World, view_of}
 use Rattle.sender.specs.Steps.{state_of, settled, new_data_state, new_data_step, send_step, ack_sample, ack_step, nack_sample, nack_step, loss_step}
-use Rattle.sender.specs.Steps.{path_state, path_step, move_state, move_step}
+use Rattle.sender.specs.Steps.{path_state, path_step}
 use Rattle.sender.specs.declared.Ack.{Ack}
 use Rattle.sender.specs.declared.Nack.{Nack}
-use Rattle.demands.specs.Events.{Event, new_data, send, ack, nack, loss, path, move, step_of}
-use Rattle.demands.specs.Samples.{fed, ack_feed, fed_sample, AverageIs}
+use Rattle.demands.specs.Events.{Event, new_data, send, ack, nack, loss, path, step_of}
+use Rattle.demands.specs.Samples.{SampleIs, fed, ack_feed, fed_sample, AverageIs}
 use Rattle.demands.specs.Demands.{AverageFed}
 use Rattle.demands.proofs.Runs.{rules_hold}
 use Rattle.demands.proofs.Steady.{Delays, ack_delays, loss_delays, nack_delays}
@@ -95,7 +95,7 @@ module _ (time : ℕ) (a : Nack) (w : World) where
 
 -- the average after the step is as 01 says, whatever tested the event
 pub step_average : (e : Event) (w : World) → AverageIs e w (step_of e w).state.window.avg
-unfolding new_data_step new_data_state send_step loss_step path_step path_state move_step move_state settled state_of
+unfolding new_data_step new_data_state send_step loss_step path_step path_state settled state_of
 step_average (new_data time bytes) w = refl
 step_average (send time a) w = refl
 step_average (ack time a) w = (
@@ -109,7 +109,6 @@ step_average (nack time a) w = (
 )
 step_average (loss time a) w = ap (λ (d : Delays). d.avg) (loss_delays w.state.settings time _ _ w.state.window)
 step_average (path time) w = refl
-step_average (move time) w = refl
 
 -- DEMAND 2: the delay average is fed exactly as 01 says
 pub average_fed : AverageFed

@@ -26,7 +26,7 @@ use Rattle.sender.specs.Sound.{sound}
 use Rattle.sender.specs.Start.{fresh_state}
 use Rattle.sender.proofs.Starts.{set_up_fresh}
 use Rattle.sender.proofs.Stepping.{send_facts, nack_facts, loss_facts}
-use Rattle.demands.specs.Events.{Event, new_data, send, ack, nack, loss, path, move, answer, SetUp}
+use Rattle.demands.specs.Events.{Event, new_data, send, ack, nack, loss, path, answer, SetUp}
 use Rattle.demands.specs.Sums.{Past, no_past, remember, sent_by, reported_by, lost_by, sum}
 use Rattle.demands.specs.Demands.{History}
 use Rattle.demands.specs.Past.{past_rows, past_answer, past_run, past_sum, Agrees, moved, HistoryAmong, SumsAmong}
@@ -62,7 +62,6 @@ moves (ack time a) w p rows A = rw A.count_is (simp +ℤ_idr)
 moves (nack time a) w p rows A = marked_moves p (ledger_of w) a.psn (nack_facts time a w.state (ring_of w) rows).rows A
 moves (loss time a) w p rows A = marked_moves p (ledger_of w) a.psn (loss_facts time a w.state (ring_of w) rows).rows A
 moves (path time) w p rows A = simp +ℤ_idr
-moves (move time) w p rows A = simp +ℤ_idr
 
 pub history_among : HistoryAmong
 history_among o e w p h A n =

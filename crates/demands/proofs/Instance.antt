@@ -21,8 +21,7 @@ use Rattle.bits.specs.Bits.{bit, is_word, bit_at, one, value_of, words_of}
 use Rattle.serial.specs.Wrap.{minus}
 use Rattle.serial.specs.Psn.{plus, bit_of, covered, back_of, span_of, unsent_or_old}
 use Rattle.serial.specs.Count.{counts, half, ahead_of, is_old, forward_of}
-use Rattle.window.specs.Range.{is_ev_count, is_profile, in_range}
-use Rattle.paths.specs.Single.{no_move, sound_single}
+use Rattle.window.specs.Range.{is_ev_count, in_range}
 use Rattle.window.specs.Sound.{sound_window, fresh_of}
 use Rattle.window.specs.Limits.{max_wnd_of}
 use Rattle.window.specs.Delays.{one_send, sample_of, avg_delay_of, update_delay_of, feed_of, update_base_rtt_of, measure_of}
@@ -77,7 +76,7 @@ fresh = world (fresh_state settings_e) (memory (replicate 1 0) (replicate 1 0) (
 
 module _ (m : Memory) (times : List ℕ) (L : Lent m times) where
   none_refuses : first_of (set_up_rows settings_e m times) ≡ 0
-  unfolding first_of if_so if_eq settings_e in_range is_on is_mode inside is_ev_count is_profile is_even slots_of is_capacity
+  unfolding first_of if_so if_eq settings_e in_range is_mode inside is_ev_count is_even slots_of is_capacity
   none_refuses = rw (L.sizes, L.sent, L.evs, L.marked, L.outstanding)
 
   answers : on_set_up settings_e m times ≡ record { number = 0; after = fresh }
@@ -118,15 +117,15 @@ pub worked_sums : (sum sent_by fresh no_past worked ≡ 3 * 4096) × (sum report
     × (sum lost_by fresh no_past worked ≡ 4096)
     × ((run fresh worked).state.totals.in_flight ≡ pos 4096)
 unfolding fresh fresh_state settings_e sum remember sent_by reported_by lost_by if_so if_lt if_eq inside first_of minus plus bit_of covered back_of
-    span_of unsent_or_old ahead_of is_old forward_of count_leading_zeros max_wnd_of is_ev_count is_profile in_range sound_window fresh_of one_send sample_of avg_delay_of
+    span_of unsent_or_old ahead_of is_old forward_of count_leading_zeros max_wnd_of is_ev_count in_range sound_window fresh_of one_send sample_of avg_delay_of
     update_delay_of feed_of update_base_rtt_of measure_of fires_of fire_of restart_of quick_adapt_of count_newly_of leave_fast_mode_of raise_cwnd_of is_near
     fast_increase_of add_inc_bytes_of proportional_increase_of fair_increase_of factor_of may_decrease multiplicative_decrease_of respond_of
     enough_received period_passed fulfill_adjustment_of adjust_of go_on_of react_of window.ack_of shrink_of loss_of is_flying is_marked is_done is_out
     flying_one marked_one marked_size sum_of cover_one cover_all covered_sum done_run in_bounds sinks packet_at tabulate place_of age_of lay laid
     queue_of long_of packets offset_of packet_of all_to is_capacity is_ring is_live is_zero slot_ok head_ok stands tallies sound_ledger changed
     supplied supplied_totals
-    push_of resend_of mark_of held_of newly_of acknowledge_of has_room phase_of is_on is_mode times_ok named_ok sound_among sound_single state_of settled
-    avoided_in new_data_state new_data_step send_step ack_sample ack_step loss_step decided on_new_data on_send on_ack on_loss
+    push_of resend_of mark_of held_of newly_of acknowledge_of has_room phase_of is_on is_mode times_ok named_ok sound_among state_of settled avoided_in
+    new_data_state new_data_step send_step ack_sample ack_step loss_step decided on_new_data on_send on_ack on_loss
     bit is_word bit_at one value_of words_of packed size_in resent_in slots_of in_window status_of words_at status_at shown is_out_status is_mark_status
     stored
 worked_sums = (refl, refl, refl, refl)
@@ -149,7 +148,7 @@ start_among o =
       backlog = o.backlog + 8192;
       in_flight = pos 12288;
     })
-    (fresh_of settings_e) 100 0 no_move)
+    (fresh_of settings_e) 100 0)
     (stored (laid 64 4294967294 (sent_at 10 1 ∷ sent_at 20 2 ∷ sent_at 30 1 ∷ sent_at 40 1 ∷ [])))
     (replicate 256 0)
 
@@ -161,11 +160,11 @@ abbrev pub busy : Others
 busy = record { flying = 2; marked = 1; bytes = 4096; backlog = 4096 }
 
 starts_sound : (sound start ≡ true) × (sound_among busy (view_of (start_among busy)) ≡ true)
-unfolding start_among settings_e sound_among is_ev_count is_profile in_range inside sound_window max_wnd_of fresh_of sound_ledger stands is_ring
-    is_capacity long_of minus
+unfolding start_among settings_e sound_among is_ev_count in_range inside sound_window max_wnd_of fresh_of sound_ledger stands is_ring is_capacity
+    long_of minus
     all_to
     slot_ok if_lt if_so if_eq is_live is_zero head_ok tallies sum_of flying_one marked_one marked_size in_bounds packets queue_of tabulate packet_at
-    place_of plus age_of lay laid is_done times_ok named_ok sound_single phase_of is_on is_mode has_room state_of
+    place_of plus age_of lay laid is_done times_ok named_ok phase_of is_on is_mode has_room state_of
     bit is_word bit_at one value_of words_of packed size_in resent_in slots_of in_window status_of words_at status_at shown is_out_status is_mark_status
     stored
 starts_sound = (refl, refl)

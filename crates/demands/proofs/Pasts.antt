@@ -36,7 +36,7 @@ use Rattle.sender.specs.Sound.{sound_among}
 use Rattle.sender.specs.Start.{fresh_state}
 use Rattle.sender.proofs.Starts.{set_up_fresh}
 use Rattle.sender.proofs.Stepping.{send_facts}
-use Rattle.demands.specs.Events.{Event, new_data, send, ack, nack, loss, path, move, SetUp}
+use Rattle.demands.specs.Events.{Event, new_data, send, ack, nack, loss, path, SetUp}
 use Rattle.demands.specs.Sums.{Past, no_past, remember}
 use Rattle.demands.specs.Past.{past_rows, Agrees}
 use Rattle.demands.proofs.Runs.{ledger_step}
@@ -199,7 +199,6 @@ agrees_step o (ack time a) w p h rows A = acked_agrees (ledger_of w) (ledger_fac
 agrees_step o (nack time a) w p h rows A = marked_agrees (ledger_of w) (ledger_facts o w h) A a.psn
 agrees_step o (loss time a) w p h rows A = marked_agrees (ledger_of w) (ledger_facts o w h) A a.psn
 agrees_step o (path time) w p h rows A = A
-agrees_step o (move time) w p h rows A = A
 
 -- going on from low by how far a number lies ahead leads to its PSN
 leads_there : (low psn : ℕ) → plus low (minus psns psn low) ≡ psn % psns

@@ -18,13 +18,13 @@ use Rattle.ledger.specs.Steps.{supply_of, push_of, resend_of, mark_of, acknowled
 use Rattle.sender.specs.World.{World, world, View, view_of, Answered, Routing, ledger_in}
 use Rattle.sender.specs.Sound.{sound}
 use Rattle.sender.specs.Rows.{with_sound, path_rows, set_up_rows}
-use Rattle.sender.specs.Steps.{state_of, settled, new_data_state, new_data_step, send_step, ack_step, nack_step, loss_step, path_state, path_step, move_state, move_step}
+use Rattle.sender.specs.Steps.{state_of, settled, new_data_state, new_data_step, send_step, ack_step, nack_step, loss_step, path_state, path_step}
 use Rattle.sender.specs.Steps.{route_of}
 use Rattle.sender.specs.Start.{no_settings, fresh_state, on_set_up}
-use Rattle.sender.specs.Events.{decided, on_new_data, on_send, on_ack, on_nack, on_loss, on_path, on_move}
-use Rattle.sender.specs.Events.{past_new_data, past_send, past_ack, past_nack, past_loss, past_path, past_move}
+use Rattle.sender.specs.Events.{decided, on_new_data, on_send, on_ack, on_nack, on_loss, on_path}
+use Rattle.sender.specs.Events.{past_new_data, past_send, past_ack, past_nack, past_loss, past_path}
 use Rattle.sender.proofs.Rowing.{past_sound, taken, untaken, decided_yes, decided_no}
-use Rattle.demands.specs.Events.{Event, new_data, send, ack, nack, loss, path, move, answer, view_step, step_of}
+use Rattle.demands.specs.Events.{Event, new_data, send, ack, nack, loss, path, answer, view_step, step_of}
 use Rattle.demands.specs.Demands.{RefusedSame, RulesHold, PathTaken}
 use Rattle.demands.specs.Past.{past_rows, past_answer}
 
@@ -39,24 +39,22 @@ route_decided n time w =
     (decided_yes n w (step_of (path time) w)) (decided_no n w (step_of (path time) w))
 
 past_decided : (e : Event) (w : World) → past_answer e w ≡ decided (first_of (past_rows e w)) w (step_of e w)
-unfolding past_new_data past_send past_ack past_nack past_loss past_path past_move
+unfolding past_new_data past_send past_ack past_nack past_loss past_path
 past_decided (new_data time bytes) w = refl
 past_decided (send time a) w = refl
 past_decided (ack time a) w = refl
 past_decided (nack time a) w = refl
 past_decided (loss time a) w = refl
 past_decided (path time) w = route_decided (first_of (path_rows time w.state)) time w
-past_decided (move time) w = refl
 
 answer_decided : (e : Event) (w : World) → answer e w ≡ decided (first_of (with_sound w (past_rows e w))) w (step_of e w)
-unfolding on_new_data on_send on_ack on_nack on_loss on_path on_move
+unfolding on_new_data on_send on_ack on_nack on_loss on_path
 answer_decided (new_data time bytes) w = refl
 answer_decided (send time a) w = refl
 answer_decided (ack time a) w = refl
 answer_decided (nack time a) w = refl
 answer_decided (loss time a) w = refl
 answer_decided (path time) w = route_decided (first_of (with_sound w (path_rows time w.state))) time w
-answer_decided (move time) w = refl
 
 -- what holds of the step under the number 0, and of the world as it was under any other, holds of the answer
 decided_cases : (P : Answered → Type 0) (n : ℕ) (w after : World) → (n ≡ 0 → P (record { number = 0; after = after }))
@@ -130,7 +128,7 @@ rules_hold e w n = (accepted e w n).leaves
 
 -- .. and the path is the rule's
 pub path_taken : PathTaken
-unfolding on_path on_move
+unfolding on_path
 path_taken time w =
     eq_both (λ (x : Routing). x.number ≡ 0 → x.ev ≡ (route_of time (view_of w)).ev) (first_of (with_sound w (path_rows time w.state))) 0 _ _
     (λ e n. refl) (λ e n. absurd (e n))
@@ -145,7 +143,6 @@ time_of (ack time a) = time
 time_of (nack time a) = time
 time_of (loss time a) = time
 time_of (path time) = time
-time_of (move time) = time
 
 -- what an accepted event does to the ledger
 abbrev pub ledger_step : Event → Ledger → Ledger
@@ -155,36 +152,32 @@ ledger_step (ack time a) l = acknowledge_of a.cum a.map a.count l
 ledger_step (nack time a) l = mark_of a.psn l
 ledger_step (loss time a) l = mark_of a.psn l
 ledger_step (path time) l = l
-ledger_step (move time) l = l
 
 pub view_ledger : (e : Event) (v : View) → ledger_in (view_step e v) ≡ ledger_step e (ledger_in v)
-unfolding new_data_step new_data_state send_step ack_step nack_step loss_step path_step path_state move_step move_state settled state_of
+unfolding new_data_step new_data_state send_step ack_step nack_step loss_step path_step path_state settled state_of
 view_ledger (new_data time bytes) v = refl
 view_ledger (send time a) v = refl
 view_ledger (ack time a) v = refl
 view_ledger (nack time a) v = refl
 view_ledger (loss time a) v = refl
 view_ledger (path time) v = refl
-view_ledger (move time) v = refl
 
 -- "the clock becomes the event's time"
 pub step_clock : (e : Event) (w : World) → (step_of e w).state.clock ≡ time_of e
-unfolding new_data_step new_data_state send_step ack_step nack_step loss_step path_step path_state move_step move_state settled state_of
+unfolding new_data_step new_data_state send_step ack_step nack_step loss_step path_step path_state settled state_of
 step_clock (new_data time bytes) w = refl
 step_clock (send time a) w = refl
 step_clock (ack time a) w = refl
 step_clock (nack time a) w = refl
 step_clock (loss time a) w = refl
 step_clock (path time) w = refl
-step_clock (move time) w = refl
 
 -- no event changes the settings
 pub step_settings : (e : Event) (w : World) → (step_of e w).state.settings ≡ w.state.settings
-unfolding new_data_step new_data_state send_step ack_step nack_step loss_step path_step path_state move_step move_state settled state_of
+unfolding new_data_step new_data_state send_step ack_step nack_step loss_step path_step path_state settled state_of
 step_settings (new_data time bytes) w = refl
 step_settings (send time a) w = refl
 step_settings (ack time a) w = refl
 step_settings (nack time a) w = refl
 step_settings (loss time a) w = refl
 step_settings (path time) w = refl
-step_settings (move time) w = refl

@@ -21,11 +21,11 @@ use Rattle.ledger.specs.Ring.{packet_of}
 use Rattle.ledger.specs.declared.Packet.{Packet}
 use Rattle.sender.specs.World.{World, ring_of, view_of, world_of, Answered, Routing}
 use Rattle.sender.specs.Steps.{state_of, settled, new_data_state, new_data_step, send_step, ack_sample, ack_step, nack_sample, nack_step, loss_step}
-use Rattle.sender.specs.Steps.{path_state, path_step, move_state, move_step}
-use Rattle.sender.specs.Events.{decided, on_new_data, on_send, on_ack, on_nack, on_loss, on_path, on_move}
+use Rattle.sender.specs.Steps.{path_state, path_step}
+use Rattle.sender.specs.Events.{decided, on_new_data, on_send, on_ack, on_nack, on_loss, on_path}
 use Rattle.sender.specs.declared.Ack.{Ack}
 use Rattle.sender.specs.declared.Nack.{Nack}
-use Rattle.demands.specs.Events.{Event, new_data, send, ack, nack, loss, path, move, step_of}
+use Rattle.demands.specs.Events.{Event, new_data, send, ack, nack, loss, path, step_of}
 use Rattle.demands.specs.Samples.{SampleIs, NoSample}
 use Rattle.demands.specs.Demands.{AckSampled, NackSampled, BaseStays}
 use Rattle.demands.proofs.Steady.{Delays, ack_delays, loss_delays, nack_delays}
@@ -118,14 +118,13 @@ module _ (w : World) (time : ℕ) where
 
 -- the step of an event for which 01 has no sample
 pub step_stays : (e : Event) (w : World) → NoSample e w → Lowers Absent w (step_of e w)
-unfolding new_data_step new_data_state send_step loss_step path_step path_state move_step move_state settled state_of update_base_rtt_of
+unfolding new_data_step new_data_state send_step loss_step path_step path_state settled state_of update_base_rtt_of
 step_stays (new_data time bytes) w none = refl
 step_stays (send time a) w none = refl
 step_stays (ack time a) w none = rw (ack_absent time a w none) at (ack_lowers w time a)
 step_stays (nack time a) w none = rw (nack_absent time a w none) at (nack_lowers w time a)
 step_stays (loss time a) w none = ap (λ (d : Delays). d.base) (loss_delays w.state.settings time _ _ w.state.window)
 step_stays (path time) w none = refl
-step_stays (move time) w none = refl
 
 -- an answer's world is the given one or the one after the step
 decided_base : (n : ℕ) (w after : World) → Lowers Absent w after → Lowers Absent w (decided n w after).after
@@ -133,15 +132,14 @@ unfolding decided update_base_rtt_of
 decided_base n w after e = eq_both (λ (x : Answered). Lowers Absent w x.after) n 0 _ _ (λ _. e) (λ _. refl)
 
 pub base_stays : BaseStays
-unfolding on_new_data on_send on_ack on_nack on_loss on_path on_move new_data_step new_data_state send_step loss_step path_step path_state move_step move_state settled
-    state_of update_base_rtt_of
+unfolding on_new_data on_send on_ack on_nack on_loss on_path new_data_step new_data_state send_step loss_step path_step path_state settled state_of
+    update_base_rtt_of
 base_stays (new_data time bytes) w of-ack of-nack = decided_base _ w _ refl
 base_stays (send time a) w of-ack of-nack = decided_base _ w _ refl
 base_stays (ack time a) w of-ack of-nack = decided_base _ w _ (rw (of-ack time a refl) at (ack_lowers w time a))
 base_stays (nack time a) w of-ack of-nack = decided_base _ w _ (rw (of-nack time a refl) at (nack_lowers w time a))
 base_stays (loss time a) w of-ack of-nack = decided_base _ w _
     (ap (λ (d : Delays). d.base) (loss_delays w.state.settings time _ _ w.state.window))
-base_stays (move time) w of-ack of-nack = decided_base _ w _ refl
 base_stays (path time) w of-ack of-nack = eq_both (λ (x : Routing). Lowers Absent w x.after) _ 0 _ _ (λ _. refl) (λ _. refl)
 
 -- ---- .. and falls by one: "base = min(base, sample)"

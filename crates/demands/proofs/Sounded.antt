@@ -17,8 +17,8 @@ use Rattle.sender.specs.Sound.{sound_among, sound}
 use Rattle.sender.proofs.Sounds.{among_facts}
 use Rattle.sender.proofs.Views.{view_world, world_sound}
 use Rattle.sender.proofs.Starts.{set_up_sound}
-use Rattle.sender.proofs.Kept.{new_data_kept, send_kept, ack_kept, nack_kept, loss_kept, path_kept, move_kept}
-use Rattle.demands.specs.Events.{Event, new_data, send, ack, nack, loss, path, move, answer, view_step, step_of, run, SetUp}
+use Rattle.sender.proofs.Kept.{new_data_kept, send_kept, ack_kept, nack_kept, loss_kept, path_kept}
+use Rattle.demands.specs.Events.{Event, new_data, send, ack, nack, loss, path, answer, view_step, step_of, run, SetUp}
 use Rattle.demands.specs.Demands.{AlwaysSound}
 use Rattle.demands.specs.Past.{past_rows, past_answer, past_run, SoundAmong}
 use Rattle.demands.proofs.Runs.{past_cases, past_answer_lem, ledger_step, view_ledger}
@@ -39,7 +39,6 @@ viewed_sound o (ack time a) w = ack_kept o time a (view_of w)
 viewed_sound o (nack time a) w = nack_kept o time a (view_of w)
 viewed_sound o (loss time a) w = loss_kept o time a (view_of w)
 viewed_sound o (path time) w = path_kept o time (view_of w)
-viewed_sound o (move time) w = move_kept o time (view_of w)
 
 module _ (o : Others) (e : Event) (w : World) (h : sound_among o (view_of w) ≡ true) (rows : first_of (past_rows e w) ≡ 0) where
   -- .. and so is what the world shows that keeps it, whose ledger is the ledger's own step

@@ -26,10 +26,10 @@ use Rattle.sender.specs.World.{World, View, view, view_of, world_of, ledger_in, 
 use Rattle.sender.specs.Sound.{sound}
 use Rattle.sender.specs.Rows.{with_sound, set_up_rows}
 use Rattle.sender.specs.Start.{fresh_state, zeros, on_set_up}
-use Rattle.sender.specs.Events.{decided, on_new_data, on_send, on_ack, on_nack, on_loss, on_path, on_move}
+use Rattle.sender.specs.Events.{decided, on_new_data, on_send, on_ack, on_nack, on_loss, on_path}
 use Rattle.sender.proofs.Rowing.{answer_number}
 use Rattle.sender.proofs.Starts.{clear_laid, set_up_fresh}
-use Rattle.demands.specs.Events.{Event, new_data, send, ack, nack, loss, path, move, answer, view_step, run}
+use Rattle.demands.specs.Events.{Event, new_data, send, ack, nack, loss, path, answer, view_step, run}
 use Rattle.demands.specs.Statuses.{OldAnswered, old_decided, old_answer, old_clear, old_set_up_rows, old_set_up, old_run, old_numbers, numbers}
 use Rattle.demands.specs.Statuses.{SameLedger, Refusal2Reads}
 use Rattle.demands.specs.Past.{past_rows}
@@ -67,7 +67,7 @@ shows_step e w z =
     step_view alone e w (not-false (sound w) p.0) p.1
 
 one_event : (e : Event) (w : World) → Same (answer e w).number (answer e w).after (old_answer e (view_of w))
-unfolding on_new_data on_send on_ack on_nack on_loss on_path on_move decided
+unfolding on_new_data on_send on_ack on_nack on_loss on_path decided
 one_event (new_data time bytes) w =
     same_decided (λ (x : Answered). x.number) (λ x. x.after) _ _ _ w _ refl (shows_step (new_data time bytes) w) refl refl
 one_event (send time a) w =
@@ -80,8 +80,6 @@ one_event (loss time a) w =
     same_decided (λ (x : Answered). x.number) (λ x. x.after) _ _ _ w _ refl (shows_step (loss time a) w) refl refl
 one_event (path time) w =
     same_decided (λ (x : Routing). x.number) (λ x. x.after) _ _ _ w _ refl (shows_step (path time) w) refl refl
-one_event (move time) w =
-    same_decided (λ (x : Answered). x.number) (λ x. x.after) _ _ _ w _ refl (shows_step (move time) w) refl refl
 
 -- ---- a list of events
 

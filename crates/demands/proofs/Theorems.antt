@@ -2,12 +2,12 @@
 -- Assumes nothing.
 use mathlib.Core.Logic.{⊎_elim}
 use Rattle.sender.specs.World.{view_of}
-use Rattle.sender.proofs.Refusals.{new_data_exact, send_exact, ack_exact, nack_exact, loss_exact, path_exact, move_exact, permitted_new}
+use Rattle.sender.proofs.Refusals.{new_data_exact, send_exact, ack_exact, nack_exact, loss_exact, path_exact, permitted_new}
 use Rattle.sender.proofs.Refusals.{permitted_resend}
 use Rattle.sender.proofs.Refusals as refusals
 use Rattle.sender.proofs.Sounds.{sound_facts}
 use Rattle.sender.proofs.Starts as starts
-use Rattle.demands.specs.Events.{new_data, send, ack, nack, loss, path, move, run}
+use Rattle.demands.specs.Events.{new_data, send, ack, nack, loss, path, run}
 use Rattle.demands.specs.Demands as demand
 use Rattle.demands.specs.Past as past
 use Rattle.demands.proofs.Runs as runs
@@ -25,7 +25,6 @@ number_exact (ack time a) w = ack_exact time w a
 number_exact (nack time a) w = nack_exact time w a
 number_exact (loss time a) w = loss_exact time w a
 number_exact (path time) w = path_exact time w
-number_exact (move time) w = move_exact time w
 
 pub set_up_exact : demand.SetUpExact
 set_up_exact = refusals.set_up_exact

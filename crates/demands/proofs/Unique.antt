@@ -13,7 +13,7 @@ use Rattle.window.specs.declared.Sampling.{Sampling}
 use Rattle.ledger.specs.Memory.{Memory}
 use Rattle.sender.specs.World.{World, Answered, answered, Routing, routed}
 use Rattle.sender.specs.Events.{says_of}
-use Rattle.sender.specs.Events.{past_new_data, past_send, past_ack, past_ack_says, past_nack, past_nack_says, past_loss, past_path, past_move}
+use Rattle.sender.specs.Events.{past_new_data, past_send, past_ack, past_ack_says, past_nack, past_nack_says, past_loss, past_path}
 use Rattle.sender.specs.Look.{Looked, looked}
 use Rattle.sender.specs.declared.Feedback.{Feedback}
 use Rattle.sender.specs.declared.Feedback.TheVariants as feedback
@@ -91,16 +91,14 @@ pub data Call : Type 0 where
   new_data : World → ℕ → ℕ → Call
   send : World → ℕ → Send → Call
   loss : World → ℕ → Loss → Call
-  move : World → ℕ → Call
 
 -- what its contract wants
 abbrev pub wanted : Call → Answered
 wanted (new_data w time bytes) = past_new_data time bytes w
 wanted (send w time a) = past_send time a w
 wanted (loss w time a) = past_loss time a w
-wanted (move w time) = past_move time w
 
--- no two outcomes of `new_data`, `send`, `loss` or a move satisfy its contract ..
+-- no two outcomes of `new_data`, `send` or `loss` satisfy its contract ..
 pub calls_unique : (c : Call) → OneOutcome made (wanted c)
 calls_unique c = unique made made_tells (wanted c)
 

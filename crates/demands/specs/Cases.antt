@@ -36,7 +36,7 @@ unfoldable pub agree : List Case → Bool
 agree [] = true
 agree (c ∷ cs) = same c.got c.wanted && agree cs
 
--- "settings E = 4096, 614400, 96, 72, 4096, 1024, 224, 819, 512, 96, 32768, 288, PSN 0", 256 EVs, and no single-path profile
+-- "settings E = 4096, 614400, 96, 72, 4096, 1024, 224, 819, 512, 96, 32768, 288, PSN 0", and 256 EVs
 unfoldable pub settings_e : Settings
 settings_e =
     record {
@@ -55,8 +55,6 @@ settings_e =
       first_psn = 0;
       quick_adapt_off = off;
       ev_count = 256;
-      single_path = off;
-      t_reroute = 0;
     }
 
 -- a fresh window of these settings (base is 96), but for cwnd, the average in 1/1,024 tick, and inc_bytes

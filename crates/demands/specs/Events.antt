@@ -5,10 +5,10 @@ use Rattle.window.specs.declared.Settings.{Settings}
 use Rattle.ledger.specs.Memory.{Memory}
 use Rattle.sender.specs.World.{World, View, ring_of, view_of, world_of, Answered}
 use Rattle.rules.specs.Rows.{Row}
-use Rattle.sender.specs.Rows.{with_sound, new_data_rows, send_all_rows, ack_all_rows, nack_all_rows, loss_all_rows, path_rows, move_rows}
-use Rattle.sender.specs.Steps.{new_data_step, send_step, ack_step, nack_step, loss_step, path_step, move_step}
+use Rattle.sender.specs.Rows.{with_sound, new_data_rows, send_all_rows, ack_all_rows, nack_all_rows, loss_all_rows, path_rows}
+use Rattle.sender.specs.Steps.{new_data_step, send_step, ack_step, nack_step, loss_step, path_step}
 use Rattle.sender.specs.Start.{on_set_up}
-use Rattle.sender.specs.Events.{on_new_data, on_send, on_ack, on_nack, on_loss, on_path, on_move}
+use Rattle.sender.specs.Events.{on_new_data, on_send, on_ack, on_nack, on_loss, on_path}
 use Rattle.sender.specs.declared.Send.{Send}
 use Rattle.sender.specs.declared.Ack.{Ack}
 use Rattle.sender.specs.declared.Nack.{Nack}
@@ -22,7 +22,6 @@ pub data Event : Type 0 where
   nack : ℕ → Nack → Event
   loss : ℕ → Loss → Event
   path : ℕ → Event
-  move : ℕ → Event
 
 -- the rows that it is tested by, in document 01's order
 abbrev pub rows_of : Event → World → List Row
@@ -32,7 +31,6 @@ rows_of (ack time a) w = with_sound w (ack_all_rows time a w.state)
 rows_of (nack time a) w = with_sound w (nack_all_rows time a w.state (ring_of w))
 rows_of (loss time a) w = with_sound w (loss_all_rows time a w.state (ring_of w))
 rows_of (path time) w = with_sound w (path_rows time w.state)
-rows_of (move time) w = with_sound w (move_rows time w.state)
 
 -- what the sender answers
 abbrev pub answer : Event → World → Answered
@@ -42,7 +40,6 @@ answer (ack time a) w = on_ack time a w
 answer (nack time a) w = on_nack time a w
 answer (loss time a) w = on_loss time a w
 answer (path time) w = record { number = (on_path time w).number; after = (on_path time w).after }
-answer (move time) w = on_move time w
 
 -- the view that document 01's rules make of one by an event that no row refuses: the ledger, then the window in its order,
 -- the EV times, the state's name
@@ -53,7 +50,6 @@ view_step (ack time a) v = ack_step time a v
 view_step (nack time a) v = nack_step time a v
 view_step (loss time a) v = loss_step time a v
 view_step (path time) v = path_step time v
-view_step (move time) v = move_step time v
 
 -- the world that keeps it
 abbrev pub step_of : Event → World → World

@@ -14,10 +14,10 @@ use Rattle.ledger.specs.Ring.{Ledger, long_of, packets}
 use Rattle.ledger.specs.Sound.{Others}
 use Rattle.sender.specs.World.{World, Answered, ring_of, view_of, ledger_of}
 use Rattle.sender.specs.Sound.{sound_among}
-use Rattle.sender.specs.Rows.{new_data_rows, send_all_rows, ack_all_rows, nack_all_rows, loss_all_rows, path_rows, move_rows}
-use Rattle.sender.specs.Events.{past_new_data, past_send, past_ack, past_nack, past_loss, past_path, past_move}
+use Rattle.sender.specs.Rows.{new_data_rows, send_all_rows, ack_all_rows, nack_all_rows, loss_all_rows, path_rows}
+use Rattle.sender.specs.Events.{past_new_data, past_send, past_ack, past_nack, past_loss, past_path}
 use Rattle.sender.specs.declared.Ack.{Ack}
-use Rattle.demands.specs.Events.{Event, new_data, send, ack, nack, loss, path, move}
+use Rattle.demands.specs.Events.{Event, new_data, send, ack, nack, loss, path}
 use Rattle.demands.specs.Sums.{Past, remember, sent_by, reported_by, lost_by}
 use Rattle.demands.specs.Burst.{Arrival, Timely, Outstanding, psn_of, covers_psn, Of, Arrives, is_delivered}
 
@@ -31,7 +31,6 @@ past_rows (ack time a) w = ack_all_rows time a w.state
 past_rows (nack time a) w = nack_all_rows time a w.state (ring_of w)
 past_rows (loss time a) w = loss_all_rows time a w.state (ring_of w)
 past_rows (path time) w = path_rows time w.state
-past_rows (move time) w = move_rows time w.state
 
 -- what the sender answers
 abbrev pub past_answer : Event → World → Answered
@@ -41,7 +40,6 @@ past_answer (ack time a) w = past_ack time a w
 past_answer (nack time a) w = past_nack time a w
 past_answer (loss time a) w = past_loss time a w
 past_answer (path time) w = record { number = (past_path time w).number; after = (past_path time w).after }
-past_answer (move time) w = past_move time w
 
 -- the world after a list of events, and after a list of arrivals
 abbrev pub past_run : World → List Event → World

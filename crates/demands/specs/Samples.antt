@@ -7,7 +7,7 @@ use Rattle.window.specs.Limits.{sample_most}
 use Rattle.ledger.specs.Packets.{flying_status, marked_status}
 use Rattle.ledger.specs.Ring.{packet_of}
 use Rattle.sender.specs.World.{World, ring_of}
-use Rattle.demands.specs.Events.{Event, new_data, send, ack, nack, loss, path, move}
+use Rattle.demands.specs.Events.{Event, new_data, send, ack, nack, loss, path}
 
 -- "its resend count is 0 with the retx flag clear, or 1 with it set"
 abbrev pub OneCopy : ℕ → Bool → Type 0
@@ -30,7 +30,6 @@ NoSample (ack time a) w = (ticks : ℕ) → SampleIs w a.trigger a.retx time a.s
 NoSample (nack time a) w = (ticks : ℕ) → SampleIs w a.psn a.retx time 0 ticks → ⊥
 NoSample (loss time a) w = Unit {0}
 NoSample (path time) w = Unit {0}
-NoSample (move time) w = Unit {0}
 
 -- ---- the delay average
 
@@ -63,4 +62,3 @@ AverageIs (nack time a) w avg =
 -- "Loss (H): as trimmed, without sample or feed."
 AverageIs (loss time a) w avg = avg ≡ w.state.window.avg
 AverageIs (path time) w avg = avg ≡ w.state.window.avg
-AverageIs (move time) w avg = avg ≡ w.state.window.avg

@@ -14,9 +14,9 @@ use Rattle.ledger.specs.Memory.{Memory, slots_of, in_window, words_at, status_at
 use Rattle.ledger.specs.Sound.{is_ring, is_even}
 use Rattle.sender.specs.World.{World, View, view, view_of, ledger_of, ledger_in}
 use Rattle.sender.specs.Sound.{sound_view}
-use Rattle.sender.specs.Rows.{new_data_rows, send_all_rows, ack_all_rows, nack_all_rows, loss_all_rows, path_rows, move_rows}
+use Rattle.sender.specs.Rows.{new_data_rows, send_all_rows, ack_all_rows, nack_all_rows, loss_all_rows, path_rows}
 use Rattle.sender.specs.Start.{no_settings, fresh_state, zeros, on_set_up}
-use Rattle.demands.specs.Events.{Event, new_data, send, ack, nack, loss, path, move, answer, view_step, run, SetUp}
+use Rattle.demands.specs.Events.{Event, new_data, send, ack, nack, loss, path, answer, view_step, run, SetUp}
 
 -- ---- the sender over the old ring
 
@@ -37,7 +37,6 @@ old_rows (ack time a) v = row (not (sound_view v)) 2 ∷ ack_all_rows time a v.s
 old_rows (nack time a) v = row (not (sound_view v)) 2 ∷ nack_all_rows time a v.state v.slots
 old_rows (loss time a) v = row (not (sound_view v)) 2 ∷ loss_all_rows time a v.state v.slots
 old_rows (path time) v = row (not (sound_view v)) 2 ∷ path_rows time v.state
-old_rows (move time) v = row (not (sound_view v)) 2 ∷ move_rows time v.state
 
 abbrev pub old_answer : Event → View → OldAnswered
 old_answer e v = old_decided (first_of (old_rows e v)) v (view_step e v)

@@ -6,7 +6,7 @@ use Rattle.rules.specs.Branch.{if_eq, if_so}
 use Rattle.serial.specs.Psn.{psns}
 use Rattle.ledger.specs.Steps.{held_of, newly_of}
 use Rattle.sender.specs.World.{World}
-use Rattle.demands.specs.Events.{Event, new_data, send, ack, nack, loss, path, move, answer}
+use Rattle.demands.specs.Events.{Event, new_data, send, ack, nack, loss, path, answer}
 
 -- what is remembered of the events so far: the newest count, and the bytes of each PSN's last new packet
 pub record Past : Type 0 where
@@ -24,7 +24,6 @@ remember (ack time a) p = record { count = held_of a.count p.count; bytes = p.by
 remember (nack time a) p = p
 remember (loss time a) p = p
 remember (path time) p = p
-remember (move time) p = p
 
 -- bytes that an accepted event sends, new or again
 unfoldable pub sent_by : Event → Past → ℕ
@@ -34,7 +33,6 @@ sent_by (ack time a) p = 0
 sent_by (nack time a) p = 0
 sent_by (loss time a) p = 0
 sent_by (path time) p = 0
-sent_by (move time) p = 0
 
 -- bytes that it reports as received: 256 for each unit by which its count is ahead
 unfoldable pub reported_by : Event → Past → ℕ
@@ -44,7 +42,6 @@ reported_by (ack time a) p = newly_of a.count p.count
 reported_by (nack time a) p = 0
 reported_by (loss time a) p = 0
 reported_by (path time) p = 0
-reported_by (move time) p = 0
 
 -- bytes that it takes out as lost: those of the packet that it names; "PSN: 32 bits, wraps"
 unfoldable pub lost_by : Event → Past → ℕ
@@ -54,7 +51,6 @@ lost_by (ack time a) p = 0
 lost_by (nack time a) p = p.bytes (a.psn % psns)
 lost_by (loss time a) p = p.bytes (a.psn % psns)
 lost_by (path time) p = 0
-lost_by (move time) p = 0
 
 -- summed over the accepted events of a history
 unfoldable pub sum : (Event → Past → ℕ) → World → Past → List Event → ℕ

@@ -405,11 +405,11 @@ shown_stored mtu clock f r small e =
 
 pub stands_even : (mtu clock : ℕ) (f : Flow) (m : Memory) → stands mtu clock f (shown f.low f.next m) ≡ true → is_even m ≡ true
 unfolding stands
-stands_even mtu clock f m e = sym (shown_ring f.low f.next m) ∙ first_of_lem _ _ _ _ _ _ _ _ e
+stands_even mtu clock f m e = sym (shown_ring f.low f.next m) ∙ first_of _ _ _ _ _ _ _ _ e
   where
-    first_of_lem : (a b c d g h i j : Bool) → (a && b && c && d && g && h && i && j) ≡ true → a ≡ true
-    first_of_lem true b c d g h i j q = refl
-    first_of_lem false b c d g h i j q = q
+    first_of : (a b c d g h i j : Bool) → (a && b && c && d && g && h && i && j) ≡ true → a ≡ true
+    first_of true b c d g h i j q = refl
+    first_of false b c d g h i j q = q
 
 pub stands_lengths : (mtu clock : ℕ) (f : Flow) (m : Memory) → stands mtu clock f (shown f.low f.next m) ≡ true → Lengths m
 stands_lengths mtu clock f m e = even_lengths m (stands_even mtu clock f m e)

@@ -2,4 +2,3 @@
 pub mod Walk
 pub mod Circle
 pub mod Chosen
-pub mod Singles

@@ -1,3 +1,2 @@
 -- What the contracts of `paths` cite.
 pub mod Path
-pub mod Single

@@ -2,8 +2,6 @@
 // `evs[e]` is the time of EV e; there are as many EVs as times are lent.
 #![tactic(auto)]
 
-pub mod single;
-
 ghost use Rattle.std.specs.Prelude.{◌≡◌, ◌+◌, ◌%◌, ◌^◌, ◌<◌, ◌≤◌, ◌++◌, length};
 ghost use Rattle.paths.specs.Path.{time_most, Early, with_time, avoids, avoided, first_free, landed, choice};
 

@@ -18,8 +18,7 @@ use Rattle.bits.specs.Bits.{bit, is_word, bit_at, one, value_of, words_of, sum_t
 use Rattle.serial.specs.Wrap.{minus}
 use Rattle.serial.specs.Psn.{plus, bit_of, covered, back_of, span_of, unsent_or_old}
 use Rattle.serial.specs.Count.{ahead_of, is_old, forward_of}
-use Rattle.window.specs.Range.{is_ev_count, is_profile, in_range}
-use Rattle.paths.specs.Single.{sound_single}
+use Rattle.window.specs.Range.{is_ev_count, in_range}
 use Rattle.window.specs.Sound.{sound_window, fresh_of}
 use Rattle.window.specs.Limits.{max_wnd_of}
 use Rattle.window.specs.Delays.{one_send, sample_of, avg_delay_of, update_delay_of, feed_of, update_base_rtt_of, measure_of}
@@ -125,7 +124,7 @@ unfolding worked read_from read_in parse_at front_of look_up whole_of check_of p
 worked_last = refl
 
 pub worked_opened : Opened worked lent settings_e behind
-unfolding lent settings_e on_set_up first_of in_range is_on is_mode mode_of inside is_ev_count is_profile lengths_ok is_table is_cut is_capacity if_so if_eq
+unfolding lent settings_e on_set_up first_of in_range is_mode mode_of inside is_ev_count lengths_ok is_table is_cut is_capacity if_so if_eq
 worked_opened = record { first = first; reads = worked_read; settings = refl; accepted = refl }
 
 -- "new data 8192 at 0; send PSN 0, 4096 at 10; send PSN 2, 4096 at 20; ACK at 110"; then new data and a send of flow 1, and a send of
@@ -173,8 +172,7 @@ pub record Given : Type 0 where
 
 computed : Given
 unfolding lent answers on_set_up fresh_state fresh_table recordWords freshSender settings_e sum remember_at remember sent_by reported_by lost_by if_so if_lt if_eq inside first_of
-    minus plus bit_of covered back_of span_of unsent_or_old ahead_of is_old forward_of count_leading_zeros max_wnd_of is_ev_count is_profile in_range
-    sound_window sound_single fresh_of
+    minus plus bit_of covered back_of span_of unsent_or_old ahead_of is_old forward_of count_leading_zeros max_wnd_of is_ev_count in_range sound_window fresh_of
     one_send sample_of avg_delay_of update_delay_of feed_of update_base_rtt_of measure_of fires_of fire_of restart_of quick_adapt_of count_newly_of
     leave_fast_mode_of raise_cwnd_of is_near fast_increase_of add_inc_bytes_of proportional_increase_of fair_increase_of factor_of may_decrease
     multiplicative_decrease_of respond_of enough_received period_passed fulfill_adjustment_of adjust_of go_on_of react_of window.ack_of shrink_of

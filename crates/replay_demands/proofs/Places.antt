@@ -132,7 +132,6 @@ stops_so (r ∷ rs) n so = by (event_of r) (stops_so rs n so)
     by (event.Nack time k a) more = more
     by (event.Loss time k a) more = more
     by (event.Path time k) more = more
-    by (event.Move time) more = more
     by (event.SetUp s) more = inr refl
 
 read_so : (x : Parsed) → (parsed_number x ≡ 0) ⊎ (parsed_number x ≡ 12)

@@ -34,7 +34,7 @@ use Rattle.replay.specs.declared.records.Event.{Event as Logged}
 use Rattle.replay.specs.declared.records.Event.TheVariants as event
 use Rattle.replay.specs.declared.turns.Found.TheVariants as found
 use Rattle.replay.proofs.Progress.{turns_none, turns_more}
-use Rattle.demands.specs.Events.{Event, new_data, send, ack, nack, loss, path, move}
+use Rattle.demands.specs.Events.{Event, new_data, send, ack, nack, loss, path}
 use Rattle.context_demands.specs.Events.{Flowed, rows_at, rows_of, answer, run}
 use Rattle.context_demands.proofs.Theorems.{number_exact}
 use Rattle.replay_demands.specs.Histories.{start, of, with_event, with_stop, events_of, stops_with, answer_of, answers, stop}
@@ -64,7 +64,6 @@ rows_other k (ack time a) w = refl
 rows_other k (nack time a) w = refl
 rows_other k (loss time a) w = refl
 rows_other k (path time) w = refl
-rows_other k (move time) w = refl
 
 never_twelve : (e : Flowed) (w : Context) → (answer e w).number ≡ 12 → ⊥
 never_twelve e w is =
@@ -178,8 +177,6 @@ module _ (log : List ℕ) (at next done : ℕ) (w : Context) (r : Record) (past 
       event_turns _ (of k (loss time a)) is (record { number = refl; after = refl; on = refl }) ∙ rw (more (answer (of k (loss time a)) w).after)
   by_event es n more (event.Path time k) is =
       event_turns _ (of k (path time)) is (record { number = refl; after = refl; on = path_on _ _ }) ∙ rw (more (answer (of k (path time)) w).after)
-  by_event es n more (event.Move time) is =
-      event_turns _ (of 0 (move time)) is (record { number = refl; after = refl; on = refl }) ∙ rw (more (answer (of 0 (move time)) w).after)
   by_event es n more (event.SetUp s) is = ap (map answer_of) (settings_turns s is)
 
 -- ---- the turns behind record 1

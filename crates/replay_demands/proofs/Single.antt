@@ -58,7 +58,6 @@ module _ (log : List ℕ) (lent : Context) (next : ℕ) (r : Record) (reads : pa
   by_first (event.Nack time k a) is = twelve_refused log lent next (first_turn log next lent r _ reads is)
   by_first (event.Loss time k a) is = twelve_refused log lent next (first_turn log next lent r _ reads is)
   by_first (event.Path time k) is = twelve_refused log lent next (first_turn log next lent r _ reads is)
-  by_first (event.Move time) is = twelve_refused log lent next (first_turn log next lent r _ reads is)
   by_first (event.SetUp s) is =
       let set = on_set_up s lent.flows lent.slots lent.times in
       let t : Turning = turned start next (on_first (event.SetUp s) lent) in

@@ -7,8 +7,7 @@ use Rattle.rules.specs.Unique.{Tells}
 use Rattle.rules.specs.declared.verdict.Verdict.{Verdict}
 use Rattle.rules.specs.declared.verdict.Verdict.TheVariants.{Accepted, Setting, Unsound, Time, Size, Backlog, WindowFull, RingFull}
 use Rattle.rules.specs.declared.verdict.Verdict.TheVariants.{WrongPsn, UnsentOrOld, NotFlying, Sinks, Malformed, NoRoom}
-use Rattle.rules.specs.declared.verdict.Verdict.TheVariants.{Bytes, Count, Reason, Ev, Trigger, Flow, NoMove}
-use Rattle.rules.specs.declared.verdict.Verdict.TheVariants.{PlanTooLong, LogTooLong}
+use Rattle.rules.specs.declared.verdict.Verdict.TheVariants.{Bytes, Count, Reason, Ev, Trigger, Flow, PlanTooLong, LogTooLong}
 
 unfoldable pub number_of : Verdict → ℕ
 number_of Accepted = 0
@@ -31,7 +30,6 @@ number_of Reason = 22
 number_of Ev = 23
 number_of Trigger = 24
 number_of Flow = 25
-number_of NoMove = 26
 number_of PlanTooLong = 27
 number_of LogTooLong = 28
 
@@ -58,8 +56,7 @@ verdict_of n =
     (cond (eqb n 23) Ev
     (cond (eqb n 24) Trigger
     (cond (eqb n 25) Flow
-    (cond (eqb n 26) NoMove
-    (cond (eqb n 27) PlanTooLong LogTooLong)))))))))))))))))))))
+    (cond (eqb n 27) PlanTooLong LogTooLong))))))))))))))))))))
 
 pub number_back : (v : Verdict) → verdict_of (number_of v) ≡ v
 unfolding number_of verdict_of
@@ -83,7 +80,6 @@ number_back Reason = refl
 number_back Ev = refl
 number_back Trigger = refl
 number_back Flow = refl
-number_back NoMove = refl
 number_back PlanTooLong = refl
 number_back LogTooLong = refl
 
@@ -114,7 +110,6 @@ number_most Reason = omega arith
 number_most Ev = omega arith
 number_most Trigger = omega arith
 number_most Flow = omega arith
-number_most NoMove = omega arith
 number_most PlanTooLong = omega arith
 number_most LogTooLong = omega arith
 

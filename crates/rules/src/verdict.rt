@@ -45,8 +45,6 @@ pub enum Verdict {
     Trigger,
     // 25: a flow out of range (request M-107).
     Flow,
-    // 26: a move before it is allowed, or outside the single-path profile (request M-112).
-    NoMove,
     // 27: a plan of more than 64 sends (request M-111).
     PlanTooLong,
     // 28: a chunk with which the log would reach 2^48 bytes (request M-104).
@@ -78,7 +76,6 @@ pub fn number_of(v: Verdict) -> u32
         Verdict::Ev => 23,
         Verdict::Trigger => 24,
         Verdict::Flow => 25,
-        Verdict::NoMove => 26,
         Verdict::PlanTooLong => 27,
         Verdict::LogTooLong => 28,
     }

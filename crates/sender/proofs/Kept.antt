@@ -5,15 +5,12 @@
 use mathlib.Core.Path.{◌≡◌, refl, sym, ap, ◌∙◌}
 use mathlib.Core.Bool.{Bool, true, ◌||◌}
 use mathlib.Core.List.{List}
-use Prim.Native.Nat.{ℕ, ◌≤◌}
+use Prim.Native.Nat.{ℕ}
 use native.Mathlib.Omega.{arith}
 use lib.Dec.{eqb}
 use Rattle.rules.specs.Branch.{if_eq, eq_both}
 use Rattle.rules.specs.Rows.{Row, first_of}
-use Rattle.window.specs.Range.{is_single}
 use Rattle.window.specs.Sound.{SoundWindow}
-use Rattle.paths.specs.Single.{moved_to}
-use Rattle.paths.proofs.Singles.{single_later, single_moved, routed_inside}
 use Rattle.window.specs.declared.Window.{Window}
 use Rattle.window.proofs.Tests.{sample_bounds}
 use Rattle.window.proofs.Keeps.{sound_ack, sound_nack, sound_loss}
@@ -23,32 +20,32 @@ use Rattle.ledger.specs.Sound.{Others, alone}
 use Rattle.ledger.specs.Steps.{supplied, supplied_totals, newly_of}
 use Rattle.sender.specs.World.{World, View, Answered, Routing, view_of, world_of}
 use Rattle.sender.specs.Sound.{sound_among, sound}
-use Rattle.sender.specs.Rows.{new_data_rows, send_all_rows, ack_all_rows, nack_all_rows, loss_all_rows, path_rows, move_rows}
+use Rattle.sender.specs.Rows.{new_data_rows, send_all_rows, ack_all_rows, nack_all_rows, loss_all_rows, path_rows}
 use Rattle.sender.specs.Steps.{settled, avoided_in, new_data_state, new_data_step, send_step, ack_sample, ack_step, nack_sample, nack_step}
-use Rattle.sender.specs.Steps.{loss_step, route_of, path_state, path_step, move_state, move_step}
-use Rattle.sender.specs.Events.{decided, on_new_data, on_send, on_ack, on_nack, on_loss, on_path, on_move}
-use Rattle.sender.specs.Events.{past_new_data, past_send, past_ack, past_nack, past_loss, past_path, past_move}
+use Rattle.sender.specs.Steps.{loss_step, route_of, path_state, path_step}
+use Rattle.sender.specs.Events.{decided, on_new_data, on_send, on_ack, on_nack, on_loss, on_path}
+use Rattle.sender.specs.Events.{past_new_data, past_send, past_ack, past_nack, past_loss, past_path}
 use Rattle.sender.specs.declared.Send.{Send}
 use Rattle.sender.specs.declared.Ack.{Ack}
 use Rattle.sender.specs.declared.Nack.{Nack}
 use Rattle.sender.specs.declared.Loss.{Loss}
 use Rattle.sender.proofs.Sounds.{SoundFacts, among_facts, stated_sound, settled_sound, avoided_long, avoided_ok}
 use Rattle.sender.proofs.Views.{world_sound}
-use Rattle.sender.proofs.Rowing.{past_new_data_lem, past_send_lem, past_ack_lem, past_nack_lem, past_loss_lem, past_path_lem, past_move_lem}
+use Rattle.sender.proofs.Rowing.{past_new_data_lem, past_send_lem, past_ack_lem, past_nack_lem, past_loss_lem, past_path_lem}
 use Rattle.sender.proofs.Stepping.{Ready, time_facts, new_data_facts, send_facts, ack_facts, nack_facts, loss_facts, supply_ready}
-use Rattle.sender.proofs.Stepping.{send_ready, ack_ready, marked_ready, path_ready}
+use Rattle.sender.proofs.Stepping.{send_ready, ack_ready, marked_ready, path_ready, taken_inside}
 
 -- after a ledger's step and the window's rules, with one EV's time changed or none
 kept_of : {o : Others} {v : View} (S : SoundFacts o v) {time : ℕ} {l : Ledger}
     (R : Ready o v.state.settings time v.state.window l) {u : Window}
-    → v.state.clock ≤ time → SoundWindow v.state.settings time u → (on : Bool) (ev : ℕ)
-    → sound_among o (settled time v.state l u (avoided_in v.state.settings on ev time v.state.window.base v.times)) ≡ true
-kept_of {o} {v} S {time} {l} R {u} later H on ev =
-    settled_sound _ time v.state l u (avoided_in v.state.settings on ev time v.state.window.base v.times) R.range H R.sound_ledger_lem R.early
-    (omega (arith, avoided_long v.state.settings on ev time v.state.window.base v.times, S.times_long))
-    (avoided_ok v.state.settings on ev time v.state.window.base v.times R.early
+    → SoundWindow v.state.settings time u → (on : Bool) (ev : ℕ)
+    → sound_among o (settled time v.state l u (avoided_in on ev time v.state.window.base v.times)) ≡ true
+kept_of {o} {v} S {time} {l} R {u} H on ev =
+    settled_sound _ time v.state l u (avoided_in on ev time v.state.window.base v.times) R.range H R.sound_ledger_lem R.early
+    (omega (arith, avoided_long on ev time v.state.window.base v.times, S.times_long))
+    (avoided_ok on ev time v.state.window.base v.times R.early
     (omega (arith, S.sound_window_lem.base_high, S.range.rtt_high)) S.times_ok_lem)
-    S.cursor_ok (single_later S.single_ok later)
+    S.cursor_ok
 
 pub new_data_kept : (o : Others) (time bytes : ℕ) (v : View) → sound_among o v ≡ true → first_of (new_data_rows time bytes v.state) ≡ 0
     → sound_among o (new_data_step time bytes v) ≡ true
@@ -58,10 +55,9 @@ new_data_kept o time bytes v e rows =
     let S = among_facts o v e in
     let N = new_data_facts time bytes c rows in
     let R = supply_ready S bytes N.0 N.1 in
-    stated_sound _ c.settings (supplied bytes c.flow) (supplied_totals bytes c.totals) c.window time c.cursor c.single
-    v.slots v.times
+    stated_sound _ c.settings (supplied bytes c.flow) (supplied_totals bytes c.totals) c.window time c.cursor v.slots
+    v.times
     R.range R.sound_window_lem R.sound_ledger_lem R.early S.times_long S.times_ok_lem S.cursor_ok
-    (single_later S.single_ok N.0.later)
 
 pub send_kept : (o : Others) (time : ℕ) (a : Send) (v : View) → sound_among o v ≡ true
     → first_of (send_all_rows time a v.state v.slots) ≡ 0
@@ -69,10 +65,9 @@ pub send_kept : (o : Others) (time : ℕ) (a : Send) (v : View) → sound_among 
 unfolding send_step
 send_kept o time a v e rows =
     let S = among_facts o v e in
-    let A = send_facts time a v.state v.slots rows in
-    let R = send_ready S A in
+    let R = send_ready S (send_facts time a v.state v.slots rows) in
     settled_sound _ time v.state _ v.state.window v.times R.range R.sound_window_lem R.sound_ledger_lem R.early
-    S.times_long S.times_ok_lem S.cursor_ok (single_later S.single_ok A.timely.later)
+    S.times_long S.times_ok_lem S.cursor_ok
 
 pub ack_kept : (o : Others) (time : ℕ) (a : Ack) (v : View) → sound_among o v ≡ true → first_of (ack_all_rows time a v.state) ≡ 0
     → sound_among o (ack_step time a v) ≡ true
@@ -80,10 +75,9 @@ unfolding ack_step ack_sample
 ack_kept o time a v e rows =
     let c = v.state in
     let S = among_facts o v e in
-    let A = ack_facts time a c rows in
-    let R = ack_ready S A in
+    let R = ack_ready S (ack_facts time a c rows) in
     let x = packet_of c.flow v.slots a.trigger in
-    kept_of S R A.timely.later
+    kept_of S R
     (sound_ack R.range _ R.early R.flown.high (newly_of a.count c.flow.held) a.marked
     (sample_bounds (is_out x) x.resent a.retx time x.sent a.service) R.sound_window_lem)
     a.marked a.ev
@@ -95,10 +89,9 @@ unfolding nack_step nack_sample
 nack_kept o time a v e rows =
     let c = v.state in
     let S = among_facts o v e in
-    let A = nack_facts time a c v.slots rows in
-    let R = marked_ready S A in
+    let R = marked_ready S (nack_facts time a c v.slots rows) in
     let x = packet_of c.flow v.slots a.psn in
-    kept_of S R A.timely.later
+    kept_of S R
     (sound_nack R.range _ R.early R.flown.high x.size a.reason
     (sample_bounds (is_out x) x.resent a.retx time x.sent 0) R.sound_window_lem)
     (a.marked || eqb a.reason 0) a.ev
@@ -110,10 +103,8 @@ unfolding loss_step
 loss_kept o time a v e rows =
     let c = v.state in
     let S = among_facts o v e in
-    let A = loss_facts time a c v.slots rows in
-    let R = marked_ready S A in
-    kept_of S R A.timely.later
-    (sound_loss R.range _ R.early R.flown.high (packet_of c.flow v.slots a.psn).size R.sound_window_lem)
+    let R = marked_ready S (loss_facts time a c v.slots rows) in
+    kept_of S R (sound_loss R.range _ R.early R.flown.high (packet_of c.flow v.slots a.psn).size R.sound_window_lem)
     true a.ev
 
 pub path_kept : (o : Others) (time : ℕ) (v : View) → sound_among o v ≡ true → first_of (path_rows time v.state) ≡ 0
@@ -122,25 +113,10 @@ unfolding path_step path_state
 path_kept o time v e rows =
     let c = v.state in
     let S = among_facts o v e in
-    let t = (time_facts time c _ rows).0 in
-    let R = path_ready S t in
-    stated_sound _ c.settings c.flow c.totals c.window time (route_of time v).cursor c.single v.slots v.times
+    let R = path_ready S (time_facts time c _ rows).0 in
+    stated_sound _ c.settings c.flow c.totals c.window time (route_of time v).cursor v.slots v.times
     R.range R.sound_window_lem R.sound_ledger_lem R.early S.times_long S.times_ok_lem
-    (routed_inside (is_single c.settings) time c.cursor v.times S.single_ok S.times_long S.cursor_ok).cursor_inside
-    (single_later S.single_ok t.later)
-
-pub move_kept : (o : Others) (time : ℕ) (v : View) → sound_among o v ≡ true → first_of (move_rows time v.state) ≡ 0
-    → sound_among o (move_step time v) ≡ true
-unfolding move_step move_state
-move_kept o time v e rows =
-    let c = v.state in
-    let S = among_facts o v e in
-    let t = (time_facts time c _ rows).0 in
-    let R = path_ready S t in
-    stated_sound _ c.settings c.flow c.totals c.window time c.cursor (moved_to c.settings.ev_count time c.single)
-    v.slots v.times
-    R.range R.sound_window_lem R.sound_ledger_lem R.early S.times_long S.times_ok_lem S.cursor_ok
-    (single_moved time S.single_ok)
+    (taken_inside time c.cursor v.times {x = route_of time v} refl S.times_long S.cursor_ok).1
 
 -- ---- whatever is answered
 
@@ -184,10 +160,6 @@ module _ (o : Others) (time : ℕ) (w : World) (e : sound_among o (view_of w) �
   past_path_lasts =
       lasts o (λ (a : Routing). a.after) w (path_rows time w.state) _ _ e (λ z. world_sound o _ (path_kept o time (view_of w) e z)) refl
 
-  pub past_move_lasts : sound_among o (view_of (past_move time w).after) ≡ true
-  unfolding past_move
-  past_move_lasts = decided_lasts o w _ _ e (move_kept o time (view_of w) e)
-
 -- with the test of number 2, of a flow by itself
 pub new_data_lasts : (time bytes : ℕ) (w : World) → sound w ≡ true → sound (on_new_data time bytes w).after ≡ true
 new_data_lasts time bytes w e =
@@ -207,6 +179,3 @@ loss_lasts time a w e = ap (λ (x : Answered). sound x.after) (sym (past_loss_le
 
 pub path_lasts : (time : ℕ) (w : World) → sound w ≡ true → sound (on_path time w).after ≡ true
 path_lasts time w e = ap (λ (x : Routing). sound x.after) (sym (past_path_lem w e time)) ∙ past_path_lasts alone time w e
-
-pub move_lasts : (time : ℕ) (w : World) → sound w ≡ true → sound (on_move time w).after ≡ true
-move_lasts time w e = ap (λ (x : Answered). sound x.after) (sym (past_move_lem w e time)) ∙ past_move_lasts alone time w e

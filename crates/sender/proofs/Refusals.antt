@@ -29,12 +29,11 @@ use Rattle.sender.specs.Statements.{PermittedNew, PermittedResend}
 use Rattle.window.specs.Limits.{time_end}
 use Rattle.sender.specs.World.{World, world, Answered, answered, Routing, routed, ring_of, view_of, world_of}
 use Rattle.sender.specs.Bounds.{room_after}
-use Rattle.sender.specs.Rows.{with_sound, time_row, new_data_rows, send_all_rows, ack_all_rows, nack_all_rows, loss_all_rows, path_rows}
-use Rattle.sender.specs.Rows.{move_rows, set_up_rows}
+use Rattle.sender.specs.Rows.{with_sound, time_row, new_data_rows, send_all_rows, ack_all_rows, nack_all_rows, loss_all_rows, path_rows, set_up_rows}
 use Rattle.sender.specs.Rows.{new_data_fields, send_fields, ack_fields, nack_fields, loss_fields}
 use Rattle.sender.specs.Steps.{send_step}
 use Rattle.sender.specs.Start.{no_settings, fresh_state, zeros, clear_memory, on_set_up}
-use Rattle.sender.specs.Events.{decided, on_new_data, on_send, on_ack, on_nack, on_loss, on_path, on_move}
+use Rattle.sender.specs.Events.{decided, on_new_data, on_send, on_ack, on_nack, on_loss, on_path}
 use Rattle.sender.specs.declared.Controller.{Controller}
 use Rattle.sender.specs.declared.Send.{Send}
 use Rattle.sender.specs.declared.Ack.{Ack}
@@ -72,10 +71,6 @@ module _ (time : ℕ) (w : World) where
   pub loss_same : (a : Loss) → ((on_loss time a w).number ≡ 0 → ⊥) → (on_loss time a w).after ≡ w
   unfolding on_loss
   loss_same a = refused_same _ w _
-
-  pub move_same : ((on_move time w).number ≡ 0 → ⊥) → (on_move time w).after ≡ w
-  unfolding on_move
-  move_same = refused_same _ w _
 
   -- and a refused path choice names the EV 0
   pub path_same : ((on_path time w).number ≡ 0 → ⊥) → ((on_path time w).after ≡ w) × ((on_path time w).ev ≡ 0)
@@ -171,10 +166,6 @@ module _ (time : ℕ) (w : World) where
   pub loss_exact : (a : Loss) → Exact (with_sound w (loss_all_rows time a w.state (ring_of w))) (on_loss time a w).number
   unfolding on_loss numbered inside
   loss_exact a = decided_exact _ w _ refl
-
-  pub move_exact : Exact (with_sound w (move_rows time w.state)) (on_move time w).number
-  unfolding on_move numbered inside
-  move_exact = decided_exact _ w _ refl
 
   pub path_exact : Exact (with_sound w (path_rows time w.state)) (on_path time w).number
   unfolding on_path numbered inside

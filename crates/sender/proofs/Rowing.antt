@@ -2,22 +2,19 @@
 -- them; and what an event answers by their number.
 -- Assumes nothing.
 use mathlib.Core.Path.{◌≡◌, refl, sym, ap, ap₂, ◌∙◌}
-use mathlib.Core.Bool.{Bool, true, false, not, ◌&&◌, ◌||◌}
+use mathlib.Core.Bool.{Bool, true, false, not, ◌&&◌}
 use mathlib.Core.List.{List, [], ◌∷◌, ◌++◌}
 use mathlib.Core.Logic.{by_cases}
 use mathlib.Core.Option.{Option, none, some}
 use Prim.Native.Nat.{ℕ, ◌+◌, ◌-◌, ◌≤◌}
 use native.Mathlib.Decide.{dec_lt}
 use native.Mathlib.Omega.{arith}
-use lib.Dec.{ltb, leb}
+use lib.Dec.{ltb}
 use borrow.Author.Tests.{ltb-true, ltb-false, lt-ltb, le-ltb, not-true}
 use Rattle.rules.specs.Branch.{if_so, if_eq, eq_yes, eq_no, eq_both}
-use Rattle.rules.specs.Test.{inside, both, whole, neither, inside_tells}
-use Rattle.rules.specs.Rows.{Row, row, first_of, first_none, first_here, first_later}
-use Rattle.window.specs.Limits.{time_end}
-use Rattle.window.specs.Range.{is_single}
+use Rattle.rules.specs.Test.{inside, both, whole, inside_tells}
+use Rattle.rules.specs.Rows.{Row, row, first_of, first_here, first_later}
 use Rattle.window.specs.declared.Sampling.{Sampling}
-use Rattle.paths.specs.Single.{may_move}
 use Rattle.ledger.specs.Ring.{Ring, cap_of}
 use Rattle.ledger.specs.Memory.{Memory}
 use Rattle.ledger.specs.Rows.{send_rows, new_rows, resend_rows}
@@ -27,10 +24,10 @@ use Rattle.sender.specs.World.{World, world, Answered, answered, Routing, view_o
 use Rattle.sender.specs.Named.{has_room}
 use Rattle.sender.specs.Bounds.{room_after}
 use Rattle.sender.specs.Sound.{sound}
-use Rattle.sender.specs.Rows.{with_sound, send_all_rows, path_rows, move_rows}
+use Rattle.sender.specs.Rows.{with_sound, send_all_rows, path_rows}
 use Rattle.sender.specs.Steps.{ack_sampling, nack_sampling, route_of, path_step}
-use Rattle.sender.specs.Events.{decided, says, on_new_data, on_send, on_ack, ack_says, on_nack, nack_says, on_loss, on_path, on_move}
-use Rattle.sender.specs.Events.{past_new_data, past_send, past_ack, past_ack_says, past_nack, past_nack_says, past_loss, past_path, past_move}
+use Rattle.sender.specs.Events.{decided, says, on_new_data, on_send, on_ack, ack_says, on_nack, nack_says, on_loss, on_path}
+use Rattle.sender.specs.Events.{past_new_data, past_send, past_ack, past_ack_says, past_nack, past_nack_says, past_loss, past_path}
 use Rattle.sender.specs.declared.Controller.{Controller}
 use Rattle.sender.specs.declared.Send.{Send}
 use Rattle.sender.specs.declared.Ack.{Ack}
@@ -49,25 +46,25 @@ accepted_number = refl
 -- every row's number is one of the table's
 unfoldable pub numbered : List Row → Bool
 numbered [] = true
-numbered (x ∷ xs) = inside 1 x.number 26 && numbered xs
+numbered (x ∷ xs) = inside 1 x.number 24 && numbered xs
 
 -- a list's number is none, or one of the table's
-first_table : (xs : List Row) → numbered xs ≡ true → (first_of xs ≡ 0 → ⊥) → inside 1 (first_of xs) 26 ≡ true
+first_table : (xs : List Row) → numbered xs ≡ true → (first_of xs ≡ 0 → ⊥) → inside 1 (first_of xs) 24 ≡ true
 unfolding first_of numbered if_so
 first_table [] e h = absurd (h refl)
 first_table (x ∷ xs) e h =
-    let p = both (inside 1 x.number 26) (numbered xs) e in
+    let p = both (inside 1 x.number 24) (numbered xs) e in
     go x.test p.0 (first_table xs p.1) h
   where
-    go : (t : Bool) → inside 1 x.number 26 ≡ true → ((first_of xs ≡ 0 → ⊥) → inside 1 (first_of xs) 26 ≡ true)
-        → (if_so t x.number (first_of xs) ≡ 0 → ⊥) → inside 1 (if_so t x.number (first_of xs)) 26 ≡ true
+    go : (t : Bool) → inside 1 x.number 24 ≡ true → ((first_of xs ≡ 0 → ⊥) → inside 1 (first_of xs) 24 ≡ true)
+        → (if_so t x.number (first_of xs) ≡ 0 → ⊥) → inside 1 (if_so t x.number (first_of xs)) 24 ≡ true
     go true here later h = here
     go false here later h = later h
 
 -- at most the table's last
-pub first_most : (xs : List Row) → numbered xs ≡ true → first_of xs ≤ 26
+pub first_most : (xs : List Row) → numbered xs ≡ true → first_of xs ≤ 24
 first_most xs e =
-    by_cases (dec_lt 0 (first_of xs)) (λ h. (inside_tells 1 (first_of xs) 26 (first_table xs e (λ z. omega (arith, h, z)))).1)
+    by_cases (dec_lt 0 (first_of xs)) (λ h. (inside_tells 1 (first_of xs) 24 (first_table xs e (λ z. omega (arith, h, z)))).1)
     (λ h. omega (arith, h))
 
 -- rows of which no test holds are passed
@@ -83,8 +80,8 @@ pub none_silent : (xs : List Row) → numbered xs ≡ true → first_of xs ≡ 0
 unfolding first_of numbered silent if_so
 none_silent [] e f = refl
 none_silent (x ∷ xs) e f =
-    let p = both (inside 1 x.number 26) (numbered xs) e in
-    go x.test (inside_tells 1 x.number 26 p.0).0 f (none_silent xs p.1)
+    let p = both (inside 1 x.number 24) (numbered xs) e in
+    go x.test (inside_tells 1 x.number 24 p.0).0 f (none_silent xs p.1)
   where
     go : (t : Bool) → 1 ≤ x.number → if_so t x.number (first_of xs) ≡ 0 → (first_of xs ≡ 0 → silent xs ≡ true)
         → (not t && silent xs) ≡ true
@@ -96,8 +93,8 @@ pub first_append : (xs ys : List Row) → numbered xs ≡ true → if_eq (first_
 unfolding first_of numbered if_so
 first_append [] ys e = sym (eq_yes 0 0 (first_of ys) (first_of ys) 0 refl refl)
 first_append (x ∷ xs) ys e =
-    let p = both (inside 1 x.number 26) (numbered xs) e in
-    go x.test (inside_tells 1 x.number 26 p.0).0 (first_append xs ys p.1)
+    let p = both (inside 1 x.number 24) (numbered xs) e in
+    go x.test (inside_tells 1 x.number 24 p.0).0 (first_append xs ys p.1)
   where
     go : (t : Bool) → 1 ≤ x.number → if_eq (first_of xs) 0 (first_of ys) (first_of xs) ≡ first_of (xs ++ ys)
         → if_eq (if_so t x.number (first_of xs)) 0 (first_of ys) (if_so t x.number (first_of xs)) ≡ if_so t x.number (first_of (xs ++ ys))
@@ -108,7 +105,7 @@ pub numbered_append : (xs ys : List Row) → numbered xs ≡ true → numbered y
 unfolding numbered
 numbered_append [] ys e f = f
 numbered_append (x ∷ xs) ys e f =
-    let p = both (inside 1 x.number 26) (numbered xs) e in
+    let p = both (inside 1 x.number 24) (numbered xs) e in
     whole p.0 (numbered_append xs ys p.1 f)
 
 -- ---- 3, then the row of a field, k, then the other rows of one event
@@ -180,30 +177,6 @@ module _ (c : Controller) (r : Ring) (a : Send) (n m : ℕ) (e : m ≡ room_afte
   pub judged_new : a.resend ≡ false → n ≡ first_of (new_rows c.flow (cap_of r) a.psn a.size)
       → m ≡ first_of (send_rows c.flow r a.psn a.size a.resend ++ room_rows c)
   judged_new h f = judged_send (f ∙ rows_new c.flow r a.psn a.size a.resend h)
-
--- ---- a move
-
-module _ (time : ℕ) (c : Controller) (early : (ltb time c.clock || leb time_end time) ≡ false) where
-  -- a time that is not refused is not before the clock
-  pub move_later : c.clock ≤ time
-  move_later = ltb-false time c.clock (neither (ltb time c.clock) (leb time_end time) early).0
-
-  abbrev may : Bool
-  may = may_move c.totals.flying c.settings.t_reroute c.window.base time c.single
-
-  -- the profile and whether it may move are one row
-  behind : (n : ℕ) → n ≡ first_of (row (not (is_single c.settings && may)) 26 ∷ []) → n ≡ first_of (move_rows time c)
-  behind n e = first_later n 3 _ _ early e
-
-  pub move_outside : is_single c.settings ≡ false → 26 ≡ first_of (move_rows time c)
-  move_outside off = behind 26 (first_here 26 26 _ _ (ap (λ (a : Bool). not (a && may)) off) refl)
-
-  module _ (on : is_single c.settings ≡ true) where
-    pub move_early : may ≡ false → 26 ≡ first_of (move_rows time c)
-    move_early n = behind 26 (first_here 26 26 _ _ (ap₂ (λ (a b : Bool). not (a && b)) on n) refl)
-
-    pub move_free : may ≡ true → 0 ≡ first_of (move_rows time c)
-    move_free y = behind 0 (first_later 0 26 _ _ (ap₂ (λ (a b : Bool). not (a && b)) on y) first_none)
 
 -- ---- what an event answers
 
@@ -326,7 +299,3 @@ module _ (w : World) (e : sound w ≡ true) (time : ℕ) where
   pub past_path_lem : past_path time w ≡ on_path time w
   unfolding past_path on_path
   past_path_lem = ap (λ (n : ℕ). if_eq n 0 (taken time w) (untaken n w)) (past_sound w e (path_rows time w.state))
-
-  pub past_move_lem : past_move time w ≡ on_move time w
-  unfolding past_move on_move
-  past_move_lem = past_decided _ _

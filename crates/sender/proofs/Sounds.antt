@@ -2,7 +2,7 @@
 -- bounds, is sound (`stated_sound`, `settled_sound`). By the laws of `window` and `ledger`.
 -- Assumes nothing.
 use mathlib.Core.Path.{◌≡◌, refl, sym, ap, ap₂, ◌∙◌}
-use mathlib.Core.Bool.{Bool, true, not, ◌&&◌, and-true, and_assoc}
+use mathlib.Core.Bool.{Bool, true, false, not, ◌&&◌, and-true, and_assoc}
 use mathlib.Core.List.{List, [], ◌∷◌, ◌++◌}
 use Prim.Native.Nat.{ℕ, zero, suc, ◌+◌, ◌-◌, ◌^◌, ◌≤◌, ◌<◌}
 use native.Mathlib.Nat.{not-suc-le-zero, le_of_suc-le-suc}
@@ -14,16 +14,13 @@ use borrow.Author.Tests.{ltb-true, eqb-true, lt-ltb, eq-eqb}
 use Rattle.rules.specs.Branch.{so_both, eq_both}
 use Rattle.rules.specs.Test.{both, whole}
 use Rattle.window.specs.Limits.{time_end, later_end}
-use Rattle.window.specs.Range.{is_single, in_range, InRange}
+use Rattle.window.specs.Range.{in_range, InRange}
 use Rattle.window.specs.Sound.{sound_window, SoundWindow}
 use Rattle.window.specs.declared.Settings.{Settings}
 use Rattle.window.specs.declared.Window.{Window}
 use Rattle.window.proofs.Tests.{ev_count_bounds, range_facts, range_test, window_facts, window_test}
 use Rattle.window.proofs.MaxWnd.{max_wnd_high}
 use Rattle.paths.specs.Path.{Early}
-use Rattle.paths.specs.Single.{sound_single, SoundSingle}
-use Rattle.paths.specs.declared.single.Single.{Single}
-use Rattle.paths.proofs.Singles.{single_facts, single_test}
 use Rattle.ledger.specs.Ring.{Ring, Ledger, ledger}
 use Rattle.ledger.specs.Sound.{Others, alone, Few, sound_ledger, SoundLedger}
 use Rattle.ledger.specs.declared.Flow.{Flow}
@@ -107,19 +104,19 @@ times_set (x ∷ xs) (suc k) t h e =
     let p = both (ltb x later_end) (times_ok xs) e in
     whole p.0 (times_set xs k t h p.1)
 
-module _ (s : Settings) (on : Bool) (ev time base : ℕ) (times : List ℕ) where
+module _ (on : Bool) (ev time base : ℕ) (times : List ℕ) where
   -- an EV that is avoided: as many times, all in their bounds
-  pub avoided_long : length (avoided_in s on ev time base times) ≡ length times
+  pub avoided_long : length (avoided_in on ev time base times) ≡ length times
   unfolding avoided_in
   avoided_long =
-      so_both (λ (ts : List ℕ). length ts ≡ length times) (on && not (is_single s)) (set times ev (time + base)) times
+      so_both (λ (ts : List ℕ). length ts ≡ length times) on (set times ev (time + base)) times
       (λ e. length-set times ev (time + base))
       (λ e. refl)
 
-  pub avoided_ok : time < time_end → base ≤ 2 ^ 14 → times_ok times ≡ true → times_ok (avoided_in s on ev time base times) ≡ true
+  pub avoided_ok : time < time_end → base ≤ 2 ^ 14 → times_ok times ≡ true → times_ok (avoided_in on ev time base times) ≡ true
   unfolding avoided_in
   avoided_ok h b ok =
-      so_both (λ (ts : List ℕ). times_ok ts ≡ true) (on && not (is_single s)) (set times ev (time + base)) times
+      so_both (λ (ts : List ℕ). times_ok ts ≡ true) on (set times ev (time + base)) times
       (λ e. times_set times ev (time + base) (omega arith) ok)
       (λ e. ok)
 
@@ -134,7 +131,6 @@ pub record SoundFacts (o : Others) (v : View) : Type 0 where
   pub times_long : length v.times ≡ v.state.settings.ev_count
   pub times_ok_lem : times_ok v.times ≡ true
   pub cursor_ok : v.state.cursor < v.state.settings.ev_count
-  pub single_ok : SoundSingle v.state.settings.ev_count v.state.clock v.state.single
   pub named : v.state.phase ≡ phase_of v.state.settings.mtu v.state.window.cwnd v.state.totals
 
 pub name_facts : (c : Controller) → named_ok c ≡ true → c.phase ≡ phase_of c.settings.mtu c.window.cwnd c.totals
@@ -150,8 +146,7 @@ unfolding sound_among
 among_facts o v e =
     let c = v.state in
     let name = both _ (named_ok c) e in
-    let single = both _ (sound_single c.settings.ev_count c.clock c.single) name.0 in
-    let cursor = both _ (ltb c.cursor c.settings.ev_count) single.0 in
+    let cursor = both _ (ltb c.cursor c.settings.ev_count) name.0 in
     let times = both _ (times_ok v.times) cursor.0 in
     let long = both _ (eqb (length v.times) c.settings.ev_count) times.0 in
     let clock = both _ (ltb c.clock time_end) long.0 in
@@ -165,7 +160,6 @@ among_facts o v e =
       times_long = eqb-true (length v.times) c.settings.ev_count long.1;
       times_ok_lem = times.1;
       cursor_ok = ltb-true c.cursor c.settings.ev_count cursor.1;
-      single_ok = single_facts c.settings.ev_count c.clock c.single single.1;
       named = name_facts c name.1;
     }
 
@@ -182,14 +176,12 @@ facts_among o v S =
     (whole
     (whole
     (whole
-    (whole
     (whole (range_test c.settings S.range) (window_test c.settings c.clock c.window S.sound_window_lem))
     S.sound_ledger_lem)
     (lt-ltb c.clock time_end S.clock_ok))
     (eq-eqb (length v.times) c.settings.ev_count S.times_long))
     S.times_ok_lem)
     (lt-ltb c.cursor c.settings.ev_count S.cursor_ok))
-    (single_test c.settings.ev_count c.clock c.single S.single_ok))
     (name_test c S.named)
 
 -- ---- what judging and stepping rely on
@@ -236,19 +228,52 @@ sound_to_ledger w e = holds_ledger w (sound_holds w e)
 pub sound_bounded : (w : World) → sound w ≡ true → Bounded w.state
 sound_bounded w e = holds_bounded w (sound_holds w e)
 
+-- ---- the tests in their order, as the code makes them
+
+module _ (o : Others) (few : Few o) (v : View) (range : Bool) (range-is : range ≡ in_range v.state.settings) where
+  pub not_range : not range ≡ true → false ≡ sound_among o v
+  unfolding sound_among
+  not_range e = rw (sym range-is ∙ not-true range e)
+
+  module _ (r : not range ≡ false) (window-ok : Bool)
+      (window-is : window-ok ≡ sound_window v.state.settings v.state.clock v.state.window) where
+    pub not_window : not window-ok ≡ true → false ≡ sound_among o v
+    unfolding sound_among
+    not_window e = rw (sym range-is ∙ not-false range r, sym window-is ∙ not-true window-ok e)
+
+    module _
+        (h : not window-ok ≡ false) (books : Bool)
+        (books-is : books ≡ sound_ledger v.state.settings.mtu v.state.settings.maxwnd v.state.clock o (ledger_in v)) where
+      pub not_ledger : not books ≡ true → false ≡ sound_among o v
+      unfolding sound_among
+      not_ledger e = rw (sym range-is ∙ not-false range r, sym window-is ∙ not-false window-ok h, sym books-is ∙ not-true books e)
+
+      module _ (l : not books ≡ false) where
+        pub tests_bounded : Bounded v.state
+        tests_bounded =
+            parts_bounded o few v (range_facts v.state.settings (sym range-is ∙ not-false range r)) (sym books-is ∙ not-false books l)
+            (window_facts v.state.settings v.state.clock v.state.window (sym window-is ∙ not-false window-ok h))
+
+        pub tests_left :
+            (ok : Bool) (name : ℕ) → ok ≡ times_ok v.times →
+            name ≡ phase_of v.state.settings.mtu v.state.window.cwnd v.state.totals →
+            (ltb v.state.clock time_end && eqb (length v.times) v.state.settings.ev_count && ok
+            && ltb v.state.cursor v.state.settings.ev_count && eqb v.state.phase name) ≡ sound_among o v
+        unfolding sound_among named_ok
+        tests_left ok name t is =
+            rw (sym range-is ∙ not-false range r, sym window-is ∙ not-false window-ok h, sym books-is ∙ not-false books l, t, is)
+
 -- ---- the way back
 
 -- a state that the rule names is sound where its parts are
 pub stated_sound :
-    (o : Others) (s : Settings) (f : Flow) (t : Totals) (v : Window) (time cursor : ℕ) (single : Single) (r : Ring)
-    (times : List ℕ) →
+    (o : Others) (s : Settings) (f : Flow) (t : Totals) (v : Window) (time cursor : ℕ) (r : Ring) (times : List ℕ) →
     InRange s → SoundWindow s time v → sound_ledger s.mtu s.maxwnd time o (ledger f t r) ≡ true → time < time_end →
     length times ≡ s.ev_count → times_ok times ≡ true → cursor < s.ev_count
-    → SoundSingle s.ev_count time single
-    → sound_among o (view (state_of s f t v time cursor single) r times) ≡ true
+    → sound_among o (view (state_of s f t v time cursor) r times) ≡ true
 unfolding state_of
-stated_sound o s f t v time cursor single r times range window-ok sound_ledger_lem clock long ok at one =
-    facts_among o (view (state_of s f t v time cursor single) r times)
+stated_sound o s f t v time cursor r times range window-ok sound_ledger_lem clock long ok at =
+    facts_among o (view (state_of s f t v time cursor) r times)
     (record {
       range = range;
       sound_window_lem = window-ok;
@@ -257,7 +282,6 @@ stated_sound o s f t v time cursor single r times range window-ok sound_ledger_l
       times_long = long;
       times_ok_lem = ok;
       cursor_ok = at;
-      single_ok = one;
       named = refl;
     })
 
@@ -266,7 +290,6 @@ pub settled_sound :
     InRange c.settings → SoundWindow c.settings time v → sound_ledger c.settings.mtu c.settings.maxwnd time o l ≡ true
     → time < time_end →
     length times ≡ c.settings.ev_count → times_ok times ≡ true → c.cursor < c.settings.ev_count
-    → SoundSingle c.settings.ev_count time c.single
     → sound_among o (settled time c l v times) ≡ true
 unfolding settled
-settled_sound o time c l v times = stated_sound o c.settings l.flow l.totals v time c.cursor c.single l.slots times
+settled_sound o time c l v times = stated_sound o c.settings l.flow l.totals v time c.cursor l.slots times

@@ -167,7 +167,6 @@ module _ (s : Settings) (m : Memory) (times : List ℕ) where
         times_long = length-replicate {A = ℕ} (length times) 0 ∙ eqb-true (length times) s.ev_count p.1;
         times_ok_lem = times_zero (length times);
         cursor_ok = omega (arith, ev_count_bounds s.ev_count R.evs_allowed);
-        single_ok = record { ev_inside = omega (arith, ev_count_bounds s.ev_count R.evs_allowed); not_past = omega arith };
         named = sym fresh_named;
       })
 

@@ -294,20 +294,20 @@ module _ {o : Others} {v : View} (S : SoundFacts o v) where
 
 pub settles : (time : ℕ) (c : Controller) (l : Ledger) {v u : Window} {times evs : List ℕ} {d : Controller} {f : Flow} {t : Totals}
     {m : Memory}
-    → kept f t m ≡ kept_of l → u ≡ v → evs ≡ times → d ≡ state_of c.settings f t u time c.cursor c.single
+    → kept f t m ≡ kept_of l → u ≡ v → evs ≡ times → d ≡ state_of c.settings f t u time c.cursor
     → world d m evs ≡ world_of (settled time c l v times)
 unfolding settled
 settles time c l e ev et ed = rw (← kept_flow l e, ← kept_totals l e, ← kept_slots l e, ← ev, ← et, ed)
 
 -- the window and the EV times of each event are the definition's, from what the calls before them gave
 module _ (time : ℕ) (v : View) {x : Packet} {z : ℤ} {u : Window} {evs : List ℕ} {d : Controller} {f : Flow} {t : Totals} {m : Memory}
-    (ez : z ≡ t.in_flight) (ed : d ≡ state_of v.state.settings f t u time v.state.cursor v.state.single) where
+    (ez : z ≡ t.in_flight) (ed : d ≡ state_of v.state.settings f t u time v.state.cursor) where
   pub ack_is : (a : Ack) {newly : ℕ} {p : Sample} → newly ≡ newly_of a.count v.state.flow.held
       → x ≡ packet_of v.state.flow v.slots a.trigger
       → p ≡ sample_of (is_out x) x.resent a.retx time x.sent a.service
       → kept f t m ≡ kept_of (acknowledge_of a.cum a.map a.count (ledger_in v))
       → u ≡ ack_of v.state.settings time newly a.marked p z v.state.window
-      → evs ≡ avoided_in v.state.settings a.marked a.ev time v.state.window.base v.times
+      → evs ≡ avoided_in a.marked a.ev time v.state.window.base v.times
       → world d m evs ≡ world_of (ack_step time a v)
   unfolding ack_step ack_sample
   ack_is a en ex ep el eu ee =
@@ -324,7 +324,7 @@ module _ (time : ℕ) (v : View) {x : Packet} {z : ℤ} {u : Window} {evs : List
       → p ≡ sample_of (is_out x) x.resent a.retx time x.sent 0
       → kept f t m ≡ kept_of (mark_of a.psn (ledger_in v))
       → u ≡ nack_of v.state.settings time x.size a.reason p z v.state.window
-      → evs ≡ avoided_in v.state.settings (a.marked || eqb a.reason 0) a.ev time v.state.window.base v.times
+      → evs ≡ avoided_in (a.marked || eqb a.reason 0) a.ev time v.state.window.base v.times
       → world d m evs ≡ world_of (nack_step time a v)
   unfolding nack_step nack_sample
   nack_is a ex ep el eu ee =
@@ -341,7 +341,7 @@ module _ (time : ℕ) (v : View) {x : Packet} {z : ℤ} {u : Window} {evs : List
   pub loss_is : (a : Loss) → x ≡ packet_of v.state.flow v.slots a.psn
       → kept f t m ≡ kept_of (mark_of a.psn (ledger_in v))
       → u ≡ loss_of v.state.settings time x.size z v.state.window
-      → evs ≡ avoided_in v.state.settings true a.ev time v.state.window.base v.times
+      → evs ≡ avoided_in true a.ev time v.state.window.base v.times
       → world d m evs ≡ world_of (loss_step time a v)
   unfolding loss_step
   loss_is a ex el eu ee =
@@ -372,3 +372,11 @@ module _ (out : Bool) (resent : ℕ) (retx : Bool) (time sent service : ℕ) {p 
 
   pub sampled_at : Sampled p
   sampled_at = rw sample_at (sample_bounds out resent retx time sent service)
+
+-- ---- a path choice stays among the EVs
+
+pub taken_inside : (time cursor : ℕ) (evs : List ℕ) {n : ℕ} {x : Choice} → x ≡ choice time cursor evs → length evs ≡ n → cursor < n
+    → (x.ev < n) × (x.cursor < n)
+taken_inside time cursor evs e long at =
+    let i = choice_inside time cursor evs (omega arith) in
+    rw e (omega (arith, i.ev_inside), omega (arith, i.cursor_inside))

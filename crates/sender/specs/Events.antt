@@ -6,10 +6,8 @@ use Rattle.rules.specs.Branch.{if_eq}
 use Rattle.rules.specs.Rows.{first_of}
 use Rattle.window.specs.declared.Sampling.{Sampling}
 use Rattle.sender.specs.World.{World, Answered, Routing, ring_of, view_of, world_of}
-use Rattle.sender.specs.Rows.{with_sound, new_data_rows, send_all_rows, ack_all_rows, nack_all_rows, loss_all_rows, path_rows, move_rows}
+use Rattle.sender.specs.Rows.{with_sound, new_data_rows, send_all_rows, ack_all_rows, nack_all_rows, loss_all_rows, path_rows}
 use Rattle.sender.specs.Steps.{new_data_step, send_step, ack_sampling, ack_step, nack_sampling, nack_step, loss_step, path_step, route_of}
-use Rattle.sender.specs.Steps.{move_state, move_step}
-use Rattle.sender.specs.declared.Controller.{Controller}
 use Rattle.sender.specs.declared.Feedback.{Feedback}
 use Rattle.sender.specs.declared.Feedback.TheVariants.{Sampled, Nothing}
 use Rattle.sender.specs.declared.Send.{Send}
@@ -58,9 +56,6 @@ on_path time w =
     if_eq n 0 (record { number = 0; ev = (route_of time (view_of w)).ev; after = world_of (path_step time (view_of w)) })
     (record { number = n; ev = 0; after = w })
 
-unfoldable pub on_move : ℕ → World → Answered
-on_move time w = decided (first_of (with_sound w (move_rows time w.state))) w (world_of (move_step time (view_of w)))
-
 -- ---- Each event past number 2, for a caller who knows that state and buffers hold together: document 01, "a replay may test it once and
 -- rely on what its steps preserve".
 
@@ -90,10 +85,3 @@ past_path time w =
     let n = first_of (path_rows time w.state) in
     if_eq n 0 (record { number = 0; ev = (route_of time (view_of w)).ev; after = world_of (path_step time (view_of w)) })
     (record { number = n; ev = 0; after = w })
-
-unfoldable pub past_move : ℕ → World → Answered
-past_move time w = decided (first_of (move_rows time w.state)) w (world_of (move_step time (view_of w)))
-
--- what a move of this number leaves of the state
-unfoldable pub move_by : ℕ → ℕ → Controller → Controller
-move_by number time c = if_eq number 0 (move_state time c) c

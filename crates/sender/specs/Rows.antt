@@ -6,8 +6,7 @@ use Rattle.rules.specs.Rows.{Row, row}
 use Rattle.rules.specs.Test.{inside}
 use Rattle.serial.specs.Psn.{covered}
 use Rattle.serial.specs.Count.{counts}
-use Rattle.window.specs.Range.{is_single, in_range}
-use Rattle.paths.specs.Single.{may_move}
+use Rattle.window.specs.Range.{in_range}
 use Rattle.window.specs.declared.Settings.{Settings}
 use Rattle.ledger.specs.Bounds.{size_least, backlog_most}
 use Rattle.ledger.specs.Ring.{Ring}
@@ -80,13 +79,6 @@ loss_all_rows time a c r = time_row time c ∷ (loss_fields a c ++ mark_rows c.f
 
 abbrev pub path_rows : ℕ → Controller → List Row
 path_rows time c = time_row time c ∷ []
-
--- request M-112, a move: "Otherwise, or outside this profile, it is refusal 26, tested after 3"
-abbrev pub move_rows : ℕ → Controller → List Row
-move_rows time c =
-    time_row time c
-    ∷ row (not (is_single c.settings && may_move c.totals.flying c.settings.t_reroute c.window.base time c.single)) 26
-    ∷ []
 
 -- "state or buffers don't hold together" (2), before all others
 abbrev pub with_sound : World → List Row → List Row

@@ -4,7 +4,6 @@ use Rattle.std.specs.Prelude.{◌≡◌, Bool, true, ◌&&◌, List, [], ◌∷�
 use Rattle.window.specs.Limits.{time_end, later_end}
 use Rattle.window.specs.Range.{in_range}
 use Rattle.window.specs.Sound.{sound_window}
-use Rattle.paths.specs.Single.{sound_single}
 use Rattle.ledger.specs.Sound.{Others, alone, Few, sound_ledger}
 use Rattle.sender.specs.World.{World, View, view_of, ledger_in}
 use Rattle.sender.specs.Named.{phase_of}
@@ -30,7 +29,6 @@ sound_among o v =
     && eqb (length v.times) c.settings.ev_count
     && times_ok v.times
     && ltb c.cursor c.settings.ev_count
-    && sound_single c.settings.ev_count c.clock c.single
     && named_ok c
 
 -- a flow by itself

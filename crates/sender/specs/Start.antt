@@ -7,7 +7,6 @@ use Rattle.rules.specs.Mode.{off}
 use Rattle.rules.specs.Rows.{first_of}
 use Rattle.window.specs.Sound.{fresh_of}
 use Rattle.window.specs.declared.Settings.{Settings}
-use Rattle.paths.specs.Single.{no_move}
 use Rattle.ledger.specs.Memory.{Memory, memory}
 use Rattle.ledger.specs.declared.Flow.{Flow}
 use Rattle.ledger.specs.declared.Totals.{Totals}
@@ -35,8 +34,6 @@ no_settings =
       first_psn = 0;
       quick_adapt_off = off;
       ev_count = 0;
-      single_path = off;
-      t_reroute = 0;
     }
 
 abbrev pub fresh_flow : ℕ → Flow
@@ -56,7 +53,6 @@ fresh_state s =
       clock = 0;
       cursor = 0;
       phase = idle;
-      single = no_move;
     }
 
 abbrev pub zeros : List ℕ → List ℕ

@@ -1,19 +1,16 @@
 -- What each accepted event does: "Accepted is 0; the clock becomes the event's time." The ledger's step, then the window rules, then the
 -- EV's time with the base held before the event, then the state's name.
 -- Assumes nothing.
-use Rattle.std.specs.Prelude.{Bool, true, not, ◌&&◌, ◌||◌, List, ℕ, ◌+◌, eqb}
+use Rattle.std.specs.Prelude.{Bool, true, ◌||◌, List, ℕ, ◌+◌, eqb}
 use Rattle.rules.specs.Branch.{if_so}
 use Rattle.window.specs.Delays.{sample_of, sampling_of}
-use Rattle.window.specs.Range.{is_single}
 use Rattle.window.specs.Events.{ack_of, nack_of, loss_of}
 use Rattle.window.specs.declared.Settings.{Settings}
 use Rattle.window.specs.declared.Window.{Window}
 use Rattle.window.specs.declared.Sample.{Sample}
 use Rattle.window.specs.declared.Sampling.{Sampling}
-use Rattle.paths.specs.Path.{with_time}
-use Rattle.paths.specs.Single.{moved_to, routed}
+use Rattle.paths.specs.Path.{with_time, choice}
 use Rattle.paths.specs.declared.Choice.{Choice}
-use Rattle.paths.specs.declared.single.Single.{Single}
 use Rattle.ledger.specs.Packets.{is_out}
 use Rattle.ledger.specs.Ring.{Ledger, packet_of}
 use Rattle.ledger.specs.Steps.{supplied, supplied_totals, push_of, resend_of, mark_of, acknowledge_of, newly_of}
@@ -28,8 +25,8 @@ use Rattle.sender.specs.declared.Nack.{Nack}
 use Rattle.sender.specs.declared.Loss.{Loss}
 
 -- the state at a time, with the name that the rule gives it
-unfoldable pub state_of : Settings → Flow → Totals → Window → ℕ → ℕ → Single → Controller
-state_of s f t v time cursor single =
+unfoldable pub state_of : Settings → Flow → Totals → Window → ℕ → ℕ → Controller
+state_of s f t v time cursor =
     record {
       settings = s;
       flow = f;
@@ -38,21 +35,19 @@ state_of s f t v time cursor single =
       clock = time;
       cursor = cursor;
       phase = phase_of s.mtu v.cwnd t;
-      single = single;
     }
 
 -- the view once a ledger, a window and EV times came out
 unfoldable pub settled : ℕ → Controller → Ledger → Window → List ℕ → View
-settled time c l u times = view (state_of c.settings l.flow l.totals u time c.cursor c.single) l.slots times
+settled time c l u times = view (state_of c.settings l.flow l.totals u time c.cursor) l.slots times
 
--- "that EV's time becomes now + the base held before the event", where feedback says so; request M-112: in the
--- single-path profile "event feedback changes no EV time"
-unfoldable pub avoided_in : Settings → Bool → ℕ → ℕ → ℕ → List ℕ → List ℕ
-avoided_in s on ev time base times = if_so (on && not (is_single s)) (with_time times ev (time + base)) times
+-- "that EV's time becomes now + the base held before the event", where feedback says so
+unfoldable pub avoided_in : Bool → ℕ → ℕ → ℕ → List ℕ → List ℕ
+avoided_in on ev time base times = if_so on (with_time times ev (time + base)) times
 
 unfoldable pub new_data_state : ℕ → ℕ → Controller → Controller
 new_data_state time bytes c =
-    state_of c.settings (supplied bytes c.flow) (supplied_totals bytes c.totals) c.window time c.cursor c.single
+    state_of c.settings (supplied bytes c.flow) (supplied_totals bytes c.totals) c.window time c.cursor
 
 unfoldable pub new_data_step : ℕ → ℕ → View → View
 new_data_step time bytes v = view (new_data_state time bytes v.state) v.slots v.times
@@ -82,7 +77,7 @@ ack_step time a v =
     let l = acknowledge_of a.cum a.map a.count (ledger_in v) in
     settled time c l
     (ack_of c.settings time (newly_of a.count c.flow.held) a.marked (ack_sample time a v) l.totals.in_flight c.window)
-    (avoided_in c.settings a.marked a.ev time c.window.base v.times)
+    (avoided_in a.marked a.ev time c.window.base v.times)
 
 -- "NACKs use their own PSN and service 0."
 unfoldable pub nack_sample : ℕ → Nack → View → Sample
@@ -103,7 +98,7 @@ nack_step time a v =
     let l = mark_of a.psn (ledger_in v) in
     settled time c l
     (nack_of c.settings time x.size a.reason (nack_sample time a v) l.totals.in_flight c.window)
-    (avoided_in c.settings (a.marked || eqb a.reason 0) a.ev time c.window.base v.times)
+    (avoided_in (a.marked || eqb a.reason 0) a.ev time c.window.base v.times)
 
 -- "and loss": that EV is avoided
 unfoldable pub loss_step : ℕ → Loss → View → View
@@ -112,26 +107,14 @@ loss_step time a v =
     let x = packet_of c.flow v.slots a.psn in
     let l = mark_of a.psn (ledger_in v) in
     settled time c l (loss_of c.settings time x.size l.totals.in_flight c.window)
-    (avoided_in c.settings true a.ev time c.window.base v.times)
+    (avoided_in true a.ev time c.window.base v.times)
 
 -- the next path
 unfoldable pub path_state : ℕ → ℕ → Controller → Controller
-path_state time cursor c = state_of c.settings c.flow c.totals c.window time cursor c.single
-
--- the EV that is taken, and the cursor after it
-abbrev pub route_in : ℕ → Controller → List ℕ → Choice
-route_in time c times = routed (is_single c.settings) c.single time c.cursor times
+path_state time cursor c = state_of c.settings c.flow c.totals c.window time cursor
 
 abbrev pub route_of : ℕ → View → Choice
-route_of time v = route_in time v.state v.times
+route_of time v = choice time v.state.cursor v.times
 
 unfoldable pub path_step : ℕ → View → View
 path_step time v = view (path_state time (route_of time v).cursor v.state) v.slots v.times
-
--- request M-112, a move: "The new EV is the old one plus 1, modulo the EV count"
-unfoldable pub move_state : ℕ → Controller → Controller
-move_state time c =
-    state_of c.settings c.flow c.totals c.window time c.cursor (moved_to c.settings.ev_count time c.single)
-
-unfoldable pub move_step : ℕ → View → View
-move_step time v = view (move_state time v.state) v.slots v.times

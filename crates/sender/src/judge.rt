@@ -1,15 +1,14 @@
 // Which refusal past 2 an event meets first, in document 01's order, or accepted where it meets none. Nothing is changed.
 // Inner steps: the caller proves that state and buffers hold together.
-ghost use Rattle.std.specs.Prelude.{◌≡◌, ◌||◌, ◌≤◌, ◌^◌, ltb, leb};
+ghost use Rattle.std.specs.Prelude.{◌≡◌, ◌||◌, ltb, leb};
 ghost use Rattle.rules.specs.Rows.{first_of};
 ghost use Rattle.rules.specs.Verdict.{number_of};
 ghost use Rattle.ledger.specs.Lent.{memory_given, memory_before};
 ghost use Rattle.ledger.specs.Memory.{shown};
 ghost use Rattle.ledger.specs.Sound.{Lengths};
 ghost use Rattle.window.specs.Limits.{time_end};
-ghost use Rattle.paths.specs.Single.{SoundSingle};
 ghost use Rattle.sender.specs.Bounds.{Bounded, room_after};
-ghost use Rattle.sender.specs.Rows.{new_data_rows, send_all_rows, ack_all_rows, nack_all_rows, loss_all_rows, path_rows, move_rows};
+ghost use Rattle.sender.specs.Rows.{new_data_rows, send_all_rows, ack_all_rows, nack_all_rows, loss_all_rows, path_rows};
 
 use crate::naming::has_room;
 use crate::{Ack, Controller, Loss, Nack, Send};
@@ -188,28 +187,6 @@ pub(crate) fn judge_path(c: Controller, time: u64) -> Verdict
 {
     if bad_time(time, c.clock) {
         return Verdict::Time;
-    }
-    Verdict::Accepted
-}
-
-// A move: 3, 26.
-pub(crate) fn judge_move(c: Controller, time: u64) -> Verdict
-    requires sound_single { SoundSingle c.settings.ev_count c.clock c.single }
-    requires base_bound { c.window.base ≤ 2 ^ 14 }
-    ensures { number_of result ≡ first_of (move_rows time c) }
-{
-    let settings = c.settings;
-    let totals = c.totals;
-    let window = c.window;
-    let single = c.single;
-    if bad_time(time, c.clock) {
-        return Verdict::Time;
-    }
-    if !rules::is_on(settings.single_path) {
-        return Verdict::NoMove;
-    }
-    if !paths::single::may_move(totals.flying, settings.t_reroute, window.base, time, single) {
-        return Verdict::NoMove;
     }
     Verdict::Accepted
 }

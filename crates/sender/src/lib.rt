@@ -15,7 +15,6 @@ ghost use Rattle.std.proofs.Math.Option.{none};
 ghost use Rattle.sender.specs.Events.{says_of};
 
 use ledger::{Flow, Totals};
-use paths::single::Single;
 use rules::verdict::Verdict;
 use window::{Sampling, Settings, Window};
 
@@ -45,8 +44,6 @@ pub struct Controller {
     pub clock: u64,
     pub cursor: u32,
     pub phase: u32,
-    // Request M-112: the current EV and the time of the last move.
-    pub single: Single,
 }
 
 // What an event answers: the whole state, and the verdict on it.

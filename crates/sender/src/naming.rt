@@ -6,7 +6,6 @@ ghost use Rattle.sender.specs.Steps.{state_of};
 
 use crate::Controller;
 use ledger::{Flow, Totals};
-use paths::single::Single;
 use window::{Settings, Window};
 
 // Whether in-flight + MTU is at most cwnd. An inner step: the caller proves the bounds.
@@ -40,11 +39,10 @@ pub(crate) fn state_of(
     window: Window,
     time: u64,
     cursor: u32,
-    single: Single,
 ) -> Controller
     requires flown { Flown (2 ^ 26) totals.in_flight }
     requires mtu_bound { (settings.mtu ≤ 2 ^ 14) × (window.cwnd ≤ 2 ^ 26) }
-    ensures { result ≡ state_of settings flow totals window time cursor single }
+    ensures { result ≡ state_of settings flow totals window time cursor }
 {
     let phase = phase_of(settings.mtu, window.cwnd, totals);
     Controller {
@@ -55,6 +53,5 @@ pub(crate) fn state_of(
         clock: time,
         cursor,
         phase,
-        single,
     }
 }

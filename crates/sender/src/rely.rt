@@ -2,16 +2,12 @@
 // once; what an event leaves holds together again (proofs/Kept), whatever it answers. What is accepted answers `Accepted` itself and not
 // its judge's verdict: so the compiler knows it, and where a replay goes on does not wait for the event. A NACK and a loss, which share
 // their judge, have one answer for both cases instead: with two the compiler copies the state for every event (docs/PERFORMANCE.md).
-ghost use Rattle.std.specs.Prelude.{◌≡◌, ◌≤◌, ◌^◌};
-ghost use Rattle.rules.specs.Rows.{first_of};
-ghost use Rattle.paths.specs.Single.{SoundSingle};
+ghost use Rattle.std.specs.Prelude.{◌≡◌};
 ghost use Rattle.rules.specs.Verdict.{number_of};
 ghost use Rattle.sender.specs.Lent.{world_given, world_before, answered_after, routed_after};
 ghost use Rattle.sender.specs.Sound.{Holds};
 ghost use Rattle.sender.specs.Events.{says_of, past_new_data, past_send, past_ack, past_ack_says, past_nack, past_nack_says};
-ghost use Rattle.sender.specs.Events.{past_loss, past_path, move_by};
-ghost use Rattle.sender.specs.Bounds.{Bounded};
-ghost use Rattle.sender.specs.Rows.{move_rows};
+ghost use Rattle.sender.specs.Events.{past_loss, past_path};
 
 use crate::{
     Ack, Answer, Controller, Feedback, Heard, Loss, Nack, Routed, Send, judge, steps, unheard,
@@ -183,22 +179,5 @@ pub fn path<'a>(
         state,
         verdict: Verdict::Accepted,
         ev: stepped.ev,
-    }
-}
-
-// A move to the next EV (request M-112). It changes what all flows share alone, so nothing is lent.
-pub fn move_ev(c: Controller, time: u64) -> Answer
-    requires bounded { Bounded c × (c.window.base ≤ 2 ^ 14) }
-    requires sound_single { SoundSingle c.settings.ev_count c.clock c.single }
-    ensures { (number_of result.verdict ≡ first_of (move_rows time c)) × (result.state ≡ move_by (number_of result.verdict) time c) }
-{
-    let verdict = judge::judge_move(c, time);
-    if !is_accepted(verdict) {
-        return Answer { state: c, verdict };
-    }
-    let state = steps::move_ev(c, time);
-    Answer {
-        state,
-        verdict: Verdict::Accepted,
     }
 }

@@ -5,7 +5,6 @@ ghost use Rattle.sender.specs.Start.{no_settings, fresh_state, zeros, clear_memo
 
 use crate::Controller;
 use ledger::{Flow, Totals};
-use paths::single::Single;
 use window::Settings;
 
 // Zeros over a lent slice, at each width.
@@ -49,8 +48,6 @@ pub fn no_settings() -> Settings
         first_psn: 0,
         quick_adapt_off: rules::OFF,
         ev_count: 0,
-        single_path: rules::OFF,
-        t_reroute: 0,
     }
 }
 
@@ -78,10 +75,6 @@ pub fn fresh(settings: Settings) -> Controller
         clock: 0,
         cursor: 0,
         phase: crate::IDLE,
-        single: Single {
-            current_ev: 0,
-            last_move: 0,
-        },
     }
 }
 

@@ -8,17 +8,17 @@ ghost use Rattle.sender.specs.World.{ring_of, view_of, world_of};
 ghost use Rattle.sender.specs.Lent.{world_given, world_before, world_after};
 ghost use Rattle.sender.specs.Sound.{times_ok, Holds};
 ghost use Rattle.sender.specs.Rows.{new_data_rows, send_all_rows, ack_all_rows, nack_all_rows, loss_all_rows};
-ghost use Rattle.paths.specs.Single.{SoundSingle};
+ghost use Rattle.paths.specs.Path.{choice};
 ghost use Rattle.window.specs.Limits.{time_end};
 ghost use Rattle.sender.specs.Bounds.{Bounded};
-ghost use Rattle.sender.specs.Steps.{avoided_in, new_data_state, send_step, ack_sampling, ack_step, nack_sampling, nack_step};
-ghost use Rattle.sender.specs.Steps.{loss_step, route_in, path_state, move_state};
+ghost use Rattle.sender.specs.Steps.{avoided_in, new_data_state, send_step, ack_sampling, ack_step, nack_sampling, nack_step, loss_step};
+ghost use Rattle.sender.specs.Steps.{path_state};
 
 use crate::naming::state_of;
 use crate::{Ack, Controller, Loss, Nack, Send};
 use ledger::{Books, Packet};
+use window::Sampling;
 use window::delay::sample_in;
-use window::{Sampling, Settings};
 
 // A path choice: the state, and the EV.
 #[derive(Clone, Copy)]
@@ -42,12 +42,12 @@ fn sampled(x: Packet, retx: bool, time: u64, service: u64) -> Sampling
     window::delay::sampling(outstanding, x.resent as u64, retx, time, x.sent, service)
 }
 
-// Where feedback says so, an EV is avoided until now and the base; in the single-path profile it changes no EV time (request M-112).
-fn avoid(s: Settings, on: bool, ev: u32, time: u64, base: u64, evs: &mut [u64])
+// Where feedback says so, an EV is avoided until now and the base.
+fn avoid(on: bool, ev: u32, time: u64, base: u64, evs: &mut [u64])
     requires { (ev < length evs.old) × (time < 2 ^ 48) × (base ≤ 2 ^ 14) }
-    ensures { evs.new ≡ avoided_in s on ev time base evs.old }
+    ensures { evs.new ≡ avoided_in on ev time base evs.old }
 {
-    if on & !rules::is_on(s.single_path) {
+    if on {
         paths::avoid_until(evs, ev as usize, time + base);
     }
 }
@@ -62,17 +62,8 @@ pub(crate) fn new_data(c: Controller, time: u64, bytes: u64) -> Controller
     let flow = c.flow;
     let totals = c.totals;
     let window = c.window;
-    let single = c.single;
     let after = ledger::send::supply(bytes, Books { flow, totals });
-    state_of(
-        settings,
-        after.flow,
-        after.totals,
-        window,
-        time,
-        c.cursor,
-        single,
-    )
+    state_of(settings, after.flow, after.totals, window, time, c.cursor)
 }
 
 // A new packet or a resend.
@@ -95,30 +86,13 @@ pub(crate) fn send<'a, 'b, 'c, 'd, 'e>(
     let window = c.window;
     let flow = c.flow;
     let totals = c.totals;
-    let single = c.single;
     let books = Books { flow, totals };
     if a.resend {
         let after = ledger::send::resend(time, a.psn, books, outstanding, marked, sizes, sent);
-        return state_of(
-            settings,
-            after.flow,
-            after.totals,
-            window,
-            time,
-            c.cursor,
-            single,
-        );
+        return state_of(settings, after.flow, after.totals, window, time, c.cursor);
     }
     let after = ledger::send::push(time, a.size, books, outstanding, marked, sizes, sent);
-    state_of(
-        settings,
-        after.flow,
-        after.totals,
-        window,
-        time,
-        c.cursor,
-        single,
-    )
+    state_of(settings, after.flow, after.totals, window, time, c.cursor)
 }
 
 // An ACK: the sample is read before the ledger's step, and the window's rules come after it.
@@ -142,7 +116,6 @@ pub(crate) fn ack<'a, 'b, 'c, 'd, 'e>(
     let flow = c.flow;
     let totals = c.totals;
     let window = c.window;
-    let single = c.single;
     let base = window.base;
     let newly = ledger::judge::newly(a.count, flow.held);
     let x = ledger::slots::find(flow, outstanding, marked, sizes, sent, a.trigger);
@@ -161,8 +134,8 @@ pub(crate) fn ack<'a, 'b, 'c, 'd, 'e>(
     let f = after.flow;
     let t = after.totals;
     let w = window::events::ack(settings, time, newly, a.marked, sample, t.in_flight, window);
-    avoid(settings, a.marked, a.ev, time, base, evs);
-    let state = state_of(settings, f, t, w, time, c.cursor, single);
+    avoid(a.marked, a.ev, time, base, evs);
+    let state = state_of(settings, f, t, w, time, c.cursor);
     Sensed { state, sampling }
 }
 
@@ -187,7 +160,6 @@ pub(crate) fn nack<'a, 'b, 'c>(
     let flow = c.flow;
     let totals = c.totals;
     let window = c.window;
-    let single = c.single;
     let base = window.base;
     let x = ledger::slots::find(flow, outstanding, marked, sizes, sent, a.psn);
     let sampling = sampled(x, a.retx, time, 0);
@@ -205,8 +177,8 @@ pub(crate) fn nack<'a, 'b, 'c>(
         t.in_flight,
         window,
     );
-    avoid(settings, a.marked | (a.reason == 0), a.ev, time, base, evs);
-    let state = state_of(settings, f, t, w, time, c.cursor, single);
+    avoid(a.marked | (a.reason == 0), a.ev, time, base, evs);
+    let state = state_of(settings, f, t, w, time, c.cursor);
     Sensed { state, sampling }
 }
 
@@ -230,7 +202,6 @@ pub(crate) fn loss<'a, 'b, 'c>(
     let flow = c.flow;
     let totals = c.totals;
     let window = c.window;
-    let single = c.single;
     let base = window.base;
     let x = ledger::slots::find(flow, outstanding, marked, sizes, sent, a.psn);
     let books = Books { flow, totals };
@@ -238,50 +209,26 @@ pub(crate) fn loss<'a, 'b, 'c>(
     let f = after.flow;
     let t = after.totals;
     let w = window::events::loss(settings, time, x.size as u64, t.in_flight, window);
-    avoid(settings, true, a.ev, time, base, evs);
-    state_of(settings, f, t, w, time, c.cursor, single)
+    avoid(true, a.ev, time, base, evs);
+    state_of(settings, f, t, w, time, c.cursor)
 }
 
-// The next path: in the single-path profile the current EV, and the cursor stays.
+// The next path.
 pub(crate) fn path(c: Controller, evs: &[u64], time: u64) -> Stepped
     requires bounded { Bounded c }
     requires evs_len { (length evs.now ≡ c.settings.ev_count) × (c.cursor < c.settings.ev_count) }
-    requires sound_single { SoundSingle c.settings.ev_count c.clock c.single }
     requires evs_value { (times_ok evs.now ≡ true) × (time < time_end) }
-    ensures { (result.state ≡ path_state time (route_in time c evs.now).cursor c)
-        × (result.ev ≡ (route_in time c evs.now).ev) }
+    ensures { (result.state ≡ path_state time (choice time c.cursor evs.now).cursor c)
+        × (result.ev ≡ (choice time c.cursor evs.now).ev) }
 {
     let settings = c.settings;
     let flow = c.flow;
     let totals = c.totals;
     let window = c.window;
-    let single = c.single;
-    if rules::is_on(settings.single_path) {
-        let state = state_of(settings, flow, totals, window, time, c.cursor, single);
-        return Stepped {
-            state,
-            ev: single.current_ev as u32,
-        };
-    }
     let taken = paths::choose(evs, c.cursor as usize, time);
-    let cursor = taken.cursor as u32;
-    let state = state_of(settings, flow, totals, window, time, cursor, single);
+    let state = state_of(settings, flow, totals, window, time, taken.cursor as u32);
     Stepped {
         state,
         ev: taken.ev as u32,
     }
-}
-
-// A move to the next EV (request M-112).
-pub(crate) fn move_ev(c: Controller, time: u64) -> Controller
-    requires bounded { Bounded c }
-    requires sound_single { SoundSingle c.settings.ev_count c.clock c.single }
-    ensures { result ≡ move_state time c }
-{
-    let settings = c.settings;
-    let flow = c.flow;
-    let totals = c.totals;
-    let window = c.window;
-    let single = paths::single::moved(c.single, settings.ev_count, time);
-    state_of(settings, flow, totals, window, time, c.cursor, single)
 }

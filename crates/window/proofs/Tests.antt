@@ -1,21 +1,20 @@
 -- The tests of refusals 1 and 2 hold exactly where the facts do; the fresh window is sound; a sample exists exactly as document 01 has it.
 -- Assumes nothing.
-use mathlib.Core.Path.{◌≡◌, refl, sym, ap, ◌∙◌}
-use mathlib.Core.Bool.{Bool, true, false, ◌&&◌, ◌||◌, and-true}
+use mathlib.Core.Path.{◌≡◌, refl, sym, ap}
+use mathlib.Core.Bool.{Bool, true, false, ◌&&◌, ◌||◌}
 use mathlib.Core.Logic.{◌⊎◌, inl, inr}
 use Prim.Native.Nat.{ℕ, ◌+◌, ◌-◌, ◌≤◌, ◌<◌, min}
 use lib.Dec.{ltb, eqb}
 use borrow.Author.Tests.{ltb-true, lt-ltb, eqb-true, eq-eqb}
 use borrow.Author.Rules.{rules}
 use native.Mathlib.Omega.{arith}
-use Rattle.rules.specs.Branch.{if_so, so_both, lt_both, so_yes, so_no, lt_yes, lt_no}
+use Rattle.rules.specs.Branch.{so_both, lt_both, so_yes, so_no, lt_yes, lt_no}
 use Rattle.rules.specs.Test.{inside, both, whole, inside_tells, inside_yes}
-use Rattle.rules.specs.Mode.{is_on, is_mode, mode_tells, mode_yes}
+use Rattle.rules.specs.Mode.{is_mode, mode_tells, mode_yes}
 use Rattle.serial.specs.Psn.{psns}
 use Rattle.window.specs.Limits.{mtu_least, mtu_most, window_most, delay_most, gain_most, alpha_most, parts, period_most, threshold_most}
 use Rattle.window.specs.Limits.{sample_most, avg_most, inc_stop, tally_stop, later_end, max_wnd_of}
-use Rattle.window.specs.Limits.{reroute_least, reroute_most, reroute_end}
-use Rattle.window.specs.Range.{is_ev_count, is_single, is_profile, in_range, InRange}
+use Rattle.window.specs.Range.{is_ev_count, in_range, InRange}
 use Rattle.window.specs.Sound.{sound_window, SoundWindow, fresh_of}
 use Rattle.window.specs.Delays.{one_send, sample_of, take_sample_of, sampling_of, sample_in, Sampled}
 use Rattle.window.specs.declared.Settings.{Settings}
@@ -51,52 +50,10 @@ ev_count_bounds n =
     is : (k : ℕ) → 256 ≤ k → k ≤ 4096 → eqb n k ≡ true → (256 ≤ n) × (n ≤ 4096)
     is k low high e = omega (arith, eqb-true n k e)
 
--- what the code's tests of the profile tell, where the mode is on and where not; t_reroute is a word of 32 bits
-module _ (s : Settings) (b : Bool) (fits : s.t_reroute < reroute_end) where
-  abbrev ranged : Bool
-  ranged = inside reroute_least s.t_reroute reroute_most
-
-  abbrev profiled : Bool → Bool → Bool
-  profiled mode range = mode && ltb s.t_reroute reroute_end && range
-
-  -- the range alone tells, of a mode
-  told : (range : Bool) → is_mode s.single_path ≡ true → range ≡ profiled (is_mode s.single_path) range
-  told range m = rw (m, lt-ltb s.t_reroute reroute_end fits) refl
-
-  pub profile_on : is_single s ≡ true → b ≡ ranged → b ≡ is_profile s
-  unfolding is_profile is_on
-  profile_on on e =
-      e ∙ so_yes (is_single s) ranged ranged true on refl
-      ∙ told (if_so (is_single s) ranged true) (mode_yes s.single_path (omega (arith, eqb-true s.single_path 1 on)))
-
-  pub profile_off : is_single s ≡ false → b ≡ is_mode s.single_path → b ≡ is_profile s
-  unfolding is_profile
-  profile_off off e =
-      e ∙ rw (← so_no (is_single s) true ranged true off refl, lt-ltb s.t_reroute reroute_end fits, and-true, and-true) refl
-
--- in the single-path profile t_reroute is at least 10 and at most 1,000; it is one of 32 bits in any case
-module _ (s : Settings) (e : is_profile s ≡ true) where
-  pub reroute_bounds : is_single s ≡ true → (reroute_least ≤ s.t_reroute) × (s.t_reroute ≤ reroute_most)
-  unfolding is_profile
-  reroute_bounds single =
-      let ranged = (both (is_mode s.single_path && ltb s.t_reroute reroute_end) _ e).1 in
-      inside_tells reroute_least s.t_reroute reroute_most (so_yes (is_single s) _ _ true single refl ∙ ranged)
-
-  flagged : (is_mode s.single_path && ltb s.t_reroute reroute_end) ≡ true
-  unfolding is_profile
-  flagged = (both (is_mode s.single_path && ltb s.t_reroute reroute_end) _ e).0
-
-  pub reroute_fits : s.t_reroute < reroute_end
-  reroute_fits = ltb-true s.t_reroute reroute_end (both (is_mode s.single_path) _ flagged).1
-
-  pub single_high : s.single_path ≤ 1
-  single_high = mode_tells s.single_path (both (is_mode s.single_path) _ flagged).0
-
 pub range_facts : (s : Settings) → in_range s ≡ true → InRange s
 unfolding in_range
 range_facts s e =
-    let profile = both _ (is_profile s) e in
-    let evs = both _ (is_ev_count s.ev_count) profile.0 in
+    let evs = both _ (is_ev_count s.ev_count) e in
     let off = both _ (is_mode s.quick_adapt_off) evs.0 in
     let psn = both _ (ltb s.first_psn psns) off.0 in
     let threshold = row _ 0 s.qa_threshold threshold_most psn.0 in
@@ -133,7 +90,6 @@ range_facts s e =
       psn_high = ltb-true s.first_psn psns psn.1;
       off_high = mode_tells s.quick_adapt_off off.1;
       evs_allowed = evs.1;
-      profile_allowed = profile.1;
     }
 
 pub range_test : (s : Settings) → InRange s → in_range s ≡ true

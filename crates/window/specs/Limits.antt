@@ -38,17 +38,6 @@ period_most = 2 ^ 20
 abbrev pub threshold_most : ℕ
 threshold_most = 2 ^ 20
 
--- request M-112: "t_reroute is a setting of 10..1,000"
-abbrev pub reroute_least : ℕ
-reroute_least = 10
-
-abbrev pub reroute_most : ℕ
-reroute_most = 1000
-
--- "followed at the record's end by t_reroute in 4 bytes"
-abbrev pub reroute_end : ℕ
-reroute_end = 2 ^ 32
-
 -- "Time is in ticks of 128 ns, below 2^48"
 abbrev pub time_end : ℕ
 time_end = 2 ^ 48

@@ -1,11 +1,11 @@
 // The ranges of the settings, the bounds of the window's numbers, and the fresh window.
 ghost use Rattle.std.specs.Prelude.{◌≡◌, ◌≤◌};
 ghost use Rattle.window.specs.Limits.{max_wnd_of};
-ghost use Rattle.window.specs.Range.{is_ev_count, is_profile, numbers_in, in_range, InRange};
+ghost use Rattle.window.specs.Range.{is_ev_count, in_range, InRange};
 ghost use Rattle.window.specs.Sound.{sound_window, fresh_of};
 
 use crate::{Settings, Window};
-use rules::{OFF, is_mode, is_on, most, within};
+use rules::{OFF, is_mode, most, within};
 
 // max(MTU, MaxWnd·base/config_base_rtt): max_wnd at a base round trip, by request M-101. UET 3.6.13.6, update_base_rtt.
 // An inner step: in these bounds the product does not overflow.
@@ -26,23 +26,9 @@ fn is_ev_count(n: u64) -> bool
     (n == 256) | (n == 512) | (n == 1024) | (n == 2048) | (n == 4096)
 }
 
-// Whether the single-path profile is on or off, and t_reroute in its range, which it has in the profile alone: request M-112.
-fn is_profile(s: Settings) -> bool
-    ensures { result ≡ is_profile s }
-{
-    if is_on(s.single_path) {
-        return within(
-            crate::REROUTE_LEAST,
-            s.t_reroute as u64,
-            crate::REROUTE_MOST,
-        );
-    }
-    is_mode(s.single_path)
-}
-
-// Whether each of the twelve numbers is in its range.
-fn numbers_in(s: Settings) -> bool
-    ensures { result ≡ numbers_in s }
+// Whether every setting is in its range; where not, setting up is refused with 1.
+pub fn in_range(s: Settings) -> bool
+    ensures { result ≡ in_range s }
 {
     within(crate::MTU_LEAST, s.mtu, crate::MTU_MOST)
         & within(s.mtu, s.maxwnd, crate::WINDOW_MOST)
@@ -56,13 +42,8 @@ fn numbers_in(s: Settings) -> bool
         & within(1, s.adjust_period, crate::PERIOD_MOST)
         & within(1, s.adjust_bytes, crate::WINDOW_MOST)
         & within(0, s.qa_threshold, crate::THRESHOLD_MOST)
-}
-
-// Whether every setting is in its range; where not, setting up is refused with 1.
-pub fn in_range(s: Settings) -> bool
-    ensures { result ≡ in_range s }
-{
-    numbers_in(s) & is_mode(s.quick_adapt_off) & is_ev_count(s.ev_count) & is_profile(s)
+        & is_mode(s.quick_adapt_off)
+        & is_ev_count(s.ev_count)
 }
 
 // Whether the window is sound at a clock, every number in its bounds: the window's part of refusal 2. An inner step: the settings are in

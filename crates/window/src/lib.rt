@@ -28,11 +28,6 @@ pub const PERIOD_MOST: u64 = 1 << 20;
 
 pub const THRESHOLD_MOST: u64 = 1 << 20;
 
-// Request M-112: "t_reroute is a setting of 10..1,000".
-pub const REROUTE_LEAST: u64 = 10;
-
-pub const REROUTE_MOST: u64 = 1000;
-
 // "Quick-adapt end or an EV time of 2^49 or more" does not hold together.
 pub const LATER_END: u64 = 1 << 49;
 
@@ -83,9 +78,6 @@ pub struct Settings {
     pub quick_adapt_off: u32,
     // Request M-110: how many EVs there are.
     pub ev_count: u64,
-    // Request M-112: the single-path profile, a mode; and its t_reroute, which outside the profile says nothing.
-    pub single_path: u32,
-    pub t_reroute: u32,
 }
 
 // What the window rules hold between events. `avg` is in 1/1,024 tick; `qa_end` is quick adapt's end; `fast` is fast mode.

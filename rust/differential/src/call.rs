@@ -1,5 +1,5 @@
 use crate::words::{plan_of, turn_of};
-use model::{Event, Loss, Move, NewData, Outcome, Path, Planned, Sampling, Send, Turn};
+use model::{Event, Loss, NewData, Outcome, Path, Planned, Sampling, Send, Turn};
 use nscc::raw::Lent;
 use nscc::{Ack, Nack, Sample};
 
@@ -11,8 +11,6 @@ pub enum Call {
         first_psn: u32,
         quick_adapt_off: bool,
         ev_count: u32,
-        single_path: bool,
-        t_reroute: u32,
     },
     NewData {
         time: u64,
@@ -37,10 +35,6 @@ pub enum Call {
     Path {
         time: u64,
         flow: usize,
-    },
-    /// To the next EV, in the single-path profile.
-    Move {
-        time: u64,
     },
     /// What a flow's ring shows of a PSN.
     Status {
@@ -83,19 +77,15 @@ impl Call {
             first_psn: settings.first_psn,
             quick_adapt_off: settings.quick_adapt_off,
             ev_count: settings.ev_count,
-            single_path: settings.single_path,
-            t_reroute: settings.t_reroute,
         }
     }
 
-    /// The flow that the call is for; `None` for setting up, for moves, choices and plans.
+    /// The flow that the call is for; `None` for setting up, for a choice and for plans.
     pub fn flow(&self) -> Option<usize> {
         match *self {
-            Call::SetUp { .. }
-            | Call::Move { .. }
-            | Call::Choose { .. }
-            | Call::Judge { .. }
-            | Call::Plan { .. } => None,
+            Call::SetUp { .. } | Call::Choose { .. } | Call::Judge { .. } | Call::Plan { .. } => {
+                None
+            }
             Call::Ack(Ack { flow, .. }) | Call::Nack(Nack { flow, .. }) => Some(flow),
             Call::NewData { flow, .. }
             | Call::Send { flow, .. }
@@ -109,11 +99,7 @@ impl Call {
     /// The same call for another flow.
     pub fn for_flow(mut self, other: usize) -> Call {
         match &mut self {
-            Call::SetUp { .. }
-            | Call::Move { .. }
-            | Call::Choose { .. }
-            | Call::Judge { .. }
-            | Call::Plan { .. } => {}
+            Call::SetUp { .. } | Call::Choose { .. } | Call::Judge { .. } | Call::Plan { .. } => {}
             Call::Ack(Ack { flow, .. }) | Call::Nack(Nack { flow, .. }) => *flow = other,
             Call::NewData { flow, .. }
             | Call::Send { flow, .. }
@@ -151,16 +137,7 @@ impl Call {
                 first_psn,
                 quick_adapt_off,
                 ev_count,
-                single_path,
-                t_reroute,
-            } => lent.set_up(
-                settings,
-                *first_psn,
-                *quick_adapt_off,
-                *ev_count,
-                *single_path,
-                *t_reroute,
-            ),
+            } => lent.set_up(settings, *first_psn, *quick_adapt_off, *ev_count),
             Call::NewData { time, flow, bytes } => lent.new_data(*time, *flow, *bytes),
             Call::Send {
                 time,
@@ -178,7 +155,6 @@ impl Call {
                 ev,
             } => lent.loss(*time, *flow, *psn, *ev),
             Call::Path { time, flow } => return lent.path(*time, *flow),
-            Call::Move { time } => lent.move_ev(*time),
             Call::Status { flow, psn } => return lent.show().status(*flow, *psn),
             Call::NextMarked { flow, psn } => return lent.show().next_marked(*flow, *psn),
             Call::Choose { .. } => lent.choose(beside.turn),
@@ -191,8 +167,7 @@ impl Call {
     /// The model's event; `None` for setting up, readings, choices and plans. The model's EVs and
     /// reasons are narrower: a wider one is handed to it as its widest, which it refuses alike.
     pub fn event(&self) -> Option<Event> {
-        // A move has none.
-        let flow = self.flow().unwrap_or(0) as u64;
+        let flow = self.flow()? as u64;
         let event = match *self {
             Call::SetUp { .. }
             | Call::Status { .. }
@@ -223,7 +198,6 @@ impl Call {
                 ev: narrow_ev(ev),
             }),
             Call::Path { time, .. } => Event::Path(Path { time, flow }),
-            Call::Move { time } => Event::Move(Move { time }),
         };
         Some(event)
     }
@@ -274,7 +248,6 @@ impl Call {
                 time,
                 flow: flow_number(flow),
             },
-            Event::Move(Move { time }) => Call::Move { time },
         }
     }
 }

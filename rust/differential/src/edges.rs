@@ -10,7 +10,7 @@ use nscc::{Ack, Nack};
 impl Source {
     pub(crate) fn edge_call(&mut self, view: &View) -> Call {
         let (time, flow) = (self.edge_time(view), view.at);
-        match self.rng.below(13) {
+        match self.rng.below(12) {
             0 => Call::NewData {
                 time,
                 flow,
@@ -34,8 +34,7 @@ impl Source {
                 psn: self.edge_psn(view),
                 ev: self.edge_ev(view),
             },
-            11 => Call::Path { time, flow },
-            _ => Call::Move { time },
+            _ => Call::Path { time, flow },
         }
     }
 

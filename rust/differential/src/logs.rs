@@ -1,21 +1,19 @@
 //! Logs for both sides, and their records.
 
-use crate::numbers::{any_ev_count, any_t_reroute, edge, lent_evs};
-use model::log::SINGLE_PATH;
+use crate::numbers::{any_ev_count, edge, lent_evs};
 use model::replay::evs_lent;
 use model::{gen, parse, Rng};
 
 /// A log of any generator, for the program's flows.
 pub fn generated(rng: &mut Rng, records: usize) -> Vec<u8> {
     let seed = rng.next_u64();
-    match rng.below(18) {
+    match rng.below(14) {
         0 => gen::traffic(seed, records),
         1 => gen::lossy(seed, records),
         2 => gen::marked(seed, records),
         3 => gen::bulk(seed, records),
         4 | 5 => gen::wide(seed, records),
         6..=9 => gen::flows(seed, records),
-        10..=13 => gen::single_path(seed, records),
         _ => gen::hostile(seed, records),
     }
 }
@@ -58,7 +56,7 @@ pub fn damage(rng: &mut Rng, log: &[u8]) -> Vec<u8> {
         // The first record sets up, and is worth more than its share.
         let many = if rng.one_in(16) { 1 } else { many };
         let (i, j) = (rng.below(many) as usize, rng.below(many) as usize);
-        match rng.below(14) {
+        match rng.below(12) {
             0 => pieces.swap(i, j),
             1 => {
                 let again = pieces[i].clone();
@@ -67,11 +65,7 @@ pub fn damage(rng: &mut Rng, log: &[u8]) -> Vec<u8> {
             2 => {
                 pieces.remove(i);
             }
-            3 => {
-                let moves = move_beside(&pieces[i]);
-                pieces.insert(i + 1, moves);
-            }
-            4..=6 => change_flow(rng, &mut pieces[i]),
+            3..=5 => change_flow(rng, &mut pieces[i]),
             _ => damage_piece(rng, &mut pieces[i]),
         }
     }
@@ -88,37 +82,20 @@ pub fn damage(rng: &mut Rng, log: &[u8]) -> Vec<u8> {
     log
 }
 
-/// A move at the time of an event's record; at any time beside another.
-fn move_beside(piece: &[u8]) -> Vec<u8> {
-    let mut record = vec![10, 0, 7, 0];
-    record.extend(piece.iter().skip(4).chain(&[0; 8]).take(8));
-    record
-}
-
-/// Where the flags of settings stand.
-pub const FLAGS_AT: usize = 56;
-
-/// Settings say another EV count, or none, and are in the single-path profile or not. Mostly their
-/// length goes with that, and so does what is behind the flags.
+/// Settings say another EV count, or none; their length is that of the longer record, or the other.
 fn recount(rng: &mut Rng, piece: &mut Vec<u8>) {
-    if piece.len() <= FLAGS_AT || piece[2..4] != [16, 0] {
+    const SHORT: usize = 57;
+    if piece.len() < SHORT || piece[2..4] != [16, 0] {
         return;
     }
-    piece.truncate(FLAGS_AT + 1);
-    if rng.one_in(2) {
-        piece[FLAGS_AT] ^= SINGLE_PATH;
-    }
+    piece.truncate(SHORT);
     if !rng.one_in(4) {
         let count = rng.pick(&[256, 256, 255, 8_192, u32::MAX]);
         let other = any_ev_count(rng);
         piece.extend(rng.pick(&[count, other]).to_le_bytes());
     }
-    let inside = piece[FLAGS_AT] & SINGLE_PATH != 0;
-    if inside != rng.one_in(8) {
-        piece.extend(any_t_reroute(rng).to_le_bytes());
-    }
     let told = piece.len() as u8 - 2;
-    piece[0] = rng.pick(&[told, told, told, told, told, told, 55, 59, 63]);
+    piece[0] = rng.pick(&[told, told, told, told, told, told, 55, 59]);
 }
 
 /// What a kind of record with a flow has above that of the same record without one.
@@ -133,8 +110,7 @@ fn change_flow(rng: &mut Rng, piece: &mut Vec<u8>) {
     let Some(&kind) = piece.get(2).filter(|_| piece.len() >= FLOW_AT) else {
         return;
     };
-    // A move with a flow is no record.
-    let old = (1..=6).contains(&kind) || kind == 7 && rng.one_in(8);
+    let old = (1..=6).contains(&kind);
     let named = kind > WITH_FLOW && kind <= WITH_FLOW + 6 && piece.len() > FLOW_AT;
     let any = edge(rng) as u8;
     let flow = rng.pick(&[0, 1, 2, 7, 8, 255, any]);

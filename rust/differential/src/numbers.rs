@@ -1,6 +1,6 @@
 //! Numbers at which rules change.
 
-use model::bounds::{EVS_MAX, EVS_MIN, REROUTE_MAX, REROUTE_MIN};
+use model::bounds::{EVS_MAX, EVS_MIN};
 use model::{Rng, Settings, State};
 
 /// The exponents of 01's bounds.
@@ -62,7 +62,7 @@ pub fn first_psn(rng: &mut Rng) -> u32 {
     }
 }
 
-/// Settings in their ranges: E, or often at an edge. A third of them are in the single-path profile.
+/// Settings in their ranges: E, or often at an edge.
 pub fn settings(rng: &mut Rng, edges: bool) -> Settings {
     let mut numbers = model::gen::E;
     for i in 0..numbers.len() {
@@ -76,42 +76,7 @@ pub fn settings(rng: &mut Rng, edges: bool) -> Settings {
         };
     }
     let settings = Settings::from_numbers(numbers, first_psn(rng), rng.one_in(4));
-    let settings = settings.with_evs(ev_count(rng));
-    if rng.one_in(3) {
-        settings.with_single_path(t_reroute(rng))
-    } else {
-        // There it says nothing.
-        let t_reroute = any_t_reroute(rng);
-        Settings {
-            t_reroute,
-            ..settings
-        }
-    }
-}
-
-/// A t_reroute that is allowed in the profile: mostly the least, so that its time is often over.
-pub fn t_reroute(rng: &mut Rng) -> u32 {
-    let any = within(rng, REROUTE_MIN.into(), REROUTE_MAX.into()) as u32;
-    rng.pick(&[REROUTE_MIN, REROUTE_MIN, any])
-}
-
-/// A t_reroute that is allowed, beside one that is, or any.
-pub fn any_t_reroute(rng: &mut Rng) -> u32 {
-    let good = t_reroute(rng);
-    let (any, at_edge) = (rng.next_u32(), edge(rng) as u32);
-    rng.pick(&[
-        0,
-        1,
-        REROUTE_MIN - 1,
-        REROUTE_MIN,
-        REROUTE_MAX,
-        REROUTE_MAX + 1,
-        u32::MAX,
-        good,
-        good + (1 << 16),
-        at_edge,
-        any,
-    ])
+    settings.with_evs(ev_count(rng))
 }
 
 /// An EV count that is allowed. Few EVs are faster to compare.

@@ -1,6 +1,6 @@
 //! Shapes of call streams.
 
-use crate::numbers::{self, t_reroute};
+use crate::numbers;
 use model::{Rng, Settings};
 
 /// How many of each call there are, and what is in them.
@@ -17,10 +17,6 @@ pub struct Profile {
     pub choices: u64,
     /// One call in so many judges a plan or makes one; 0 is none.
     pub plans: u64,
-    /// One call in so many is a move; 0 is none.
-    pub moves: u64,
-    /// All streams are in the single-path profile; else as many as the settings say.
-    pub single_path: bool,
     /// Of eight ACKs so many have the M flag.
     pub marked: u64,
     /// Packets of the smallest size, so that the ring is full before the window.
@@ -38,8 +34,6 @@ const MIXED: Profile = Profile {
     reads: 8,
     choices: 6,
     plans: 16,
-    moves: 24,
-    single_path: false,
     marked: 3,
     small: false,
     window: 0,
@@ -54,13 +48,12 @@ pub const GOOD: Profile = Profile {
     reads: 0,
     choices: 0,
     plans: 0,
-    moves: 0,
     marked: 2,
     window: 30,
     ..MIXED
 };
 
-pub const PROFILES: [Profile; 10] = [
+pub const PROFILES: [Profile; 9] = [
     MIXED,
     Profile {
         name: "hostile",
@@ -106,14 +99,6 @@ pub const PROFILES: [Profile; 10] = [
         ..MIXED
     },
     Profile {
-        name: "moves",
-        weights: [4, 20, 4, 40, 8, 8, 10],
-        moves: 4,
-        single_path: true,
-        window: 4,
-        ..MIXED
-    },
-    Profile {
         name: "late",
         late: true,
         ..MIXED
@@ -127,9 +112,6 @@ impl Profile {
         if self.window > 0 {
             let packets = rng.between(1, self.window);
             settings.max_wnd = (settings.mtu * packets).min(1 << 26);
-        }
-        if self.single_path {
-            settings = settings.with_single_path(t_reroute(rng));
         }
         settings
     }

@@ -62,12 +62,11 @@ impl Pair {
         Ok(answer)
     }
 
-    /// A path, a move, a reading, a plan and a refusal leave what may be sent as it was.
+    /// A path, a reading, a plan and a refusal leave what may be sent as it was.
     fn remember(&mut self, call: &Call, answer: &Answer) {
         let leaves = matches!(
             call,
             Call::Path { .. }
-                | Call::Move { .. }
                 | Call::Status { .. }
                 | Call::NextMarked { .. }
                 | Call::Judge { .. }

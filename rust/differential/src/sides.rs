@@ -184,8 +184,6 @@ impl Model {
             first_psn,
             quick_adapt_off,
             ev_count,
-            single_path,
-            t_reroute,
         } = call
         else {
             return UNSOUND;
@@ -193,12 +191,8 @@ impl Model {
         let Ok(numbers) = settings.as_slice().try_into() else {
             return UNSOUND;
         };
-        let settings = Settings {
-            ev_count: *ev_count,
-            single_path: *single_path,
-            t_reroute: *t_reroute,
-            ..Settings::from_numbers(numbers, *first_psn, *quick_adapt_off)
-        };
+        let settings = Settings::from_numbers(numbers, *first_psn, *quick_adapt_off);
+        let settings = settings.with_evs(*ev_count);
         if !settings.in_range() {
             return Refusal::Setting.number();
         }

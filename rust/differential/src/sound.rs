@@ -28,13 +28,10 @@ pub fn sound(rng: &mut Rng, shape: Shape) -> Model {
     state.turn = within(rng, 0, shape.flows as u64 - 1);
     let mut model = shape.model(state.settings.ev_count as usize);
     let memory = &mut model.memory;
-    // Now and then nothing flies, or only on one flow.
-    let (some, one) = (rng.below(8), rng.below(shape.flows as u64) as usize);
-    let flies = |at| some > 1 || some == 1 && at == one;
     let flows: Vec<Flow> = (0..shape.flows)
         .map(|at| {
-            let (mut flow, slots) = (flow(rng), shape.slots_of(at));
-            set_ring(rng, &state, &mut flow, memory, slots, flies(at));
+            let mut flow = flow(rng);
+            set_ring(rng, &state, &mut flow, memory, shape.slots_of(at));
             flow
         })
         .collect();
@@ -69,7 +66,6 @@ fn set_window(rng: &mut Rng, state: &mut State) {
     state.fast_mode = rng.one_in(2);
     state.trigger = rng.one_in(2);
     state.cursor = within(rng, 0, u64::from(settings.ev_count) - 1);
-    state.current_ev = within(rng, 0, u64::from(settings.ev_count) - 1) as u32;
 }
 
 /// Around the number that it is compared with, or around its stop.
@@ -90,9 +86,6 @@ fn set_times(rng: &mut Rng, state: &mut State) {
     let (any, other) = (rng.below(clock + 1), rng.below(clock + 1));
     state.last_adjust = rng.pick(&[clock, ago(around_period), any, 0]);
     state.last_dec = rng.pick(&[clock, ago(around_base), other, 0]);
-    let around_wait = beside(rng, u64::from(state.settings.t_reroute) * state.base);
-    let moved = rng.below(clock + 1);
-    state.last_move = rng.pick(&[clock, ago(around_wait), ago(around_wait), moved, 0]);
     let soon = clock + rng.below(2 * state.base);
     let passed = rng.below(clock + 1);
     state.qa_end = rng.pick(&[0, clock, clock + 1, soon, passed, LATER_END - 1]);
@@ -118,15 +111,13 @@ fn flow(rng: &mut Rng) -> Flow {
     }
 }
 
-/// Fills the flow's ring, which has these slots: often all of it, or all but a few. Where no packet
-/// flies, those that would are marked.
+/// Fills the flow's ring, which has these slots: often all of it, or all but a few.
 fn set_ring(
     rng: &mut Rng,
     state: &State,
     flow: &mut Flow,
     memory: &mut Memory,
     slots: Range<usize>,
-    flies: bool,
 ) {
     use Status::{Done, Flying, Marked};
     let capacity = slots.len() as u64;
@@ -153,11 +144,10 @@ fn set_ring(
         let mixed = rng.pick(mix);
         let status = if rng.one_in(seldom) { mixed } else { mostly };
         // Low is not done.
-        let status = match status {
-            Done if i > 0 => Done,
-            Marked => Marked,
-            _ if flies => Flying,
-            _ => Marked,
+        let status = if i == 0 && status == Done {
+            Flying
+        } else {
+            status
         };
         put_marks(memory, slot, status);
         let size = within(rng, SIZE_MIN.into(), state.settings.mtu);

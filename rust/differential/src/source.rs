@@ -151,8 +151,6 @@ impl Source {
             choice(&mut self.rng)
         } else if self.one_call_in(self.profile.plans) {
             self.plan(model, &view)
-        } else if self.one_call_in(self.profile.moves) {
-            self.move_on(&view)
         } else if self.one_call_in(self.profile.reads) {
             let call = self.reading(&view);
             self.astray(&view, call)

@@ -4,8 +4,8 @@ use crate::numbers::{any_ev_count, instead_of, least_base, lent_evs};
 use crate::sides::Model;
 use crate::sound::{set_name, settle};
 use model::bounds::{
-    AVG_MAX, BACKLOG_MAX, COUNT_END, EVS_MAX, EVS_MIN, INC_BYTES_MAX, LATER_END, REROUTE_MAX,
-    REROUTE_MIN, RESENDS_MAX, SIZE_MIN, TALLY_MAX, TIME_END,
+    AVG_MAX, BACKLOG_MAX, COUNT_END, EVS_MAX, EVS_MIN, INC_BYTES_MAX, LATER_END, RESENDS_MAX,
+    SIZE_MIN, TALLY_MAX, TIME_END,
 };
 use model::ring::{clear_bit, number_of, resends_of, set_bit, size_of, WORD};
 use model::{Flow, Memory, Rng, Settings, State};
@@ -17,14 +17,13 @@ pub fn spoil(rng: &mut Rng, model: &mut Model) {
     let (Some(state), Some(flows)) = (model.state(), model.flows()) else {
         return;
     };
-    match rng.below(23) {
+    match rng.below(21) {
         0..=6 => spoil_word(rng, model, &state, flows.len()),
         7..=10 => spoil_flow(rng, model, &flows),
         11..=15 => spoil_element(rng, model, &state, &flows),
         16 => spoil_evs(rng, model),
         17 => return one_counted(rng, model, state, &flows),
         18 => spoil_turn(rng, model, flows.len()),
-        19 | 20 => spoil_single_path(rng, model, &state),
         _ => spoil_length(rng, model),
     }
     if rng.one_in(2) {
@@ -63,7 +62,7 @@ fn limits(word: Word, state: &State, flows: usize) -> (u64, u64) {
         return (*range.start(), *range.end());
     }
     match word {
-        Word::QuickAdaptOff | Word::Fast | Word::Trigger | Word::SinglePath => (0, 1),
+        Word::QuickAdaptOff | Word::Fast | Word::Trigger => (0, 1),
         Word::Backlog => (0, FLOWS_MAX as u64 * BACKLOG_MAX),
         Word::InFlight => (0, settings.max_wnd.wrapping_add(IN_FLIGHT_ADDED as u64)),
         Word::Cwnd => (settings.mtu, most_cwnd(state)),
@@ -73,23 +72,15 @@ fn limits(word: Word, state: &State, flows: usize) -> (u64, u64) {
         Word::Received | Word::Achieved | Word::Ignored | Word::FiCount => (0, TALLY_MAX),
         Word::BytesToIgnore => (0, settings.max_wnd),
         Word::QaEnd => (0, LATER_END - 1),
-        Word::LastAdjust | Word::LastDec | Word::LastMove => (0, state.clock),
-        Word::Clock => (latest(state), TIME_END - 1),
-        Word::Cursor | Word::CurrentEv => (0, u64::from(settings.ev_count).wrapping_sub(1)),
+        Word::LastAdjust | Word::LastDec => (0, state.clock),
+        Word::Clock => (state.last_adjust.max(state.last_dec), TIME_END - 1),
+        Word::Cursor => (0, u64::from(settings.ev_count).wrapping_sub(1)),
         Word::EvCount => (EVS_MIN.into(), EVS_MAX.into()),
         Word::Turn => (0, (flows as u64).wrapping_sub(1)),
         Word::Phase => (0, 3),
-        Word::TReroute if settings.single_path => (REROUTE_MIN.into(), REROUTE_MAX.into()),
-        // The first PSN, t_reroute outside the single-path profile, and totals that have no bound of
-        // their own.
+        // The first PSN, and totals that have no bound of their own.
         _ => (0, u32::MAX.into()),
     }
-}
-
-/// The least clock that these times allow.
-fn latest(state: &State) -> u64 {
-    let times = [state.last_adjust, state.last_dec, state.last_move];
-    times.into_iter().fold(0, u64::max)
 }
 
 /// max_wnd, or MaxWnd where what it is made of is spoilt already.
@@ -265,23 +256,6 @@ fn spoil_turn(rng: &mut Rng, model: &mut Model, flows: usize) {
     let turn = &mut model.words[Word::Turn as usize];
     let any = instead_of(rng, *turn);
     *turn = rng.pick(&[end.wrapping_sub(1), end, end, u64::MAX, any]);
-}
-
-/// A word of the single-path profile at the end of what it may be, or just past it.
-fn spoil_single_path(rng: &mut Rng, model: &mut Model, state: &State) {
-    let (evs, clock) = (u64::from(state.settings.ev_count), state.clock);
-    let [least, most] = [REROUTE_MIN, REROUTE_MAX].map(u64::from);
-    let (word, edges) = match rng.below(4) {
-        0 => (Word::SinglePath, [0, 1, 2, 2]),
-        1 => (Word::TReroute, [least - 1, least, most, most + 1]),
-        2 => (Word::CurrentEv, [evs.wrapping_sub(1), evs, evs, 0]),
-        _ => (Word::LastMove, [clock, clock, clock.wrapping_add(1), 0]),
-    };
-    let number = &mut model.words[word as usize];
-    // A narrower word would take it for a good one.
-    let wide = number.wrapping_add(1 << 32);
-    let edge = rng.pick(&edges);
-    *number = rng.pick(&[edge, edge, edge, wide]);
 }
 
 /// One slice longer or shorter, or the whole ring buffer of a capacity that no ring has.

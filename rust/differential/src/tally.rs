@@ -2,7 +2,6 @@
 
 use crate::call::{Answer, Call};
 use crate::choices::Choices;
-use crate::moves::Moves;
 use crate::plans::Plans;
 use crate::sides::Model;
 use crate::words::state_of;
@@ -31,9 +30,6 @@ pub struct Tally {
     pub statuses: [u64; 4],
     pub choices: Choices,
     pub plans: Plans,
-    pub moves: Moves,
-    /// Chunks that end right before or right behind the flags of settings of the greatest length.
-    pub beside_flags: u64,
     pub seen: Seen,
 }
 
@@ -96,7 +92,6 @@ impl Tally {
             Call::Plan { room, .. } => self.plans.note_planned(room.len(), answer),
             _ => {}
         }
-        self.moves.note(call, answer, before.as_ref(), after);
         let before = before.filter(|_| answer.outcome.number == 0);
         let (Some(at), Some(before), Some(flows)) = (call.flow(), before, after.flows()) else {
             return;
@@ -191,10 +186,7 @@ impl fmt::Display for Tally {
         if self.statuses.iter().any(|&times| times > 0) {
             write!(f, "; statuses {:?}", self.statuses)?;
         }
-        write!(f, "{}{}{}", self.choices, self.plans, self.moves)?;
-        if self.beside_flags > 0 {
-            write!(f, "; cut beside flags {}", self.beside_flags)?;
-        }
+        write!(f, "{}{}", self.choices, self.plans)?;
         let seen = &self.seen;
         if seen.cuts > 0 {
             write!(

@@ -59,8 +59,7 @@ fn most_new(view: &View) -> u64 {
 }
 
 impl Source {
-    /// What a send loop does with what was named: nothing, or it sends it, at times with a path or
-    /// behind a move.
+    /// What a send loop does with what was named: nothing, or it sends it, at times with a path.
     pub fn follow(&mut self, model: &Model, turn: Turn) -> Vec<Call> {
         let flow = turn.flow as usize;
         let Some(view) = View::of(model, flow).filter(|_| self.rng.one_in(2)) else {
@@ -79,10 +78,10 @@ impl Source {
             bytes,
             resend: turn.resend,
         };
-        match self.rng.below(8) {
-            0 => vec![Call::Move { time }, Call::Path { time, flow }, send],
-            1..=3 => vec![Call::Path { time, flow }, send],
-            _ => vec![send],
+        if self.rng.one_in(2) {
+            vec![Call::Path { time, flow }, send]
+        } else {
+            vec![send]
         }
     }
 

@@ -36,10 +36,6 @@ pub fn words_of(state: &State) -> [u64; WORDS] {
         (Word::Phase, phase_of(state.name)),
         (Word::EvCount, state.settings.ev_count.into()),
         (Word::Turn, state.turn),
-        (Word::SinglePath, state.settings.single_path.into()),
-        (Word::TReroute, state.settings.t_reroute.into()),
-        (Word::CurrentEv, state.current_ev.into()),
-        (Word::LastMove, state.last_move),
     ];
     for (word, number) in others {
         words[word as usize] = number;
@@ -74,8 +70,6 @@ pub fn state_of(words: &[u64]) -> Option<State> {
         last_adjust: number(Word::LastAdjust),
         last_dec: number(Word::LastDec),
         cursor: number(Word::Cursor),
-        current_ev: words.narrow(Word::CurrentEv)?,
-        last_move: number(Word::LastMove),
         turn: number(Word::Turn),
         name: name_of(number(Word::Phase))?,
     })
@@ -179,12 +173,8 @@ impl Words<'_> {
         let (numbers, _) = self.0.split_first_chunk::<SETTINGS>()?;
         let first_psn = self.narrow(Word::FirstPsn)?;
         let quick_adapt_off = self.flag(Word::QuickAdaptOff)?;
-        Some(Settings {
-            ev_count: self.narrow(Word::EvCount)?,
-            single_path: self.flag(Word::SinglePath)?,
-            t_reroute: self.narrow(Word::TReroute)?,
-            ..Settings::from_numbers(*numbers, first_psn, quick_adapt_off)
-        })
+        let settings = Settings::from_numbers(*numbers, first_psn, quick_adapt_off);
+        Some(settings.with_evs(self.narrow(Word::EvCount)?))
     }
 }
 

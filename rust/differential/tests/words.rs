@@ -4,19 +4,12 @@ use differential::{flows_of, plan_of, sends_of, state_of, table_of, turn_of, wor
 use model::{Flow, Name, Planned, Rng, Settings, State, Turn};
 use nscc::{FlowWord, PlannedWord, Word, FLOWS_MAX, FLOW_WORDS, PLANNED, WORDS};
 
-const FLAGS: [Word; 4] = [
-    Word::QuickAdaptOff,
-    Word::Fast,
-    Word::Trigger,
-    Word::SinglePath,
-];
-
 #[test]
 fn every_word_is_named_in_its_place() {
     for (i, word) in Word::ALL.into_iter().enumerate() {
         assert_eq!(word as usize, i);
     }
-    assert_eq!(Word::LastMove as usize, WORDS - 1);
+    assert_eq!(Word::Turn as usize, WORDS - 1);
 }
 
 /// Words that all differ, so that no two can be exchanged unseen.
@@ -25,7 +18,7 @@ fn words_and_state_are_inverse() {
     let mut rng = Rng::new(1);
     for _ in 0..1_000 {
         let mut words = [0; WORDS].map(|_: u64| rng.below(1 << 32));
-        for flag in FLAGS {
+        for flag in [Word::QuickAdaptOff, Word::Fast, Word::Trigger] {
             words[flag as usize] = rng.below(2);
         }
         words[Word::Phase as usize] = rng.below(4);
@@ -83,14 +76,10 @@ fn words_that_no_table_has() {
 fn words_that_no_state_has() {
     let words = words_of(&State::default());
     assert_eq!(state_of(&words[1..]), None);
-    let narrow = [
-        Word::FirstPsn,
-        Word::EvCount,
-        Word::TReroute,
-        Word::CurrentEv,
-    ];
+    let narrow = [Word::FirstPsn, Word::EvCount];
+    let flags = [Word::QuickAdaptOff, Word::Fast, Word::Trigger];
     let wide = narrow.map(|word| (word, 1 << 32));
-    let strange = FLAGS.map(|word| (word, 2));
+    let strange = flags.map(|word| (word, 2));
     let mut others = wide.into_iter().chain(strange).chain([(Word::Phase, 4)]);
     assert!(others.all(|(word, number)| {
         let mut words = words;
@@ -102,7 +91,7 @@ fn words_that_no_state_has() {
 /// Written out against include/nscc.h by hand.
 #[test]
 fn some_words_by_number() {
-    let settings = Settings::default().with_evs(36).with_single_path(39);
+    let settings = Settings::default().with_evs(36);
     let state = State {
         settings,
         backlog: 14,
@@ -114,16 +103,14 @@ fn some_words_by_number() {
         clock: 33,
         cursor: 34,
         turn: 37,
-        current_ev: 40,
-        last_move: 41,
         name: Name::Active,
         ..State::default()
     };
     let words = words_of(&state);
-    for i in [14, 15, 16, 17, 19, 33, 34, 36, 37, 39, 40, 41] {
+    for i in [14, 15, 16, 17, 19, 33, 34, 36, 37] {
         assert_eq!(words[i], i as u64);
     }
-    assert_eq!((words[18], words[35], words[38]), (16_777_211, 3, 1));
+    assert_eq!((words[18], words[35]), (16_777_211, 3));
     let flow = Flow {
         low: 4,
         next: 5,

@@ -35,10 +35,6 @@ pub const EVS_MAX: u32 = 4096;
 /// The number of EVs where a settings record tells none.
 pub const EVS_USUAL: u32 = 256;
 
-/// The least t_reroute of the single-path profile, and the greatest.
-pub const REROUTE_MIN: u32 = 10;
-pub const REROUTE_MAX: u32 = 1_000;
-
 pub const SAMPLE_MAX: u64 = 1 << 20;
 /// The average is held in this part of a tick.
 pub const AVG_PARTS: u64 = 1024;

@@ -1,7 +1,6 @@
 //! Number 2 of 01: do state and lent memory hold together? A held turn that names no flow is 2 too
-//! (M-108), and so is a current EV or a last move that cannot be, in the single-path profile and
-//! outside it (M-112). The tests run in an order in which each may rely on those before it, so that
-//! none can overflow or leave a slice.
+//! (M-108). The tests run in an order in which each may rely on those before it, so that none can
+//! overflow or leave a slice.
 
 use crate::bounds::{
     AVG_MAX, BACKLOG_MAX, COUNT_END, INC_BYTES_MAX, IN_FLIGHT_MIN, LATER_END, RESENDS_MAX,
@@ -41,14 +40,12 @@ fn numbers_good(state: &State) -> bool {
         && tallies.iter().all(|&tally| tally <= TALLY_MAX)
         && state.bytes_to_ignore <= settings.max_wnd
         && state.cursor < settings.ev_count.into()
-        && state.current_ev < settings.ev_count
 }
 
 fn times_good(state: &State, lent: &Lent) -> bool {
     state.clock < TIME_END
         && state.last_adjust <= state.clock
         && state.last_dec <= state.clock
-        && state.last_move <= state.clock
         && state.qa_end < LATER_END
         && every(lent.ev_times, |time| time < LATER_END)
 }

@@ -3,8 +3,7 @@
 //! an accepted event preserves it.
 //!
 //! Within an event all refusals are tested, in the order of 01, before anything changes. An event is
-//! of one flow, which may be any number: 25 where there is no such flow (M-107). A move alone is of
-//! no flow (M-112).
+//! of one flow, which may be any number: 25 where there is no such flow (M-107).
 
 use crate::bounds::{BACKLOG_MAX, COUNT_END, SIZE_MIN, TIME_END, UNIT};
 use crate::check::number_two;
@@ -84,12 +83,6 @@ pub struct Path {
     pub flow: u64,
 }
 
-/// A request to move to the next EV, in the single-path profile (M-112). It has no flow.
-#[derive(Clone, Copy, Debug, PartialEq, Eq)]
-pub struct Move {
-    pub time: u64,
-}
-
 /// Any event, for those who take them from a log.
 #[derive(Clone, Copy, Debug, PartialEq, Eq)]
 pub enum Event {
@@ -99,7 +92,6 @@ pub enum Event {
     Nack(Nack),
     Loss(Loss),
     Path(Path),
-    Move(Move),
 }
 
 impl From<NewData> for Event {
@@ -135,12 +127,6 @@ impl From<Loss> for Event {
 impl From<Path> for Event {
     fn from(event: Path) -> Event {
         Event::Path(event)
-    }
-}
-
-impl From<Move> for Event {
-    fn from(event: Move) -> Event {
-        Event::Move(event)
     }
 }
 
@@ -217,10 +203,6 @@ impl State {
         )
     }
 
-    pub fn move_ev(&mut self, lent: &Lent, event: &Move) -> u8 {
-        number(self.together(lent).and_then(|()| self.try_move(event)))
-    }
-
     pub fn take(&mut self, lent: &mut Lent, event: &Event) -> Outcome {
         match event {
             Event::NewData(event) => self.new_data(lent, event).into(),
@@ -229,7 +211,6 @@ impl State {
             Event::Nack(event) => self.nack(lent, event),
             Event::Loss(event) => self.loss(lent, event).into(),
             Event::Path(event) => self.path(lent, event),
-            Event::Move(event) => self.move_ev(lent, event).into(),
         }
     }
 }
@@ -260,11 +241,6 @@ impl State {
         path_outcome(self.try_path(lent, event))
     }
 
-    /// The flying packets of all flows are held in the state, so nothing lent is looked at.
-    pub fn move_ev_trusted(&mut self, event: &Move) -> u8 {
-        number(self.try_move(event))
-    }
-
     pub fn take_trusted(&mut self, lent: &mut Lent, event: &Event) -> Outcome {
         match event {
             Event::NewData(event) => self.new_data_trusted(lent, event).into(),
@@ -273,7 +249,6 @@ impl State {
             Event::Nack(event) => self.nack_trusted(lent, event),
             Event::Loss(event) => self.loss_trusted(lent, event).into(),
             Event::Path(event) => self.path_trusted(lent, event),
-            Event::Move(event) => self.move_ev_trusted(event).into(),
         }
     }
 }
@@ -390,7 +365,7 @@ impl State {
         };
         self.window_on_ack(now, newly, sampling, event.marked);
         if event.marked {
-            self.avoid(lent, event.ev, now + base_before);
+            lent.ev_times[usize::from(event.ev)] = now + base_before;
         }
         self.finish(now);
         Ok(sampling)
@@ -415,7 +390,7 @@ impl State {
             self.window_on_loss(now, size);
         }
         if event.marked || event.reason == TRIMMED {
-            self.avoid(lent, event.ev, now + base_before);
+            lent.ev_times[usize::from(event.ev)] = now + base_before;
         }
         self.finish(now);
         Ok(sampling)
@@ -431,7 +406,7 @@ impl State {
         let size = self.mark(&mut ledger, slot);
         self.window_on_loss(now, size);
         // A loss takes no sample: the base is still the one held before.
-        self.avoid(lent, event.ev, now + self.base);
+        lent.ev_times[usize::from(event.ev)] = now + self.base;
         self.finish(now);
         Ok(())
     }
@@ -443,15 +418,6 @@ impl State {
         let ev = self.take_path(lent, event.time);
         self.finish(event.time);
         Ok(ev)
-    }
-
-    fn try_move(&mut self, event: &Move) -> Result<(), Refusal> {
-        self.time_allowed(event.time)?;
-        Refusal::Reroute.unless(self.may_move(event.time))?;
-
-        self.move_on(event.time);
-        self.finish(event.time);
-        Ok(())
     }
 
     pub(crate) fn together(&self, lent: &Lent) -> Result<(), Refusal> {

@@ -3,12 +3,11 @@
 //!
 //! [`State`] holds the numbers of a context, [`Lent`] the table of its flows, their rings and the EV
 //! times. Each event is of one flow, changes both in place and returns 0, or the refusal number of 01
-//! and changes nothing. An accepted ACK or NACK says what became of its sample: [`Sampling`]. A
-//! [`Move`] is of no flow: it takes the single-path profile to its next EV. Which flow sends next is
-//! a choice, and no event: [`State::choose`] answers a [`Turn`]. Sends that are [`Planned`] for one
-//! instant are judged by [`State::judge`], and [`State::plan`] plans some. A log may also come in
-//! chunks: [`Part`] is what its replay holds between them. A [`Report`] has the figures of a whole
-//! log.
+//! and changes nothing. An accepted ACK or NACK says what became of its sample: [`Sampling`]. Which
+//! flow sends next is a choice, and no event: [`State::choose`] answers a [`Turn`]. Sends that are
+//! [`Planned`] for one instant are judged by [`State::judge`], and [`State::plan`] plans some. A log
+//! may also come in chunks: [`Part`] is what its replay holds between them. A [`Report`] has the
+//! figures of a whole log.
 
 #![forbid(unsafe_code)]
 
@@ -37,7 +36,7 @@ mod window;
 
 pub use check::number_two;
 pub use chunks::{Chunk, Part};
-pub use event::{Ack, Event, Loss, Move, Nack, NewData, Outcome, Path, Send};
+pub use event::{Ack, Event, Loss, Nack, NewData, Outcome, Path, Send};
 pub use flow::Flow;
 pub use lent::{Lent, Memory};
 pub use log::{parse, write, Reader, Record};

@@ -1,5 +1,5 @@
 /// Why an event, a choice, a plan, a setting up, a log record or a chunk is refused; the value is
-/// the number of 01 as amended by M-100, or of M-104, M-107, M-111 and M-112.
+/// the number of 01 as amended by M-100, or of M-104, M-107 and M-111.
 #[derive(Clone, Copy, Debug, PartialEq, Eq)]
 #[repr(u8)]
 pub enum Refusal {
@@ -22,7 +22,6 @@ pub enum Refusal {
     Ev = 23,
     Trigger = 24,
     Flow = 25,
-    Reroute = 26,
     PlanTooLong = 27,
     TooLong = 28,
 }

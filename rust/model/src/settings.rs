@@ -1,4 +1,4 @@
-use crate::bounds::{EVS_MAX, EVS_MIN, EVS_USUAL, REROUTE_MAX, REROUTE_MIN};
+use crate::bounds::{EVS_MAX, EVS_MIN, EVS_USUAL};
 use std::ops::RangeInclusive;
 
 /// The settings of a context, in the order of 01.
@@ -21,15 +21,10 @@ pub struct Settings {
     pub quick_adapt_off: bool,
     /// How many EVs there are (M-110).
     pub ev_count: u32,
-    /// The single-path profile is on (M-112).
-    pub single_path: bool,
-    /// In the profile: base round trips from a move to the next while packets fly. Outside it any
-    /// number is good and means nothing.
-    pub t_reroute: u32,
 }
 
 impl Settings {
-    /// From the twelve numbers in the order of 01, with 256 EVs and outside the single-path profile.
+    /// From the twelve numbers in the order of 01, with 256 EVs.
     pub fn from_numbers(numbers: [u64; 12], first_psn: u32, quick_adapt_off: bool) -> Settings {
         Settings {
             mtu: numbers[0],
@@ -47,23 +42,12 @@ impl Settings {
             first_psn,
             quick_adapt_off,
             ev_count: EVS_USUAL,
-            single_path: false,
-            t_reroute: 0,
         }
     }
 
     /// The same with so many EVs.
     pub fn with_evs(self, ev_count: u32) -> Settings {
         Settings { ev_count, ..self }
-    }
-
-    /// The same in the single-path profile.
-    pub fn with_single_path(self, t_reroute: u32) -> Settings {
-        Settings {
-            single_path: true,
-            t_reroute,
-            ..self
-        }
     }
 
     /// The twelve numbers in the order of 01.
@@ -109,12 +93,6 @@ impl Settings {
             .zip(self.numbers())
             .all(|(range, number)| range.contains(&number))
             && Settings::evs_allowed(self.ev_count)
-            && self.reroute_allowed()
-    }
-
-    /// "In the profile a t_reroute out of range is refusal 1" (M-112); outside it is not looked at.
-    fn reroute_allowed(&self) -> bool {
-        !self.single_path || (REROUTE_MIN..=REROUTE_MAX).contains(&self.t_reroute)
     }
 
     /// A power of two from 256 to 4,096.

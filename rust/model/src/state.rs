@@ -64,10 +64,6 @@ pub struct State {
 
     /// The EV from which the next path is looked for.
     pub cursor: u64,
-    /// The one EV of the single-path profile (M-112). Only a move changes it.
-    pub current_ev: u32,
-    /// Time of the last accepted move.
-    pub last_move: u64,
     /// The flow from which the next round starts (M-108). Only a choice moves it.
     pub turn: u64,
     pub name: Name,

@@ -110,8 +110,6 @@ impl Context {
             settings.first_psn,
             settings.quick_adapt_off,
             settings.ev_count,
-            settings.single_path,
-            settings.t_reroute,
         );
         accepted(number).map(|()| context)
     }
@@ -171,16 +169,9 @@ impl Context {
         accepted(self.lend().loss(time, flow, psn, ev))
     }
 
-    /// The EV of the next path, which is the same for every flow. In the single-path profile it is
-    /// the current EV.
+    /// The EV of the next path, which is the same for every flow.
     pub fn path(&mut self, time: u64, flow: usize) -> Result<u32, Refusal> {
         answer(self.lend().path(time, flow))
-    }
-
-    /// In the single-path profile: the current EV becomes the next one. `Move` where packets fly on any
-    /// flow and t_reroute base round trips have not passed since the last move, and outside the profile.
-    pub fn move_ev(&mut self, time: u64) -> Result<(), Refusal> {
-        accepted(self.lend().move_ev(time))
     }
 
     /// Which flow sends next, and what; `None` where no flow is ready or the window is full.

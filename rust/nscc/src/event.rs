@@ -18,11 +18,6 @@ pub struct Settings {
     pub first_psn: u32,
     pub quick_adapt_off: bool,
     pub ev_count: u32,
-    /// The single-path profile: one EV at a time, which [`move_ev`](crate::Context::move_ev) changes.
-    pub single_path: bool,
-    /// Base round trips from a move to the next one while packets fly. Outside the profile it may be
-    /// any number, and says nothing.
-    pub t_reroute: u32,
 }
 
 impl Settings {

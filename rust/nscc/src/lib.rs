@@ -22,6 +22,5 @@ pub use status::Status;
 pub use turn::Turn;
 pub use word::{
     FlowWord, PartWord, Phase, PlaceWord, PlannedWord, TurnWord, Word, EVS_MAX, EVS_MIN, FLOWS_MAX,
-    FLOW_WORDS, IN_FLIGHT_ADDED, PART, PIECE, PLACE, PLANNED, SENDS_MAX, SETTINGS, TURN,
-    T_REROUTE_MAX, T_REROUTE_MIN, WORDS,
+    FLOW_WORDS, IN_FLIGHT_ADDED, PART, PIECE, PLACE, PLANNED, SENDS_MAX, SETTINGS, TURN, WORDS,
 };

@@ -22,7 +22,6 @@ pub enum Refusal {
     Ev = 23,
     Trigger = 24,
     Flow = 25,
-    Move = 26,
     PlanTooLong = 27,
     LogTooLong = 28,
 }
@@ -33,7 +32,7 @@ impl Refusal {
     }
 
     pub fn of(number: u32) -> Option<Refusal> {
-        const ALL: [Refusal; 21] = [
+        const ALL: [Refusal; 20] = [
             Refusal::Setting,
             Refusal::Unsound,
             Refusal::Time,
@@ -52,7 +51,6 @@ impl Refusal {
             Refusal::Ev,
             Refusal::Trigger,
             Refusal::Flow,
-            Refusal::Move,
             Refusal::PlanTooLong,
             Refusal::LogTooLong,
         ];
@@ -81,7 +79,6 @@ impl fmt::Display for Refusal {
             Refusal::Ev => "an EV that is not below the EV count",
             Refusal::Trigger => "an ACK does not cover its trigger",
             Refusal::Flow => "a flow that the table does not have",
-            Refusal::Move => "a move before it is allowed, or outside the single-path profile",
             Refusal::PlanTooLong => "a plan of more than 64 sends",
             Refusal::LogTooLong => "a log would have 2^48 bytes or more",
         };

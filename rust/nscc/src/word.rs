@@ -48,15 +48,6 @@ pub enum Word {
     EvCount,
     /// The held turn, the flow from which the next round starts: below the number of flows.
     Turn,
-    /// The single-path profile, 0 or 1.
-    SinglePath,
-    /// [`T_REROUTE_MIN`]..[`T_REROUTE_MAX`] base round trips in the profile; outside it any number of
-    /// 32 bits.
-    TReroute,
-    /// The profile's EV: below the EV count, outside the profile too.
-    CurrentEv,
-    /// When it last moved: not past the clock.
-    LastMove,
 }
 
 impl Word {
@@ -99,10 +90,6 @@ impl Word {
         Word::Phase,
         Word::EvCount,
         Word::Turn,
-        Word::SinglePath,
-        Word::TReroute,
-        Word::CurrentEv,
-        Word::LastMove,
     ];
 }
 
@@ -193,7 +180,7 @@ impl Phase {
 /// How many settings there are.
 pub const SETTINGS: usize = 12;
 /// How many words a state has.
-pub const WORDS: usize = 42;
+pub const WORDS: usize = 38;
 /// How many words a flow has in the table.
 pub const FLOW_WORDS: usize = 4;
 /// The greatest number of flows. The least is one.
@@ -209,12 +196,9 @@ pub const PLACE: usize = 4;
 /// How many words a log that comes in chunks has.
 pub const PART: usize = 6;
 /// How many bytes the room of its piece has.
-pub const PIECE: usize = 65;
+pub const PIECE: usize = 61;
 /// The least EV count, and the greatest. It is a power of two.
 pub const EVS_MIN: u32 = 256;
 pub const EVS_MAX: u32 = 4096;
-/// The least t_reroute of the single-path profile, and the greatest.
-pub const T_REROUTE_MIN: u32 = 10;
-pub const T_REROUTE_MAX: u32 = 1000;
 /// What is added to in-flight in its word, since in-flight may be below zero.
 pub const IN_FLIGHT_ADDED: i64 = 1 << 24;

@@ -304,7 +304,7 @@ fn a_log_in_chunks() {
     assert_eq!(context.chunk(&mut part, front, false, &mut answers), Ok(0));
     assert_eq!((part.taken(), part.word(PartWord::Piece)), (40, 40));
     assert_eq!(part.piece[..40], *front);
-    assert_eq!(part.piece[40..], [0; 25]);
+    assert_eq!(part.piece[40..], [0; 21]);
     assert_eq!(answers, [9]);
     // Room for the settings' answer alone: 17 bytes are taken, the others are handed in again.
     assert_eq!(context.chunk(&mut part, back, false, &mut answers), Ok(1));
@@ -319,7 +319,7 @@ fn a_log_in_chunks() {
     assert_eq!(answer(answers[0]), Err(Refusal::Malformed));
     assert!(part.stopped());
     let [at, done] = [PartWord::At, PartWord::Done].map(|word| part.word(word));
-    assert_eq!((at, done, part.piece), (69, 2, [0; 65]));
+    assert_eq!((at, done, part.piece), (69, 2, [0; 61]));
     assert_eq!(context.chunk(&mut part, &log, false, &mut answers), Ok(0));
     assert_eq!(part.taken(), log.len());
     assert_eq!(context.word(Word::Cursor), 1);
@@ -334,7 +334,7 @@ fn refused_chunks() {
     let before = part;
     assert_eq!(chunk(&mut part), Err(Refusal::LogTooLong));
     assert_eq!(part, before);
-    part.words[PartWord::Piece as usize] = 66;
+    part.words[PartWord::Piece as usize] = 62;
     let before = part;
     assert_eq!(chunk(&mut part), Err(Refusal::Unsound));
     assert_eq!(part, before);

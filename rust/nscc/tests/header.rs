@@ -3,7 +3,7 @@
 use nscc::{
     FlowWord, PartWord, PlaceWord, PlannedWord, Refusal, Sample, Status, TurnWord, Word, EVS_MAX,
     EVS_MIN, FLOWS_MAX, FLOW_WORDS, IN_FLIGHT_ADDED, PART, PIECE, PLACE, PLANNED, SENDS_MAX,
-    SETTINGS, TURN, T_REROUTE_MAX, T_REROUTE_MIN, WORDS,
+    SETTINGS, TURN, WORDS,
 };
 use std::fmt::Debug;
 
@@ -131,7 +131,7 @@ fn part() {
 #[test]
 fn refusals() {
     let header = names("nscc_refusal", "NSCC_");
-    assert_eq!(header.len(), 22);
+    assert_eq!(header.len(), 21);
     assert_eq!(header[0], ("ACCEPTED".to_string(), Some(0)));
     for (name, number) in &header[1..] {
         let refusal = number.and_then(Refusal::of).expect("a refusal");
@@ -177,10 +177,6 @@ fn numbers() {
     assert!(HEADER.contains(&format!("#define NSCC_EVS_MAX {EVS_MAX}\n")));
     assert!(HEADER.contains(&format!("#define NSCC_FLOWS_MAX {FLOWS_MAX}\n")));
     assert!(HEADER.contains(&format!("#define NSCC_PIECE_BYTES {PIECE}\n")));
-    let least = format!("#define NSCC_T_REROUTE_MIN {T_REROUTE_MIN}\n");
-    assert!(HEADER.contains(&least));
-    let most = format!("#define NSCC_T_REROUTE_MAX {T_REROUTE_MAX}\n");
-    assert!(HEADER.contains(&most));
     let most = format!("#define NSCC_PLAN_SENDS_MAX {SENDS_MAX}\n");
     assert!(HEADER.contains(&most));
     let added = format!("#define NSCC_IN_FLIGHT_ADDED {IN_FLIGHT_ADDED}\n");

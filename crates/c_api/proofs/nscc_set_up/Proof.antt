@@ -1,5 +1,5 @@
 -- `nscc_set_up` makes the tests of `on_set_up_words` in their order; then the answer is setting up's, kept.
-use mathlib.Core.Path.{◌≡◌, ap₂, ◌∙◌}
+use mathlib.Core.Path.{◌≡◌, ap, ◌∙◌}
 use Prim.Native.Nat.{ℕ}
 use borrow.Author.Rules.{rules}
 use Rattle.rules.specs.Mode.{mode_of}
@@ -20,31 +20,26 @@ number-of-requires-3 c κs = search rules
 
 returns : tie.Need-returns
 unfolding number_of
-returns c = rw c.number_of.ensures (few_settings _ _ _ _ _ _ _ _ _ _ c.before.if1.true)
+returns c = rw c.number_of.ensures (few_settings _ _ _ _ _ _ _ _ c.before.if1.true)
 
 mode-of-requires : tie.Need-mode-of-requires
 mode-of-requires c κs = search rules
-
-mode-of-requires-2 : tie.Need-mode-of-requires-2
-mode-of-requires-2 c κs = search rules
 
 settings-of-requires : tie.Need-settings-of-requires
 settings-of-requires c κs = search rules
 
 -- from the settings back to the entry
 abbrev start : tie.After-settings-of → tie.Start
-start c = c.before.before.before.before.before.before.before.before.before.before.before.before
+start c = c.before.before.before.before.before.before.before.before.before.before.before
 
--- the settings that were handed in, the modes by the flags
+-- the settings that were handed in, the mode by the flag
 given :
     (c : tie.After-settings-of) → let a = (start c).args in
-    c.settings-of.result
-    ≡ settings_from a.settings.now a.first_psn (mode_of a.quick_adapt_off) a.ev-count (mode_of a.single_path) a.t_reroute
+    c.settings-of.result ≡ settings_from a.settings.now a.first_psn (mode_of a.quick_adapt_off) a.ev-count
 given c =
     let a = (start c).args in
     c.settings-of.ensures
-    ∙ ap₂ (λ (off single : ℕ). settings_from a.settings.now a.first_psn off a.ev-count single a.t_reroute)
-    c.before.before.Mode-of.ensures c.before.mode-of2.ensures
+    ∙ ap (λ (off : ℕ). settings_from a.settings.now a.first_psn off a.ev-count) c.before.Mode-of.ensures
 
 in-range-requires : tie.Need-in-range-requires
 in-range-requires c κs = search rules
@@ -54,7 +49,7 @@ unfolding number_of
 returns-2 c =
     let i = c.before in
     rw c.number-of2.ensures
-    (out_of_range _ _ _ _ _ _ _ _ _ _ i.before.before.before.before.before.if1.false _ (given i.before.before) _
+    (out_of_range _ _ _ _ _ _ _ _ i.before.before.before.before.if1.false _ (given i.before.before) _
     i.before.in-range.ensures i.if2.true)
 
 returns-3 : tie.Need-returns-3
@@ -62,7 +57,7 @@ unfolding number_of
 returns-3 c =
     let i = c.before in
     rw c.number-of3.ensures
-    (wrong_words _ _ _ _ _ _ _ _ _ _ i.before.before.before.before.before.before.if1.false _ (given i.before.before.before) _
+    (wrong_words _ _ _ _ _ _ _ _ i.before.before.before.before.before.if1.false _ (given i.before.before.before) _
     i.before.before.in-range.ensures i.before.if2.false i.if3.true)
 
 set-up-requires : tie.Need-set-up-requires
@@ -102,7 +97,7 @@ returns-4 : tie.Need-returns-4
 returns-4 c =
     let a = c.before.before.before.before.before.before.before.before.before.before.before.before.before.before.before.before.before.before in
     let e = a.before.before.before.before.before.before.before in
-    set_up_on _ _ _ _ _ _ _ _ _ _ e.before.before.before.before.before.before.if1.left _ (given e.before.before.before) _
+    set_up_on _ _ _ _ _ _ _ _ e.before.before.before.before.before.if1.left _ (given e.before.before.before) _
     e.before.before.in-range.ensures e.before.if2.left e.if3.left
     _ _ _ _ a.set_up_lem.ensures _ _ (c.before.before.before.before.number-of4.ensures, c.before.before.keep.ensures)
 
@@ -113,7 +108,6 @@ nscc-set-up-spec =
     number-of-requires
     returns
     mode-of-requires
-    mode-of-requires-2
     settings-of-requires
     in-range-requires
     number-of-requires-2

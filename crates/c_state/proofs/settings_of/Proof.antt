@@ -5,6 +5,9 @@ use Rattle.c_state.specs.Layout.{settings_from}
 use Rattle.c_state.proofs.settings_of.Statement.{statement}
 use Rattle.c_state.proofs.settings_of.Tie as tie
 
+shared-slice-read-t6 : tie.Need-shared-slice-read-t6
+shared-slice-read-t6 c = search rules
+
 shared-slice-read-t8 : tie.Need-shared-slice-read-t8
 shared-slice-read-t8 c = search rules
 
@@ -38,9 +41,6 @@ shared-slice-read-t26 c = search rules
 shared-slice-read-t28 : tie.Need-shared-slice-read-t28
 shared-slice-read-t28 c = search rules
 
-shared-slice-read-t30 : tie.Need-shared-slice-read-t30
-shared-slice-read-t30 c = search rules
-
 returns : tie.Need-returns
 unfolding settings_from
 returns c = refl
@@ -49,6 +49,7 @@ pub settings-of-spec : {M : Type 1} → statement M
 settings-of-spec =
     tie.close
     (tie.spec
+    shared-slice-read-t6
     shared-slice-read-t8
     shared-slice-read-t10
     shared-slice-read-t12
@@ -60,5 +61,4 @@ settings-of-spec =
     shared-slice-read-t24
     shared-slice-read-t26
     shared-slice-read-t28
-    shared-slice-read-t30
     returns)

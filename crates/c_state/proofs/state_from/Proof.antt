@@ -19,18 +19,6 @@ cast-settings-of-2 c = search rules
 shared-slice-read-settings-of-3 : tie.Need-shared-slice-read-settings-of-3
 shared-slice-read-settings-of-3 c = search rules
 
-shared-slice-read-settings-of-4 : tie.Need-shared-slice-read-settings-of-4
-shared-slice-read-settings-of-4 c = search rules
-
-cast-settings-of-3 : tie.Need-overflow-cast-settings-of-3
-cast-settings-of-3 c = search rules
-
-shared-slice-read-settings-of-5 : tie.Need-shared-slice-read-settings-of-5
-shared-slice-read-settings-of-5 c = search rules
-
-cast-settings-of-4 : tie.Need-overflow-cast-settings-of-4
-cast-settings-of-4 c = search rules
-
 settings-of-requires : tie.Need-settings-of-requires
 settings-of-requires c κs = search rules
 
@@ -40,36 +28,32 @@ totals-from-requires c κs = search rules
 window-from-requires : tie.Need-window-from-requires
 window-from-requires c κs = search rules
 
-shared-slice-read-t20 : tie.Need-shared-slice-read-t20
-shared-slice-read-t20 c = search rules
+shared-slice-read-t14 : tie.Need-shared-slice-read-t14
+shared-slice-read-t14 c = search rules
+
+shared-slice-read-t16 : tie.Need-shared-slice-read-t16
+shared-slice-read-t16 c = search rules
+
+cast-t17 : tie.Need-overflow-cast-t17
+cast-t17 c = search rules
+
+shared-slice-read-t19 : tie.Need-shared-slice-read-t19
+shared-slice-read-t19 c = search rules
+
+cast-t20 : tie.Need-overflow-cast-t20
+cast-t20 c = search rules
 
 shared-slice-read-t22 : tie.Need-shared-slice-read-t22
 shared-slice-read-t22 c = search rules
 
-cast-t23 : tie.Need-overflow-cast-t23
-cast-t23 c = search rules
-
-shared-slice-read-t25 : tie.Need-shared-slice-read-t25
-shared-slice-read-t25 c = search rules
-
-cast-t26 : tie.Need-overflow-cast-t26
-cast-t26 c = search rules
-
-shared-slice-read-t28 : tie.Need-shared-slice-read-t28
-shared-slice-read-t28 c = search rules
-
-single-from-requires : tie.Need-single-from-requires
-single-from-requires c κs = search rules
-
 returns : tie.Need-returns
 unfolding state_from
 returns c =
-    let window = c.before.before.before.before.before in
+    let window = c.before.before.before.before in
     rw (
       window.before.before.settings-of.ensures,
       window.before.totals-from.ensures,
       window.window-from.ensures,
-      c.single-from.ensures,
     )
 
 pub state-from-spec : {M : Type 1} → statement M
@@ -81,18 +65,13 @@ state-from-spec =
     shared-slice-read-settings-of-2
     cast-settings-of-2
     shared-slice-read-settings-of-3
-    shared-slice-read-settings-of-4
-    cast-settings-of-3
-    shared-slice-read-settings-of-5
-    cast-settings-of-4
     settings-of-requires
     totals-from-requires
     window-from-requires
-    shared-slice-read-t20
+    shared-slice-read-t14
+    shared-slice-read-t16
+    cast-t17
+    shared-slice-read-t19
+    cast-t20
     shared-slice-read-t22
-    cast-t23
-    shared-slice-read-t25
-    cast-t26
-    shared-slice-read-t28
-    single-from-requires
     returns)

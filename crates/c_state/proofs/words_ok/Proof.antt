@@ -34,14 +34,8 @@ shared-slice-read-result-8 c = search rules
 shared-slice-read-result-9 : tie.Need-shared-slice-read-result-9
 shared-slice-read-result-9 c = search rules
 
-shared-slice-read-result-10 : tie.Need-shared-slice-read-result-10
-shared-slice-read-result-10 c = search rules
-
-shared-slice-read-result-11 : tie.Need-shared-slice-read-result-11
-shared-slice-read-result-11 c = search rules
-
 returns-2 : tie.Need-returns-2
-returns-2 c = rest_left _ c.before.before.before.before.before.before.before.before.before.before.before.if1.false
+returns-2 c = rest_left _ c.before.before.before.before.before.before.before.before.before.if1.false
 
 pub words-ok-spec : {M : Type 1} → statement M
 words-ok-spec =
@@ -57,6 +51,4 @@ words-ok-spec =
     shared-slice-read-result-7
     shared-slice-read-result-8
     shared-slice-read-result-9
-    shared-slice-read-result-10
-    shared-slice-read-result-11
     returns-2)

@@ -1,6 +1,6 @@
 use super::replay::{report, used_or_spoilt};
 use crate::call::answer_of;
-use crate::logs::{damage, evs_for, generated, long, FLAGS_AT, LONG_EVERY};
+use crate::logs::{damage, evs_for, generated, long, LONG_EVERY};
 use crate::numbers::edge;
 use crate::shape::Shape;
 use crate::sides::{same, Fenced, Model, Ours, ODD};
@@ -11,9 +11,6 @@ use model::bounds::LOG_END;
 use model::chunks::Taken;
 use model::{Chunk, Outcome, Part, Refusal, Rng};
 use nscc::{PartWord, Word, PART, PIECE, PLACE, WORDS};
-
-/// The kind and the length that the longest settings have at the front of a log.
-const LONGEST: [u8; 4] = [63, 0, 16, 0];
 
 /// What stands in the answers' room before a call.
 const UNANSWERED: u64 = u64::MAX;
@@ -67,10 +64,7 @@ fn compare(log: &[u8], start: &Model, cuts: u64, tally: &mut Tally) -> Result<()
             move_turn(&mut rng, &mut chunks.model);
             chunks.ours = Ours::of(&chunks.model);
         }
-        let to = cut(&mut rng, at, longest).min(log.len());
-        if log.starts_with(&LONGEST) && beside_flags(to) && at < to {
-            tally.beside_flags += 1;
-        }
+        let to = log.len().min(at + rng.between(0, longest) as usize);
         let ended = to == log.len() && rng.one_in(2);
         let room = rng.between(0, most) as usize;
         let bytes = &log[at..to];
@@ -83,24 +77,6 @@ fn compare(log: &[u8], start: &Model, cuts: u64, tally: &mut Tally) -> Result<()
         }
     }
     chunks.compare_joined(log, start, &answers)
-}
-
-/// Where a chunk ends that starts there: anywhere, or often where the meaning of the settings is not
-/// yet told, or just told.
-fn cut(rng: &mut Rng, at: usize, longest: u64) -> usize {
-    let any = at + rng.between(0, longest) as usize;
-    let flags = FLAGS_AT + rng.below(2) as usize;
-    let within = at <= FLAGS_AT && rng.one_in(4);
-    if within {
-        flags
-    } else {
-        any
-    }
-}
-
-/// The flags are the first byte that has not come, or the last that has.
-fn beside_flags(to: usize) -> bool {
-    [FLAGS_AT, FLAGS_AT + 1].contains(&to)
 }
 
 /// A replay under way. Both sides hold the same: it is compared after every chunk.
@@ -234,7 +210,7 @@ impl Chunks {
         let any = edge(rng) as u8;
         let i = rng.below(self.piece.len() as u64) as usize;
         if let Some(byte) = self.piece.get_mut(i) {
-            *byte = rng.pick(&[0, 1, 2, 3, 6, 7, 10, 11, 16, 33, 38, 39, 55, 59, 63, any]);
+            *byte = rng.pick(&[0, 1, 6, 10, 11, 16, 33, 38, 55, 59, any]);
         }
     }
 

@@ -8,8 +8,7 @@ use crate::turns::choice;
 use model::replay::evs_lent;
 use model::{Reader, Rng};
 
-/// The records as calls, up to the first that is malformed, with choices, plans and moves between
-/// them.
+/// The records as calls, up to the first that is malformed, with choices and plans between them.
 pub fn run(seed: u64, tally: &mut Tally) -> Result<(), String> {
     let mut rng = Rng::new(seed);
     let log = generated(&mut rng, 1_500);
@@ -31,10 +30,6 @@ pub fn run(seed: u64, tally: &mut Tally) -> Result<(), String> {
             let bytes = rng.pick(&[41, 41, 1_000, 4_096]);
             let call = planning(&mut rng, session.clock(), bytes);
             session.call(call, tally)?;
-        }
-        if rng.one_in(64) {
-            let time = session.clock();
-            session.call(Call::Move { time }, tally)?;
         }
     }
     Ok(())

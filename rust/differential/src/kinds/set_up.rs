@@ -1,6 +1,6 @@
 use super::streams::used;
 use crate::call::Call;
-use crate::numbers::{any_ev_count, any_t_reroute, edge, instead_of, lent_evs, settings};
+use crate::numbers::{any_ev_count, edge, instead_of, lent_evs, settings};
 use crate::planning::planning;
 use crate::session::Session;
 use crate::shape::Shape;
@@ -35,7 +35,6 @@ fn one(rng: &mut Rng, tally: &mut Tally) -> Result<(), String> {
         let any = rng.below(10) as usize;
         let flow = rng.pick(&[shape.flows - 1, shape.flows, any]);
         session.call(Call::Path { time, flow }, tally)?;
-        session.call(Call::Move { time }, tally)?;
         let bytes = rng.between(1, 100);
         session.call(Call::NewData { time, flow, bytes }, tally)?;
         session.call(choice(rng), tally)?;
@@ -49,20 +48,14 @@ fn call(rng: &mut Rng) -> (Call, u32) {
     let good = settings(rng, true);
     let mut numbers = good.numbers();
     let mut evs = good.ev_count;
-    let (mut single_path, mut t_reroute) = (good.single_path, good.t_reroute);
-    match rng.below(12) {
+    match rng.below(10) {
         0..=4 => beyond(rng, &mut numbers),
         5 => numbers.fill_with(|| edge(rng)),
         6 | 7 => evs = any_ev_count(rng),
-        8 | 9 => (single_path, t_reroute) = (!rng.one_in(4), any_t_reroute(rng)),
         _ => {}
     }
-    let mut call = Call::set_up(&Settings {
-        ev_count: evs,
-        single_path,
-        t_reroute,
-        ..Settings::from_numbers(numbers, good.first_psn, good.quick_adapt_off)
-    });
+    let spoilt = Settings::from_numbers(numbers, good.first_psn, good.quick_adapt_off);
+    let mut call = Call::set_up(&spoilt.with_evs(evs));
     if let Call::SetUp { settings, .. } = &mut call {
         if good.numbers() == numbers && rng.one_in(4) {
             settings.resize(rng.pick(&[0, 1, 11, 13, 24]), 1_024);

@@ -1,12 +1,12 @@
-//! `model-gen KIND SEED RECORDS`: writes a generated event log to standard output. The kinds are
-//! traffic, lossy, marked, winding, wide, flows, single-path, hostile and bulk.
+//! `model-gen traffic|lossy|marked|winding|wide|flows|hostile|bulk SEED RECORDS`: writes a
+//! generated event log to standard output.
 
 use model::gen;
 use std::io::{self, Write};
 use std::process::ExitCode;
 
 const USAGE: &str =
-    "usage: model-gen traffic|lossy|marked|winding|wide|flows|single-path|hostile|bulk SEED RECORDS";
+    "usage: model-gen traffic|lossy|marked|winding|wide|flows|hostile|bulk SEED RECORDS";
 
 fn main() -> ExitCode {
     let arguments: Vec<String> = std::env::args().skip(1).collect();
@@ -35,7 +35,6 @@ fn generate(arguments: &[String]) -> Option<Vec<u8>> {
         "winding" => Some(gen::winding(seed, records)),
         "wide" => Some(gen::wide(seed, records)),
         "flows" => Some(gen::flows(seed, records)),
-        "single-path" => Some(gen::single_path(seed, records)),
         "hostile" => Some(gen::hostile(seed, records)),
         "bulk" => Some(gen::bulk(seed, records)),
         _ => None,

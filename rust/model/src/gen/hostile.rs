@@ -2,20 +2,19 @@
 //! record that is malformed.
 
 use super::traffic::Sim;
-use super::{first_psn, near_wrap, past_table, settings_record, t_reroute, E};
+use super::{first_psn, near_wrap, past_table, settings_record, E};
 use crate::bounds::{BACKLOG_MAX, COUNT_END, EVS_USUAL, IN_FLIGHT_MIN, PSN_REACH, TIME_END};
 use crate::flow::Flow;
-use crate::log::{append, Record, SINGLE_PATH};
+use crate::log::{append, Record};
 use crate::replay::{CAPACITY, FLOWS};
 use crate::rng::Rng;
 use crate::settings::Settings;
 
 /// Half of the logs have old kinds only, the others records of all eight flows, and of flows past
-/// the table. Half of either have moves too.
+/// the table.
 pub fn hostile(seed: u64, records: usize) -> Vec<u8> {
     let mut rng = Rng::new(!seed);
     let mut settings = settings(&mut rng);
-    let moves = draw_profile(seed, &mut settings);
     let old_kinds = rng.one_in(2);
     if !old_kinds && rng.one_in(2) {
         settings.first_psn = near_wrap(&mut rng);
@@ -23,11 +22,7 @@ pub fn hostile(seed: u64, records: usize) -> Vec<u8> {
     if rng.one_in(16) {
         let named = rng.pick(&[None, Some(0), Some(1), Some(255)]);
         let named = named.filter(|_| !old_kinds);
-        return if moves > 0 && rng.one_in(2) {
-            bad_profile(&mut rng, settings)
-        } else {
-            bad_start(&mut rng, settings, named)
-        };
+        return bad_start(&mut rng, settings, named);
     }
     let start = if rng.one_in(4) {
         TIME_END - 1 - rng.below(1 << 12)
@@ -35,7 +30,6 @@ pub fn hostile(seed: u64, records: usize) -> Vec<u8> {
         rng.below(1 << 12)
     };
     let mut sim = Sim::new(rng, settings, start, records);
-    sim.moves = moves;
     if !old_kinds {
         sim.spread();
     }
@@ -79,18 +73,6 @@ fn settings(rng: &mut Rng) -> Settings {
     settings.with_evs(rng.pick(&[256, 256, 256, 512, 1_024, 2_048, 4_096]))
 }
 
-/// How often moves are asked for, as [`Sim`] has it: in half of the logs never. Most of the others
-/// are in the single-path profile (M-112); outside it no move is accepted. All this is drawn apart,
-/// so that the logs without moves are those that the seeds gave before there were any.
-fn draw_profile(seed: u64, settings: &mut Settings) -> u64 {
-    let mut rng = Rng::new(!seed ^ 1 << 63);
-    let moves = rng.pick(&[0, 0, 0, 8, 30, 120]);
-    if moves > 0 && !rng.one_in(4) {
-        *settings = settings.with_single_path(t_reroute(&mut rng));
-    }
-    moves
-}
-
 /// A log whose record 1 is refused, or that is empty. A path in its place names this flow.
 fn bad_start(rng: &mut Rng, settings: Settings, named: Option<u8>) -> Vec<u8> {
     let mut numbers = settings.numbers();
@@ -121,37 +103,12 @@ fn odd_count(rng: &mut Rng) -> u32 {
     rng.pick(&[0, 1, 128, 255, 257, 768, 4_095, 4_097, 8_192, 1 << 31, any])
 }
 
-/// Where the flags of settings stand; an EV count follows them.
-const FLAGS: usize = 56;
-
 /// Settings that say 256 EVs where they should say nothing.
 fn told_usual(settings: &Settings) -> Vec<u8> {
     let mut bytes = bytes_of(&settings_record(&settings.with_evs(0)));
-    bytes[FLAGS + 1..FLAGS + 5].copy_from_slice(&EVS_USUAL.to_le_bytes());
+    let end = bytes.len() - 4;
+    bytes[end..].copy_from_slice(&EVS_USUAL.to_le_bytes());
     bytes
-}
-
-/// A log whose record 1 is refused for what it has of the single-path profile, or is a move.
-fn bad_profile(rng: &mut Rng, settings: Settings) -> Vec<u8> {
-    let evs = rng.pick(&[256, 256, 1_024, 2_048, 4_096]);
-    let profile = settings.with_evs(evs).with_single_path(t_reroute(rng));
-    let plain = Settings {
-        single_path: false,
-        ..profile
-    };
-    let any = rng.next_u32() | 1 << 10;
-    let odd = rng.pick(&[0, 1, 9, 1_001, u32::MAX, any]);
-    let either = rng.pick(&[plain, profile]);
-    let mut first = bytes_of(&settings_record(&either));
-    match rng.below(8) {
-        0 => first = bytes_of(&Record::Move { time: 0 }),
-        1 => first = told_usual(&profile),
-        // What follows the flags is too short, too long, or a number of another meaning.
-        2..=4 => first[FLAGS] ^= SINGLE_PATH,
-        5 => first[FLAGS] |= rng.pick(&[4, 8, 0x80, 0xfc]),
-        _ => first = bytes_of(&settings_record(&profile.with_single_path(odd))),
-    }
-    [first, bytes_of(&Record::Move { time: 1 })].concat()
 }
 
 /// A flow of the table; flow 0 where all records are of old kinds.
@@ -247,9 +204,6 @@ fn edge_name(sim: &mut Sim, about: usize) -> Option<u8> {
 /// A record of any kind with fields that mean something to the present state, or nearly.
 fn spoilt(sim: &mut Sim) -> Record {
     let time = edge_time(sim);
-    if sim.moves > 0 && sim.rng.one_in(4) {
-        return edge_move(sim, time);
-    }
     let about = edge_about(sim);
     let flow = edge_name(sim, about);
     match sim.rng.below(12) {
@@ -290,14 +244,6 @@ fn edge_time(sim: &mut Sim) -> u64 {
         6 if sim.rng.one_in(100) => TIME_END - 1,
         _ => sim.now,
     }
-}
-
-/// A move at this time, or around that from which it is allowed while packets fly.
-fn edge_move(sim: &mut Sim, time: u64) -> Record {
-    let allowed = sim.reroute_time();
-    let edges = [time, allowed.wrapping_sub(1), allowed, allowed + 1];
-    let time = sim.rng.pick(&edges);
-    Record::Move { time }
 }
 
 fn edge_bytes(sim: &mut Sim, about: usize) -> u64 {
@@ -417,9 +363,7 @@ fn malformed(sim: &mut Sim) -> Vec<u8> {
     let mut bytes = bytes_of(&record);
     match sim.rng.below(8) {
         0 => {
-            // A path of the kind of a move would be one.
-            let near = if bytes.len() == 12 { 8 } else { 7 };
-            let kind = sim.rng.pick(&[0u16, near, 15, 17, 32, 39, 48, u16::MAX]);
+            let kind = sim.rng.pick(&[0u16, 7, 15, 17, 32, 39, 48, u16::MAX]);
             bytes[2..4].copy_from_slice(&kind.to_le_bytes());
         }
         1 => {

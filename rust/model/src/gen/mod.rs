@@ -4,10 +4,10 @@ mod hostile;
 mod traffic;
 
 pub use hostile::hostile;
-pub use traffic::{flows, lossy, marked, narrow, single_path, traffic, wide, winding};
+pub use traffic::{flows, lossy, marked, narrow, traffic, wide, winding};
 
-use crate::bounds::{COUNT_END, REROUTE_MAX, REROUTE_MIN, UNIT};
-use crate::log::{append, Record, QUICK_ADAPT_OFF, SINGLE_PATH};
+use crate::bounds::{COUNT_END, UNIT};
+use crate::log::{append, Record, QUICK_ADAPT_OFF};
 use crate::replay::{CAPACITY, FLOWS};
 use crate::rng::Rng;
 use crate::settings::Settings;
@@ -18,14 +18,15 @@ pub const E: [u64; 12] = [
 ];
 
 pub(crate) fn settings_record(settings: &Settings) -> Record {
-    let flag = |on: bool, bit: u8| if on { bit } else { 0 };
     Record::Settings {
         numbers: settings.numbers(),
         first_psn: settings.first_psn,
-        flags: flag(settings.quick_adapt_off, QUICK_ADAPT_OFF)
-            | flag(settings.single_path, SINGLE_PATH),
+        flags: if settings.quick_adapt_off {
+            QUICK_ADAPT_OFF
+        } else {
+            0
+        },
         ev_count: settings.ev_count,
-        t_reroute: settings.t_reroute,
     }
 }
 
@@ -48,13 +49,6 @@ fn past_table(rng: &mut Rng) -> u8 {
     let first = FLOWS as u8;
     let any = rng.between(FLOWS as u64, 255) as u8;
     rng.pick(&[first, first, first + 1, any, 255])
-}
-
-/// A t_reroute that is in its range: mostly the least, so that its time is often over.
-fn t_reroute(rng: &mut Rng) -> u32 {
-    let any = rng.between(REROUTE_MIN.into(), REROUTE_MAX.into()) as u32;
-    let least = REROUTE_MIN;
-    rng.pick(&[least, least, least, least + 1, 60, any, REROUTE_MAX])
 }
 
 /// Large packets by the program's ring and one ACK for all of them: the shortest way to a received

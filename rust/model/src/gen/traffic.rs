@@ -1,7 +1,7 @@
 //! Realistic traffic: a sender that keeps to the rules, a road with one narrow place, where packets
 //! queue, are marked, trimmed and lost, and a receiver for each flow that reports what arrives.
 
-use super::{first_psn, near_wrap, past_table, settings_record, t_reroute, E};
+use super::{first_psn, near_wrap, past_table, settings_record, E};
 use crate::bounds::{COUNT_END, EVS_USUAL, SIZE_MIN, TIME_END, UNIT};
 use crate::event::{Outcome, OTHER, TRIMMED, TRIMMED_LAST_HOP};
 use crate::flow::Flow;
@@ -69,33 +69,6 @@ pub fn flows(seed: u64, records: usize) -> Vec<u8> {
         if sim.rng.one_in(400) {
             sim.stray();
         }
-        sim.step();
-    }
-    sim.log
-}
-
-/// Traffic in the single-path profile (M-112), of one flow by old kinds or of several, over any
-/// number of EVs. Moves are asked for while packets fly, early and in time, and while nothing flies.
-pub fn single_path(seed: u64, records: usize) -> Vec<u8> {
-    let mut rng = Rng::new(seed);
-    let evs = rng.pick(&[EVS_USUAL, EVS_USUAL, 512, 1_024, 2_048, 4_096]);
-    let t_reroute = t_reroute(&mut rng);
-    let settings = settings(&mut rng).with_evs(evs).with_single_path(t_reroute);
-    let start = rng.below(1 << 20);
-    let mut sim = Sim::new(rng, settings, start, records);
-    sim.road.losses = sim.rng.pick(&[1, 1, 40]);
-    sim.road.marks = sim.rng.pick(&[0, 0, 3]);
-    sim.moves = sim.rng.pick(&[8, 30, 120]);
-    if !sim.rng.one_in(3) {
-        sim.spread();
-    }
-    if evs <= 512 && sim.rng.one_in(3) {
-        // Nothing flies yet: the EV comes near its last, so that it goes around among packets.
-        for _ in 0..evs - 3 {
-            sim.emit(Record::Move { time: start });
-        }
-    }
-    while !sim.full() {
         sim.step();
     }
     sim.log
@@ -293,8 +266,6 @@ pub(super) struct Sim {
     busiest: usize,
     /// Path choices before every packet, beside the usual ones.
     more_paths: u64,
-    /// A move is asked for in one step of so many; 0: in none.
-    pub moves: u64,
     ev: u16,
     road: Road,
     on_road: BinaryHeap<Reverse<Packet>>,
@@ -327,7 +298,6 @@ impl Sim {
             memory,
             now,
             more_paths: 0,
-            moves: 0,
             ev: 0,
             road,
             on_road: BinaryHeap::new(),
@@ -388,9 +358,6 @@ impl Sim {
 
     /// One thing happens, or time goes on.
     pub fn step(&mut self) {
-        if self.wants_to_move() {
-            return self.ask_to_move();
-        }
         let due = self.on_road.peek().map(|packet| packet.0.due);
         if due.is_some_and(|due| due <= self.now) {
             return self.arrive();
@@ -644,42 +611,6 @@ impl Sim {
             ev: packet.ev,
             flags: packet.flags,
         }
-    }
-
-    /// From when on a move is allowed while packets fly.
-    pub fn reroute_time(&self) -> u64 {
-        let State {
-            settings,
-            base,
-            last_move,
-            ..
-        } = self.state;
-        last_move + u64::from(settings.t_reroute) * base
-    }
-
-    /// More often where nothing but marked packets is left, since that is seldom.
-    fn wants_to_move(&mut self) -> bool {
-        let only_marked = self.state.flying == 0 && self.state.marked > 0;
-        let one_in = if only_marked { 3 } else { self.moves };
-        self.moves > 0 && self.rng.one_in(one_in)
-    }
-
-    /// A move is asked for: where nothing flies now; else also at the last tick at which it is
-    /// refused, which costs no time, or at the first at which it is allowed, mostly if that is
-    /// near. What flies then arrives later.
-    fn ask_to_move(&mut self) {
-        let now = self.now;
-        let allowed = self.reroute_time();
-        let near = allowed < now + 4 * self.road.base || self.rng.one_in(12);
-        let time = match self.rng.below(4) {
-            _ if self.state.flying == 0 => now,
-            0 => allowed.saturating_sub(1),
-            1 | 2 if near => allowed,
-            _ => now,
-        };
-        let time = time.clamp(now, TIME_END - 1);
-        self.emit(Record::Move { time });
-        self.now = now.max(self.state.clock);
     }
 
     /// With nothing on the road, the receiver tells once more what has arrived.

@@ -93,10 +93,6 @@ pub(super) fn path(time: u64) -> Record {
     Record::Path { time, flow: None }
 }
 
-pub(super) fn move_ev(time: u64) -> Record {
-    Record::Move { time }
-}
-
 /// Packets of one size, all sent at `time`.
 pub(super) fn sends(
     time: u64,

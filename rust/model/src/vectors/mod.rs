@@ -13,7 +13,6 @@ mod malformed;
 mod refusals;
 mod samples;
 mod sampling;
-mod single_path;
 mod window;
 
 use crate::log::Reader;
@@ -44,7 +43,6 @@ pub fn bundled() -> Vec<Vector> {
         ceiling::logs(),
         evs::logs(),
         flows::logs(),
-        single_path::logs(),
         malformed::logs(),
         long::logs(),
     ]

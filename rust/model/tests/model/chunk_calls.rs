@@ -6,7 +6,7 @@ use model::replay::evs_lent;
 use model::{Chunk, Memory, Outcome, Part, Refusal, State};
 
 pub const LOG_END: u64 = 1 << 48;
-pub const PIECE: usize = 65;
+pub const PIECE: usize = 61;
 /// What stands in the answers' room before a call.
 const UNANSWERED: u8 = 99;
 
@@ -132,7 +132,7 @@ fn a_full_room_leaves_what_is_unfinished() {
     }
 }
 
-/// Five records of 12 bytes and five bytes of a sixth, answered one by one for no bytes.
+/// Five records of 12 bytes and a byte of a sixth, answered one by one for no bytes.
 #[test]
 fn a_piece_of_several_records() {
     let path = record(6, &[&9u64.to_le_bytes()]);
@@ -147,14 +147,14 @@ fn a_piece_of_several_records() {
         assert_eq!(side.part.offset, 73 + 12 * answered);
     }
     let (taken, answers) = side.take(&bytes[PIECE..], true, 1).unwrap();
-    assert_eq!((taken.bytes, answers[0].ev), (7, Some(5)));
+    assert_eq!((taken.bytes, answers[0].ev), (11, Some(5)));
     assert_eq!((side.part.held, side.part.done), (0, 8));
     side.silent(&[], true, 1);
 }
 
 #[test]
 fn malformed_at_four_bytes() {
-    for malformed in [[0, 0, 1, 0], [10, 0, 8, 0], [10, 1, 6, 0], [11, 0, 6, 0]] {
+    for malformed in [[0, 0, 1, 0], [10, 0, 7, 0], [10, 1, 6, 0], [11, 0, 6, 0]] {
         for cut in 1..=3 {
             let mut side = Side::set_up();
             side.silent(&malformed[..cut], false, 4);
@@ -269,8 +269,8 @@ fn number_2_of_what_is_held() {
         let mut side = good.clone();
         side.part.stopped = stopped;
         for (change, sound) in [
-            ((|part| part.held = 65) as fn(&mut Part), true),
-            (|part| part.held = 66, false),
+            ((|part| part.held = 61) as fn(&mut Part), true),
+            (|part| part.held = 62, false),
             (|part| part.held = u64::MAX, false),
             (|part| part.offset = LOG_END - 1, true),
             (|part| part.offset = LOG_END, false),
@@ -324,7 +324,7 @@ fn number_2_of_the_context() {
 #[test]
 fn a_log_that_is_too_long() {
     for start in [Side::new(), Side::set_up()] {
-        for held in [0, 3, 65] {
+        for held in [0, 3, 61] {
             for many in [0u64, 1, 200] {
                 let mut side = start.clone();
                 side.part.held = held;

@@ -2,24 +2,22 @@
 //! answer is due and what is taken and held.
 
 use crate::chunk_calls::{Side, LOG_END, PIECE};
-use crate::example::{new_data, record, send, settings_e, settings_e_single};
+use crate::example::{new_data, record, send, settings_e};
 use model::chunks::Lines;
 use model::replay::{Replay, HEADER};
 use model::vectors::bundled;
 use model::{gen, replay, Chunk, Outcome, Part, Rng};
 
-/// The lengths and kinds of 01, M-107, M-110 and M-112.
-const PAIRS: [(u8, u8); 16] = [
+/// The lengths and kinds of 01, M-107 and M-110.
+const PAIRS: [(u8, u8); 14] = [
     (14, 1),
     (19, 2),
     (37, 3),
     (18, 4),
     (16, 5),
     (10, 6),
-    (10, 7),
     (55, 16),
     (59, 16),
-    (63, 16),
     (15, 33),
     (20, 34),
     (38, 35),
@@ -225,21 +223,6 @@ fn one_of_each() -> Vec<u8> {
     .concat()
 }
 
-/// Settings in the single-path profile, of either length, and moves, one of them refused.
-fn single_path(evs: Option<u32>) -> Vec<u8> {
-    let time = |time: u64| time.to_le_bytes();
-    [
-        settings_e_single(evs, 10),
-        record(7, &[&time(0)]),
-        new_data(0, 300),
-        send(10, 100, 0),
-        record(7, &[&time(959)]), // 26
-        record(7, &[&time(960)]),
-        record(6, &[&time(960)]),
-    ]
-    .concat()
-}
-
 /// The same of flow 2, and one of a flow that is not lent: 233 bytes and 13.
 fn one_of_each_by_flow() -> Vec<u8> {
     let psn = |psn: u32| psn.to_le_bytes();
@@ -266,7 +249,6 @@ fn small_logs() -> Vec<Vec<u8>> {
     let mut logs: Vec<Vec<u8>> = bundled.filter(|log| log.len() < 260).collect();
     logs.push(one_of_each());
     logs.push(one_of_each_by_flow());
-    logs.extend([None, Some(512)].map(single_path));
     logs
 }
 
@@ -282,15 +264,6 @@ fn one_of_each_is_accepted() {
     assert_eq!(log.len(), 233 + 13);
     let numbers: Vec<u8> = told.iter().map(|told| told.outcome.number).collect();
     assert_eq!(numbers, [0, 0, 0, 0, 0, 0, 0, 0, 0, 25]);
-
-    for (evs, length) in [(None, 61), (Some(512), 65)] {
-        let log = single_path(evs);
-        let told = joined(&Side::lending_to(&log), &log).told;
-        assert_eq!(log.len(), length + 16 + 21 + 4 * 12);
-        let numbers: Vec<u8> = told.iter().map(|told| told.outcome.number).collect();
-        assert_eq!(numbers, [0, 0, 0, 0, 26, 0, 0]);
-        assert_eq!(told[6].outcome.ev, Some(2));
-    }
 }
 
 #[test]
@@ -395,10 +368,9 @@ fn small_rooms() {
 fn any_log(rng: &mut Rng) -> Vec<u8> {
     let seed = rng.next_u64();
     let records = rng.pick(&[3, 20, 100]);
-    match rng.below(8) {
+    match rng.below(7) {
         0 => gen::narrow(seed, records, 64),
         3 => gen::flows(seed, records),
-        4 => gen::single_path(seed, records),
         1 => gen::lossy(seed, records),
         2 => gen::wide(seed, records),
         _ => gen::hostile(seed, records),
@@ -497,7 +469,7 @@ fn lines_are_those_of_the_joined_log() {
 /// Each chunk's own lines: the record that ends in it, and where the malformed one starts.
 #[test]
 fn lines_of_each_chunk() {
-    let log = [settings_e(), new_data(0, 9), vec![10, 0, 8, 0, 1, 2, 3]].concat();
+    let log = [settings_e(), new_data(0, 9), vec![10, 0, 7, 0, 1, 2, 3]].concat();
     let mut lines = Lines::default();
     for (bytes, ended, text) in [
         (&log[..56], false, ""),

@@ -20,12 +20,6 @@ pub fn settings_e_with(evs: u32) -> Vec<u8> {
     record(16, &[&numbers_e(), &[0], &evs.to_le_bytes()])
 }
 
-/// Settings in the single-path profile: the EV count, if it is told, then t_reroute.
-pub fn settings_e_single(evs: Option<u32>, t_reroute: u32) -> Vec<u8> {
-    let evs = evs.map_or(vec![], |evs| evs.to_le_bytes().to_vec());
-    record(16, &[&numbers_e(), &[2], &evs, &t_reroute.to_le_bytes()])
-}
-
 fn numbers_e() -> Vec<u8> {
     let numbers: [u32; 13] = [
         4096, 614_400, 96, 72, 4096, 1024, 224, 819, 512, 96, 32_768, 288, 0,

@@ -7,9 +7,9 @@ use model::{gen, parse, replay, write, Reader, Record, Refusal, Rng};
 const HEADER: &str = "rec ans inflight cwnd flying waiting backlog state\n";
 const FIRST: &str = "1 0 0 614400 0 0 0 IDLE\n";
 
-/// One record of each kind without a flow, settings in each length and meaning, every byte of it
-/// different where that is allowed. Kinds 33 to 38 have a page of their own.
-fn one_of_each() -> [Record; 11] {
+/// One record of each kind of 01, settings in both lengths, every byte of it different where that
+/// is allowed. Kinds 33 to 38 have a page of their own.
+fn one_of_each() -> [Record; 8] {
     let time = 0x0807_0605_0403_0201;
     let flow = None;
     let numbers = [
@@ -26,13 +26,6 @@ fn one_of_each() -> [Record; 11] {
         0x2c2b_2a29,
         0x302f_2e2d,
     ];
-    let settings = |flags, ev_count, t_reroute| Record::Settings {
-        numbers,
-        first_psn: 0x3433_3231,
-        flags,
-        ev_count,
-        t_reroute,
-    };
     [
         Record::NewData {
             time,
@@ -72,16 +65,23 @@ fn one_of_each() -> [Record; 11] {
             ev: 0x0e0d,
         },
         Record::Path { time, flow },
-        settings(1, 256, 0),
-        settings(0, 0x8483_8281, 0),
-        Record::Move { time },
-        settings(2, 256, 0x8483_8281),
-        settings(3, 0x8483_8281, 0x8887_8685),
+        Record::Settings {
+            numbers,
+            first_psn: 0x3433_3231,
+            flags: 1,
+            ev_count: 256,
+        },
+        Record::Settings {
+            numbers,
+            first_psn: 0x3433_3231,
+            flags: 0,
+            ev_count: 0x8483_8281,
+        },
     ]
 }
 
 /// The bytes of the above: length and kind, then 1, 2, 3 and so on, and the last ones as given.
-fn expected_bytes() -> [Vec<u8>; 11] {
+fn expected_bytes() -> [Vec<u8>; 8] {
     let bytes = |length: u8, kind: u8, last: &[u8]| {
         let counting = 1..=length - 2 - last.len() as u8;
         let head = [length, 0, kind, 0];
@@ -99,9 +99,6 @@ fn expected_bytes() -> [Vec<u8>; 11] {
         bytes(10, 6, &[]),
         bytes(55, 16, &[1]),
         bytes(59, 16, &[0, 0x81, 0x82, 0x83, 0x84]),
-        bytes(10, 7, &[]),
-        bytes(59, 16, &[2, 0x81, 0x82, 0x83, 0x84]),
-        bytes(63, 16, &[3, 0x81, 0x82, 0x83, 0x84, 0x85, 0x86, 0x87, 0x88]),
     ]
 }
 
@@ -161,12 +158,8 @@ fn other_lengths_are_malformed() {
             let mut other = bytes.clone();
             other[..2].copy_from_slice(&length.to_le_bytes());
             other.resize(100, 0);
-            let lengths: &[u16] = match (bytes[2], bytes.get(56)) {
-                (16, Some(0 | 1)) => &[55, 59],
-                (16, _) => &[59, 63],
-                _ => &[bytes.len() as u16 - 2],
-            };
-            let good = lengths.contains(&length);
+            let settings = bytes[2] == 16 && [55, 59].contains(&length);
+            let good = settings || usize::from(length) + 2 == bytes.len();
             assert_eq!(parse(&other, 0).is_ok(), good, "length {length}");
         }
     }
@@ -174,7 +167,7 @@ fn other_lengths_are_malformed() {
 
 #[test]
 fn other_kinds_are_malformed() {
-    let good = [1u16, 2, 3, 4, 5, 6, 7, 16, 33, 34, 35, 36, 37, 38];
+    let good = [1u16, 2, 3, 4, 5, 6, 16, 33, 34, 35, 36, 37, 38];
     for kind in 0..=u16::MAX {
         let accepted = [12usize, 17, 35, 16, 14, 8, 53, 57, 13, 18, 36, 17, 15, 9]
             .iter()
@@ -216,7 +209,7 @@ fn a_malformed_front_is_told_at_once() {
             assert_eq!(parse_front(&head[..3]), Ok(None));
         }
     }
-    let [_, send, ack, nack, _, _, settings, ..] = expected_bytes();
+    let [_, send, ack, nack, _, _, settings, _] = expected_bytes();
     for bytes in [send, ack, nack, settings] {
         let bytes = with_last(&bytes, 4);
         assert_eq!(parse_front(&bytes[..bytes.len() - 1]), Ok(None));
@@ -233,7 +226,7 @@ fn with_last(bytes: &[u8], last: u8) -> Vec<u8> {
 
 #[test]
 fn unknown_flag_bits_and_resend_bytes_are_malformed() {
-    let [_, send, ack, nack, _, _, settings, ..] = expected_bytes();
+    let [_, send, ack, nack, _, _, settings, _] = expected_bytes();
     for last in 0..=255 {
         let good = |bytes: &[u8]| parse(&with_last(bytes, last), 0).is_ok();
         assert_eq!(good(&send), last < 2, "resend {last}");
@@ -245,8 +238,7 @@ fn unknown_flag_bits_and_resend_bytes_are_malformed() {
 
 #[test]
 fn what_cannot_be_written() {
-    let [new_data, send, ack, nack, loss, path, settings, longer, a_move, single, longest] =
-        one_of_each();
+    let [new_data, send, ack, nack, loss, path, settings, longer] = one_of_each();
     let mut unwritable = Vec::new();
     let mut spoil = |mut record: Record, change: fn(&mut Record)| {
         change(&mut record);
@@ -269,10 +261,10 @@ fn what_cannot_be_written() {
             }
         });
     }
-    for record in [settings, longer, single, longest] {
+    for record in [settings, longer] {
         spoil(record, |record| {
             if let Record::Settings { flags, .. } = record {
-                *flags |= 4;
+                *flags = 2;
             }
         });
         spoil(record, |record| {
@@ -281,7 +273,7 @@ fn what_cannot_be_written() {
             }
         });
     }
-    assert_eq!(unwritable.len(), 12);
+    assert_eq!(unwritable.len(), 8);
     for record in unwritable {
         // 12 also where the room is too short.
         for length in [70, 0] {
@@ -290,7 +282,7 @@ fn what_cannot_be_written() {
             assert!(room.iter().all(|&byte| byte == 0xee));
         }
     }
-    for record in [loss, path, a_move] {
+    for record in [loss, path] {
         assert!(write(&record, &mut [0; 60]).is_ok());
     }
 }
@@ -317,7 +309,7 @@ fn any_record(rng: &mut Rng) -> Record {
     let flags = rng.below(4) as u8;
     let any = rng.next_u32() as u8;
     let flow = rng.pick(&[None, Some(0), Some(7), Some(any)]);
-    match rng.below(8) {
+    match rng.below(7) {
         0 => Record::NewData {
             time,
             flow,
@@ -356,17 +348,11 @@ fn any_record(rng: &mut Rng) -> Record {
             ev,
         },
         5 => Record::Path { time, flow },
-        6 => Record::Move { time },
         _ => Record::Settings {
             numbers: [0; 12].map(|_: u64| rng.next_u32().into()),
             first_psn: psn,
-            flags,
+            flags: flags & 1,
             ev_count: rng.pick(&[256, 512, psn, !psn]),
-            // Outside the profile there is none.
-            t_reroute: match flags & 2 {
-                0 => 0,
-                _ => rng.pick(&[9, 10, 256, !psn]),
-            },
         },
     }
 }
@@ -385,8 +371,8 @@ fn parse_after_write_gives_the_record() {
 #[test]
 fn write_after_parse_gives_the_bytes() {
     for seed in 0..40 {
-        let makes = [gen::traffic, gen::flows, gen::single_path, gen::hostile];
-        for log in makes.map(|make| make(seed, 300)) {
+        let made = [gen::traffic, gen::flows, gen::hostile].map(|make| make(seed, 300));
+        for log in made {
             let mut reader = Reader::new(&log);
             let mut again = Vec::new();
             while let Ok(Some(record)) = reader.next_record() {
@@ -454,9 +440,8 @@ fn a_malformed_record_stops_replay() {
         prints(&[before.clone(), cut], &lines);
     }
     for bad in [
-        record(8, &[&[0; 8]]),
+        record(7, &[&[0; 8]]),
         record(6, &[&[0; 9]]),
-        record(7, &[&[0; 9]]),
         with_last(&send(0, 4096, 0), 2),
     ] {
         prints(&[before.clone(), bad.clone()], &lines);

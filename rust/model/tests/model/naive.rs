@@ -82,7 +82,7 @@ impl Naive {
             }
             Event::Nack(event) => self.lose(event.psn),
             Event::Loss(event) => self.lose(event.psn),
-            Event::Path(_) | Event::Move(_) => {}
+            Event::Path(_) => {}
         }
     }
 

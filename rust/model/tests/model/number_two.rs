@@ -27,8 +27,6 @@ fn rig() -> Rig {
     state.last_adjust = 9_990;
     state.last_dec = 9_991;
     state.cursor = 17;
-    state.current_ev = 18;
-    state.last_move = 9_992;
     rig.memory.ev_times[9] = 10_400;
     rig.lay(
         4_294_967_294,
@@ -60,7 +58,6 @@ fn every_event() -> Vec<model::Event> {
         nack(NOW, 4_294_967_294, 0).into(),
         loss(NOW, 1).into(),
         path(NOW),
-        move_ev(NOW),
     ]
 }
 
@@ -95,15 +92,10 @@ fn all_spoilt(changes: &[(&str, Change)]) {
     }
 }
 
-/// A move alone is refused: it is for the single-path profile.
 #[test]
 fn the_unspoilt_state_is_good_and_takes_every_event() {
     for event in every_event() {
-        if event == move_ev(NOW) {
-            rig().refuse(26, event);
-        } else {
-            rig().accept(event);
-        }
+        rig().accept(event);
     }
 }
 
@@ -283,7 +275,6 @@ fn ledger_numbers() {
             r.state.name = Name::Active;
         }),
         ("cursor of 255", |r| r.state.cursor = 255),
-        ("current EV of 255", |r| r.state.current_ev = 255),
     ]);
     all_spoilt(&[
         ("backlog", |r| r.set_backlog((1 << 40) + 1)),
@@ -296,10 +287,6 @@ fn ledger_numbers() {
         }),
         ("in-flight at its highest", |r| r.state.in_flight = i64::MAX),
         ("cursor of 256", |r| r.state.cursor = 256),
-        ("current EV of 256", |r| r.state.current_ev = 256),
-        ("current EV at its widest", |r| {
-            r.state.current_ev = u32::MAX
-        }),
         ("turn of 1 among one flow", |r| r.state.turn = 1),
         ("turn at its widest", |r| r.state.turn = u64::MAX),
     ]);
@@ -312,7 +299,6 @@ fn times() {
         ("an EV time", |r| r.memory.ev_times[255] = (1 << 49) - 1),
         ("last adjust", |r| r.state.last_adjust = 10_000),
         ("last decrease", |r| r.state.last_dec = 10_000),
-        ("last move", |r| r.state.last_move = 10_000),
         ("send time", |r| r.memory.sent[SECOND] = 10_000),
         ("clock", |r| r.state.clock = (1 << 48) - 1),
     ]);
@@ -322,8 +308,6 @@ fn times() {
         ("last EV time", |r| r.memory.ev_times[255] = u64::MAX),
         ("last adjust", |r| r.state.last_adjust = 10_001),
         ("last decrease", |r| r.state.last_dec = 10_001),
-        ("last move", |r| r.state.last_move = 10_001),
-        ("last move at its widest", |r| r.state.last_move = u64::MAX),
         ("send time of a marked one", |r| {
             r.memory.sent[SECOND] = 10_001
         }),

@@ -8,7 +8,7 @@ use model::{gen, Event, Flow, Memory, Name, Outcome, Reader, Refusal, Rng, Setti
 use std::collections::BTreeMap;
 
 /// Room for every number of an answer.
-const NUMBERS: usize = Refusal::Reroute as usize + 1;
+const NUMBERS: usize = Refusal::Flow as usize + 1;
 
 /// cwnd lies between MTU and max_wnd: the latter without its division.
 fn check_window(state: &State) {
@@ -21,7 +21,7 @@ fn check_window(state: &State) {
 #[derive(Default)]
 struct Seen {
     /// Accepted events by kind.
-    kinds: [u32; 8],
+    kinds: [u32; 7],
     /// Answers by number.
     answers: [u32; NUMBERS],
     names: [u32; 4],
@@ -45,12 +45,18 @@ struct Seen {
 impl Seen {
     fn note(&mut self, event: &Event, outcome: Outcome, before: &Rig, after: &Rig) {
         self.answers[usize::from(outcome.number)] += 1;
-        if let Some(flow) = flow_of(event) {
-            self.note_flow(flow as usize, outcome, before, after);
+        let flow = flow_of(event) as usize;
+        let record = before.memory.flows.get(flow);
+        if record.is_some_and(|record| record.span() as usize == before.capacity()) {
+            self.full[flow] += 1;
         }
         if outcome.number != 0 {
             return;
         }
+        let wrapped = after.memory.flows[flow].low < before.memory.flows[flow].low;
+        self.flows[flow] += 1;
+        self.wraps_of[flow] += u32::from(wrapped);
+        self.wraps += u32::from(wrapped);
         let (before, after) = (&before.state, &after.state);
         if let Some(sampling) = outcome.sampling {
             let of_ack = matches!(event, Event::Ack(_));
@@ -69,7 +75,6 @@ impl Seen {
             Event::Nack(_) => 4,
             Event::Loss(_) => 5,
             Event::Path(_) => 6,
-            Event::Move(_) => 7,
         }] += 1;
         self.names[match after.name {
             Name::Idle => 0,
@@ -84,19 +89,6 @@ impl Seen {
         self.negative += u32::from(after.in_flight < 0);
     }
 
-    fn note_flow(&mut self, flow: usize, outcome: Outcome, before: &Rig, after: &Rig) {
-        let record = before.memory.flows.get(flow);
-        if record.is_some_and(|record| record.span() as usize == before.capacity()) {
-            self.full[flow] += 1;
-        }
-        if outcome.number == 0 {
-            let wrapped = after.memory.flows[flow].low < before.memory.flows[flow].low;
-            self.flows[flow] += 1;
-            self.wraps_of[flow] += u32::from(wrapped);
-            self.wraps += u32::from(wrapped);
-        }
-    }
-
     /// These letters and no others, each at least so often.
     #[track_caller]
     fn letters(&self, on_acks: &str, on_nacks: &str, least: u32) {
@@ -109,8 +101,8 @@ impl Seen {
 }
 
 /// Goes through a log with so many flows of 512 slots: what number 2 asks holds after every event,
-/// a refused event changes nothing, an accepted one nothing of other flows, a move nothing of any,
-/// both forms of an event do the same, none moves the turn, and the naive ledgers agree.
+/// a refused event changes nothing, an accepted one nothing of other flows, both forms of an event
+/// do the same, none moves the turn, and the naive ledgers agree.
 fn follow(log: &[u8], flows: usize, seen: &mut Seen) {
     let mut reader = Reader::new(log);
     let Ok(Some(first)) = reader.next_record() else {
@@ -137,13 +129,11 @@ fn follow(log: &[u8], flows: usize, seen: &mut Seen) {
         assert!(rig.holds(), "{event:?} on {:?}", before.state);
         assert_eq!(rig.state.turn, turn, "{event:?}");
         if outcome.number == 0 {
+            let flow = flow_of(&event) as usize;
             assert_eq!(rig.state.clock, time_of(&event));
-            let flow = flow_of(&event).map(|flow| flow as usize);
-            if let Some(flow) = flow {
-                naive[flow].take(&event);
-                naive[flow].check(&rig, flow);
-            }
-            for other in (0..flows).filter(|&other| flow != Some(other)) {
+            naive[flow].take(&event);
+            naive[flow].check(&rig, flow);
+            for other in (0..flows).filter(|&other| other != flow) {
                 assert_eq!(rig.own(other), before.own(other), "{event:?}");
             }
         } else {
@@ -164,9 +154,8 @@ fn realistic_logs() {
     for seed in 0..60 {
         follow(&gen::traffic(seed, 2_500), 1, &mut seen);
     }
-    // There are no moves in them.
     assert!(
-        seen.kinds[..7].iter().all(|&times| times > 10) && seen.kinds[7] == 0,
+        seen.kinds.iter().all(|&times| times > 10),
         "{:?}",
         seen.kinds
     );
@@ -215,28 +204,6 @@ fn logs_of_flows() {
     assert!(rules.iter().all(|&times| times > 10), "{rules:?}");
 }
 
-/// Traffic in the single-path profile is refused for its moves, and else seldom.
-#[test]
-fn logs_of_the_single_path_profile() {
-    let mut seen = Seen::default();
-    for seed in 0..40 {
-        follow(&gen::single_path(seed, 2_500), 8, &mut seen);
-    }
-    let refused: u32 = seen.answers[1..].iter().sum();
-    let others = refused - seen.answers[26];
-    assert!(others * 100 < seen.answers[0], "{:?}", seen.answers);
-    assert!(seen.answers[26] > 1_000, "{:?}", seen.answers);
-    assert!(seen.kinds[7] > 1_000, "{:?}", seen.kinds);
-    assert!(seen.kinds.iter().all(|&times| times > 100));
-    assert!(
-        seen.flows.iter().all(|&times| times > 100),
-        "{:?}",
-        seen.flows
-    );
-    let rules = [seen.cuts, seen.fired, seen.fast, seen.clamped];
-    assert!(rules.iter().all(|&times| times > 10), "{rules:?}");
-}
-
 #[test]
 fn hostile_logs() {
     let mut seen = Seen::default();
@@ -247,7 +214,7 @@ fn hostile_logs() {
         assert!(times.iter().all(|&times| times > 0), "{times:?}");
     }
     // 1, 2, 12 and 13 are no answers to an event of a log.
-    for number in [0, 3, 4, 5, 6, 7, 8, 9, 10, 11, 20, 21, 22, 23, 24, 25, 26] {
+    for number in [0, 3, 4, 5, 6, 7, 8, 9, 10, 11, 20, 21, 22, 23, 24, 25] {
         assert!(seen.answers[number] > 10, "{number}: {:?}", seen.answers);
     }
     assert!(
@@ -267,19 +234,12 @@ fn hostile_logs() {
 
 #[test]
 fn generated_logs_are_the_same_for_the_same_seed() {
-    for make in [
-        gen::traffic,
-        gen::wide,
-        gen::flows,
-        gen::single_path,
-        gen::hostile,
-        gen::bulk,
-    ] {
+    for make in [gen::traffic, gen::wide, gen::flows, gen::hostile, gen::bulk] {
         assert_eq!(make(3, 200), make(3, 200));
         assert_ne!(make(3, 200), make(4, 200));
     }
     for records in [1, 2, 100] {
-        for make in [gen::traffic, gen::single_path, gen::bulk] {
+        for make in [gen::traffic, gen::bulk] {
             let text = model::replay(&make(9, records));
             assert_eq!(text.lines().count(), records + 1);
         }
@@ -322,7 +282,7 @@ fn edge(rng: &mut Rng) -> u64 {
 
 fn spoil_state(rng: &mut Rng, state: &mut State) {
     let number = edge(rng);
-    match rng.below(30) {
+    match rng.below(26) {
         0 => state.clock = number,
         1 => state.flying = number,
         2 => state.marked = number,
@@ -347,10 +307,6 @@ fn spoil_state(rng: &mut Rng, state: &mut State) {
         21 => state.name = rng.pick(&[Name::Idle, Name::Pending, Name::Ready, Name::Active]),
         22 => state.settings.ev_count = rng.pick(&[255, 256, 512, number as u32]),
         23 => state.turn = rng.pick(&[1, 2, 7, 8, u64::MAX, number]),
-        24 => state.current_ev = rng.pick(&[1, 255, 256, number as u32]),
-        25 => state.last_move = rng.pick(&[state.clock, state.clock.wrapping_add(1), number]),
-        26 => state.settings.single_path = !state.settings.single_path,
-        27 => state.settings.t_reroute = rng.pick(&[9, 10, 1_000, 1_001, number as u32]),
         _ => {
             let mut numbers = state.settings.numbers();
             numbers[rng.below(12) as usize] = number;
@@ -400,7 +356,7 @@ fn any_event(rng: &mut Rng) -> Event {
     let time = edge(rng);
     let psn = edge(rng) as u32;
     let ev = rng.pick(&[0, 255, 256, u16::MAX]);
-    match rng.below(8) {
+    match rng.below(7) {
         0 => new_data(time, edge(rng)),
         1 => send(time, psn, edge(rng) as u32),
         2 => resend(time, psn, edge(rng) as u32),
@@ -413,7 +369,6 @@ fn any_event(rng: &mut Rng) -> Event {
         }
         .into(),
         5 => path(time),
-        6 => move_ev(time),
         _ => model::Ack {
             time,
             flow: 0,
@@ -439,8 +394,6 @@ fn garbage_is_answered() {
         let slots = [(FLYING, 100, 9_000, 0), (MARKED, 100, 9_000, 1)];
         let rig = Rig::e_with_flows(2).lay(u32::MAX, &slots);
         let mut rig = rig.lay_in(1, 62, &slots);
-        rig.state.settings.single_path = rng.one_in(2);
-        rig.state.settings.t_reroute = 10;
         for _ in 0..rng.below(3) {
             spoil_state(&mut rng, &mut rig.state);
         }
@@ -474,8 +427,7 @@ fn garbage_is_answered() {
         answers[usize::from(number)] += 1;
     }
     assert!(answers[0] > 100 && answers[2] > 1_000 && answers[3] > 100);
-    assert!(answers[25] > 100 && answers[26] > 100);
-    assert!(chosen.iter().all(|&times| times > 100));
+    assert!(answers[25] > 100 && chosen.iter().all(|&times| times > 100));
 }
 
 #[test]
@@ -507,11 +459,7 @@ fn any_settings_are_answered() {
     for _ in 0..20_000 {
         let numbers = [0; 12].map(|_: u64| edge(&mut rng));
         let evs = rng.pick(&[0, 255, 256, 512, 4_096, 8_192]);
-        let settings = Settings {
-            single_path: rng.one_in(2),
-            t_reroute: rng.pick(&[0, 9, 10, 1_000, 1_001, u32::MAX]),
-            ..Settings::from_numbers(numbers, 0, false).with_evs(evs)
-        };
+        let settings = Settings::from_numbers(numbers, 0, false).with_evs(evs);
         let lent = rng.pick(&[256, 512, evs as usize]);
         let flows = rng.pick(&[0, 1, 1, 8, 8, 9]);
         let capacity = rng.pick(&[0, 63, 64]);

@@ -128,7 +128,7 @@ fn a_refused_first_record_is_all_that_counts() {
 
 #[test]
 fn a_malformed_record_counts_once_and_ends_the_log() {
-    let unknown_kind = record(8, &[&[0; 8]]);
+    let unknown_kind = record(7, &[&[0; 8]]);
     let unknown_flag = nack(20, 0, 0, 4);
     let resend_byte = record(2, &[&[0; 16], &[2]]);
     let settings_again = settings_e();
@@ -562,7 +562,6 @@ fn generated() -> Vec<Vec<u8>> {
             gen::marked(seed, 2_000),
             gen::winding(seed, 500),
             gen::flows(seed, 2_000),
-            gen::single_path(seed, 2_000),
             gen::bulk(seed, 2_500),
         ]);
     }
@@ -597,9 +596,7 @@ fn generated_logs_by_the_printed_lines() {
         bytes[1] += figures.again_bytes;
     }
     // The logs are worth something.
-    for number in [
-        1, 3, 4, 5, 6, 7, 8, 9, 10, 11, 12, 20, 21, 22, 23, 24, 25, 26,
-    ] {
+    for number in [1, 3, 4, 5, 6, 7, 8, 9, 10, 11, 12, 20, 21, 22, 23, 24, 25] {
         assert!(numbers[number] > 5, "{number}: {numbers:?}");
     }
     assert!(kinds.iter().all(|&times| times > 20), "{kinds:?}");

@@ -1,7 +1,7 @@
 //! A state with memory of its own, and short ways to make events.
 
 use model::{
-    Ack, Event, Flow, Loss, Memory, Move, Nack, Name, NewData, Outcome, Path, PlanRefusal, Planned,
+    Ack, Event, Flow, Loss, Memory, Nack, Name, NewData, Outcome, Path, PlanRefusal, Planned,
     Refusal, Send, Settings, State, Turn,
 };
 
@@ -28,8 +28,6 @@ pub fn e() -> Settings {
         first_psn: 0,
         quick_adapt_off: false,
         ev_count: 256,
-        single_path: false,
-        t_reroute: 0,
     }
 }
 
@@ -309,24 +307,21 @@ pub fn time_of(event: &Event) -> u64 {
         Event::Nack(event) => event.time,
         Event::Loss(event) => event.time,
         Event::Path(event) => event.time,
-        Event::Move(event) => event.time,
     }
 }
 
-/// The flow of an event; a move has none.
-pub fn flow_of(event: &Event) -> Option<u64> {
+pub fn flow_of(event: &Event) -> u64 {
     match event {
-        Event::NewData(event) => Some(event.flow),
-        Event::Send(event) => Some(event.flow),
-        Event::Ack(event) => Some(event.flow),
-        Event::Nack(event) => Some(event.flow),
-        Event::Loss(event) => Some(event.flow),
-        Event::Path(event) => Some(event.flow),
-        Event::Move(_) => None,
+        Event::NewData(event) => event.flow,
+        Event::Send(event) => event.flow,
+        Event::Ack(event) => event.flow,
+        Event::Nack(event) => event.flow,
+        Event::Loss(event) => event.flow,
+        Event::Path(event) => event.flow,
     }
 }
 
-/// The same event of another flow; a move as it is. The others below are of flow 0.
+/// The same event of another flow. The others below are of flow 0.
 pub fn of(number: u64, event: impl Into<Event>) -> Event {
     let mut event = event.into();
     let flow = match &mut event {
@@ -336,7 +331,6 @@ pub fn of(number: u64, event: impl Into<Event>) -> Event {
         Event::Nack(event) => &mut event.flow,
         Event::Loss(event) => &mut event.flow,
         Event::Path(event) => &mut event.flow,
-        Event::Move(_) => return event,
     };
     *flow = number;
     event
@@ -409,8 +403,4 @@ pub fn loss(time: u64, psn: u32) -> Loss {
 
 pub fn path(time: u64) -> Event {
     Event::Path(Path { time, flow: 0 })
-}
-
-pub fn move_ev(time: u64) -> Event {
-    Event::Move(Move { time })
 }

@@ -54,7 +54,7 @@ fn every_number_that_a_log_can_meet_is_met() {
         .flat_map(|vector| answers(&replay(&vector.log)))
         .collect();
     let expected = [
-        0, 1, 3, 4, 5, 6, 7, 8, 9, 10, 11, 12, 20, 21, 22, 23, 24, 25, 26,
+        0, 1, 3, 4, 5, 6, 7, 8, 9, 10, 11, 12, 20, 21, 22, 23, 24, 25,
     ];
     assert_eq!(numbers, BTreeSet::from(expected));
 }
@@ -181,7 +181,7 @@ fn every_log_is_written_back() {
     }
 }
 
-/// What is read and what there is; the records have the lengths that 01 and 02 name, and two.
+/// What is read and what there is; the records have the lengths that 01 and M-110 name, and two.
 #[test]
 fn bytes_written_back_worked_out_by_hand() {
     let expected = [
@@ -203,20 +203,6 @@ fn bytes_written_back_worked_out_by_hand() {
         // Sends of 21 or 22 bytes; flow 0 has an old kind for both new packets and the resend too.
         ("flow-kinds", 57 + 17 + 3 * 22 + 40 + 21 + 19 + 13, 233),
         ("flow-zero", 57 + 17 + 21 + 40 + 21 + 21 + 21 + 19 + 12, 229),
-        ("single-256", 61 + 6 * 12 + 13 + 2 * 39, 224),
-        ("single-512", 65 + 16 + 21 + 2 * 18 + 5 * 12, 198),
-        ("single-reroute-9", 61 + 12, 73),
-        ("single-reroute-1001", 65 + 12, 77),
-        ("single-55", 0, 57 + 12),
-        ("single-flags", 0, 61 + 12),
-        ("single-63-clear", 0, 65 + 12),
-        ("single-63-256", 0, 65 + 12),
-        ("single-63-cut", 0, 64),
-        ("single-twice-59", 57 + 61 + 12, 130), // read on
-        ("single-twice-63", 61 + 65 + 12, 138),
-        ("move-short", 61, 61 + 11 + 12),
-        ("move-long", 61, 61 + 13 + 12),
-        ("first-move", 12 + 12, 24),
     ];
     let bundled = bundled();
     for (name, back, length) in expected {
@@ -531,121 +517,6 @@ fn flows_worked_out_by_hand() {
         [0, 0, 25, 25, 3, 25, 20, 25, 4, 25, 21, 25, 22, 25, 23, 3, 25, 25, 0]
     );
     all_printed(&[("flow-refused", "19 0 0 614400 0 0 300 READY 0")]);
-}
-
-/// All that the logs of M-112 print, behind the header. Each packet has 100 bytes, which a loss takes
-/// from cwnd; a sample of 50 leaves 614,400 * 50 / 96.
-#[test]
-fn single_path_worked_out_by_hand() {
-    let set_up = "1 0 0 614400 0 0 0 IDLE\n";
-    let shorter = "2 0 0 614400 0 0 0 IDLE 0\n\
-                   3 0 0 614400 0 0 0 IDLE\n\
-                   4 0 0 614400 0 0 0 IDLE 1\n\
-                   5 0 0 614400 0 0 0 IDLE 1\n\
-                   6 3 0 614400 0 0 0 IDLE\n\
-                   7 0 0 614400 0 0 0 IDLE\n\
-                   8 23 0 614400 0 0 0 IDLE\n\
-                   9 0 0 614400 0 0 0 IDLE g\n\
-                   10 0 0 614400 0 0 0 IDLE 2\n";
-    let longer = "2 0 0 614400 0 0 200 READY\n\
-                  3 0 100 614400 1 0 100 READY\n\
-                  4 23 100 614400 1 0 100 READY\n\
-                  5 26 100 614400 1 0 100 READY\n\
-                  6 0 100 614400 1 0 100 READY\n\
-                  7 0 100 614400 1 0 100 READY 1\n\
-                  8 0 0 614300 0 1 100 READY\n\
-                  9 0 0 614300 0 1 100 READY\n\
-                  10 0 0 614300 0 1 100 READY 2\n";
-    let edges = "2 0 0 614400 0 0 400 READY\n\
-                 3 0 100 614400 1 0 300 READY\n\
-                 4 26 100 614400 1 0 300 READY\n\
-                 5 0 100 614400 1 0 300 READY\n\
-                 6 0 100 614400 1 0 300 READY 1\n\
-                 7 0 200 614400 2 0 200 READY\n\
-                 8 0 200 320000 0 0 200 READY s\n\
-                 9 0 300 320000 1 0 100 READY\n\
-                 10 26 300 320000 1 0 100 READY\n\
-                 11 0 300 320000 1 0 100 READY\n\
-                 12 0 300 320000 1 0 100 READY 2\n\
-                 13 26 300 320000 1 0 100 READY\n\
-                 14 0 300 320000 1 0 100 READY 2\n\
-                 15 0 300 320000 1 0 100 READY\n\
-                 16 0 300 320000 1 0 100 READY 3\n";
-    let marked = "2 0 0 614400 0 0 300 READY\n\
-                  3 0 100 614400 1 0 200 READY\n\
-                  4 0 200 614400 2 0 100 READY\n\
-                  5 0 100 614300 1 1 100 READY\n\
-                  6 26 100 614300 1 1 100 READY\n\
-                  7 0 0 614300 0 2 100 READY n\n\
-                  8 0 0 614300 0 2 100 READY\n\
-                  9 0 0 614300 0 2 100 READY\n\
-                  10 0 0 614300 0 2 100 READY 2\n\
-                  11 0 100 614300 1 1 100 READY\n\
-                  12 26 100 614300 1 1 100 READY\n\
-                  13 0 100 614300 1 1 100 READY 2\n";
-    let on_flows = "2 0 0 614400 0 0 200 READY\n\
-                    3 0 0 614400 0 0 400 READY\n\
-                    4 0 100 614400 1 0 300 READY\n\
-                    5 26 100 614400 1 0 300 READY\n\
-                    6 0 200 614400 2 0 200 READY\n\
-                    7 0 200 614400 1 0 200 READY s\n\
-                    8 26 200 614400 1 0 200 READY\n\
-                    9 0 200 614400 0 0 200 READY s\n\
-                    10 0 200 614400 0 0 200 READY\n\
-                    11 0 200 614400 0 0 200 READY 1\n";
-    let feedback = "2 0 0 614400 0 0 500 READY\n\
-                    3 0 100 614400 1 0 400 READY\n\
-                    4 0 200 614400 2 0 300 READY\n\
-                    5 0 300 614400 3 0 200 READY\n\
-                    6 0 300 614400 2 0 200 READY s\n\
-                    7 0 300 614400 2 0 200 READY 0\n\
-                    8 0 200 614300 1 1 200 READY s\n\
-                    9 0 200 614300 1 1 200 READY 0\n\
-                    10 0 100 614200 0 2 200 READY\n\
-                    11 0 100 614200 0 2 200 READY 0\n\
-                    12 23 100 614200 0 2 200 READY\n\
-                    13 0 100 614200 0 2 200 READY\n\
-                    14 0 100 614200 0 2 200 READY 1\n\
-                    15 0 100 614200 0 2 200 READY g\n\
-                    16 0 100 614200 0 2 200 READY 1\n";
-    let outside = "2 0 0 614400 0 0 0 IDLE 0\n\
-                   3 26 0 614400 0 0 0 IDLE\n\
-                   4 3 0 614400 0 0 0 IDLE\n\
-                   5 0 0 614400 0 0 0 IDLE 1\n\
-                   6 26 0 614400 0 0 0 IDLE\n\
-                   7 0 0 614400 0 0 0 IDLE 2\n";
-    let set_up_first = [
-        ("single-256", shorter),
-        ("single-512", longer),
-        ("single-edges", edges),
-        ("single-marked", marked),
-        ("single-flows", on_flows),
-        ("single-feedback", feedback),
-        ("move-outside", outside),
-        ("single-twice-59", "2 12 57\n"),
-        ("single-twice-63", "2 12 61\n"),
-        ("move-short", "2 12 61\n"),
-        ("move-long", "2 12 61\n"),
-    ];
-    let refused = [
-        ("single-reroute-0", "1 1\n"),
-        ("single-reroute-9", "1 1\n"),
-        ("single-reroute-1001", "1 1\n"),
-        ("single-55", "1 12 0\n"),
-        ("single-flags", "1 12 0\n"),
-        ("single-63-clear", "1 12 0\n"),
-        ("single-63-256", "1 12 0\n"),
-        ("single-63-cut", "1 12 0\n"),
-        ("first-move", "1 12 0\n"),
-    ];
-    let bundled = bundled();
-    let accepted = set_up_first.map(|(name, lines)| (name, format!("{set_up}{lines}")));
-    let refused = refused.map(|(name, line)| (name, line.to_string()));
-    for (name, lines) in accepted.into_iter().chain(refused) {
-        let text = text(&bundled, name);
-        let behind = text.split_once('\n').expect("the header").1;
-        assert_eq!(behind, lines, "{name}");
-    }
 }
 
 #[test]

@@ -17,7 +17,6 @@ enum Function {
     Nack,
     Loss,
     Path,
-    Move,
     Replay,
     Chunk,
     Status,
@@ -47,20 +46,12 @@ impl Lent<'_> {
         first_psn: u32,
         quick_adapt_off: bool,
         ev_count: u32,
-        single_path: bool,
-        t_reroute: u32,
     ) -> u32 {
         let beside = Beside {
             first: &mut settings.to_vec(),
             ..Beside::default()
         };
-        let arguments = [
-            first_psn.into(),
-            quick_adapt_off.into(),
-            ev_count.into(),
-            single_path.into(),
-            t_reroute.into(),
-        ];
+        let arguments = [first_psn.into(), quick_adapt_off.into(), ev_count.into()];
         self.ask(Function::SetUp, &arguments, beside) as u32
     }
 
@@ -112,10 +103,6 @@ impl Lent<'_> {
     /// The number in the low 32 bits, and where it is 0 the EV above them.
     pub fn path(&mut self, time: u64, flow: usize) -> u64 {
         self.event(Function::Path, &[time, flow as u64])
-    }
-
-    pub fn move_ev(&mut self, time: u64) -> u32 {
-        self.event(Function::Move, &[time]) as u32
     }
 
     /// What is named stands in `turn`: see [`Turn::of`](crate::Turn::of).

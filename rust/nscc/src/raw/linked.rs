@@ -16,8 +16,6 @@ mod c {
             first_psn: u32,
             quick_adapt_off: bool,
             ev_count: u32,
-            single_path: bool,
-            t_reroute: u32,
             state: *mut u64,
             state_len: usize,
             flows: *mut u64,
@@ -166,24 +164,6 @@ mod c {
             time: u64,
             flow: usize,
         ) -> u64;
-
-        pub fn nscc_move(
-            state: *mut u64,
-            state_len: usize,
-            flows: *const u64,
-            flows_len: usize,
-            outstanding: *const u64,
-            outstanding_len: usize,
-            marked: *const u64,
-            marked_len: usize,
-            sizes: *const u32,
-            sizes_len: usize,
-            sent: *const u64,
-            sent_len: usize,
-            evs: *const u64,
-            evs_len: usize,
-            time: u64,
-        ) -> u32;
 
         pub fn nscc_choose(
             state: *mut u64,
@@ -419,20 +399,11 @@ impl Lent<'_> {
         first_psn: u32,
         quick_adapt_off: bool,
         ev_count: u32,
-        single_path: bool,
-        t_reroute: u32,
     ) -> u32 {
+        let (numbers, many) = (settings.as_ptr(), settings.len());
         call!(
             nscc_set_up,
-            [
-                settings.as_ptr(),
-                settings.len(),
-                first_psn,
-                quick_adapt_off,
-                ev_count,
-                single_path,
-                t_reroute
-            ],
+            [numbers, many, first_psn, quick_adapt_off, ev_count],
             self,
             []
         )
@@ -492,10 +463,6 @@ impl Lent<'_> {
     /// The number in the low 32 bits, and where it is 0 the EV above them.
     pub fn path(&mut self, time: u64, flow: usize) -> u64 {
         call!(nscc_path, [], self, [time, flow])
-    }
-
-    pub fn move_ev(&mut self, time: u64) -> u32 {
-        call!(nscc_move, [], self, [time])
     }
 
     /// What is named stands in `turn`: see [`Turn::of`](crate::Turn::of).

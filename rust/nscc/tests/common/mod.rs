@@ -23,8 +23,6 @@ pub fn e() -> Settings {
         first_psn: 0,
         quick_adapt_off: false,
         ev_count: 256,
-        single_path: false,
-        t_reroute: 0,
     }
 }
 

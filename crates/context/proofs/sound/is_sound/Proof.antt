@@ -49,12 +49,9 @@ cast-result c = search rules
 count-requires : tie.Need-count-requires
 count-requires c κs = search rules
 
-is-sound-requires-2 : tie.Need-is-sound-requires-2
-is-sound-requires-2 c κs = search rules
-
 phase-of-requires : tie.Need-phase-of-requires
 phase-of-requires c κs =
-    let l = c.before.before.before.before.before.before.before.before.before.before in
+    let l = c.before.before.before.before.before.before.before.before in
     let h = l.before.before in
     let r = h.before.before in
     let B =
@@ -64,12 +61,12 @@ phase-of-requires c κs =
 
 returns-4 : tie.Need-returns-4
 returns-4 c =
-    let l = c.before.before.before.before.before.before.before.before.before.before.before.before in
+    let l = c.before.before.before.before.before.before.before.before.before.before in
     let h = l.before.before in
     let r = h.before.before in
     tests_left (given r.before) _ r.before.in-range.ensures r.if1.false _ h.before.is-sound.ensures h.if2.false _
-    l.before.flows-ok.ensures l.if3.false _ _ _ _ c.before.before.before.before.before.before.before.times_ok_lem.ensures
-    c.before.before.is-sound2.ensures c.before.before.before.before.count.ensures c.before.phase-of.ensures
+    l.before.flows-ok.ensures l.if3.false _ _ _ c.before.before.before.before.before.before.times_ok_lem.ensures
+    c.before.before.before.count.ensures c.before.phase-of.ensures
 
 pub is-sound-spec : {M : Type 1} → statement M
 is-sound-spec =
@@ -84,6 +81,5 @@ is-sound-spec =
     times-ok-requires
     cast-result
     count-requires
-    is-sound-requires-2
     phase-of-requires
     returns-4)
