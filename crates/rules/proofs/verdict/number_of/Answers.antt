@@ -83,10 +83,6 @@ pub returns-in-Flow : goal.returns-in-Flow
 unfolding number_of
 returns-in-Flow c = rw c.in-Flow.is
 
-pub returns-in-NoMove : goal.returns-in-NoMove
-unfolding number_of
-returns-in-NoMove c = rw c.in-NoMove.is
-
 pub returns-in-PlanTooLong : goal.returns-in-PlanTooLong
 unfolding number_of
 returns-in-PlanTooLong c = rw c.in-PlanTooLong.is
