@@ -1,107 +1,170 @@
 // Replays an event log: `nscc LOG`, or `nscc` with the log on standard input; `nscc --help` says what else there is. Messages go to
-// standard error and begin with the program's name. A program here has no exit status: with `--status` it writes one to descriptor 3,
-// for tools/nscc.
+// standard error and begin with the program's name.
 #![tactic(auto)]
 
 mod options;
 
-use crate::options::Options;
-use libc::{STDERR_FILENO, STDIN_FILENO, STDOUT_FILENO};
-use replay_stream::{Input, Task};
+use crate::options::{Options, WORD_MOST};
+use replay_stream::Task;
+use std::env::Env;
+use std::io::{Cursor, ErrorKind, Read, Write};
+use std::process::ExitCode;
+use std::rt::Files;
+use std::{fs, io};
 
-// How it ended, as a digit: all is written; a log could not be read, or what is made of it not written, to the end; a wrong usage.
-const DONE: u8 = b'0';
+// How it ended, as its exit status: all is written; a log could not be read, or what is made of it not written, to the end; a wrong usage.
+const DONE: u8 = 0;
 
-const FAILED: u8 = b'1';
+const FAILED: u8 = 1;
 
-const MISUSED: u8 = b'2';
+const MISUSED: u8 = 2;
 
-// Where `--status` has it written.
-const STATUS_FILENO: i32 = 3;
+// Room for the longest reason.
+const REASON_MOST: usize = 320;
 
-// Begins a message.
-fn name_itself() {
-    io::write_all(STDERR_FILENO, b"nscc: ");
+// The system's number of a name that is too long.
+const NAME_TOO_LONG: i32 = 36;
+
+// Writes to standard error, whose own failures nobody could be told.
+fn say(messages: &impl Print, text: &[u8]) {
+    let _ = messages.write_all(text);
 }
 
-// A message: what failed, and why by errno.
-fn tell_failed(what: &[u8]) -> u8 {
-    name_itself();
-    os::fail(what);
+// Begins a message.
+fn name_itself(messages: &impl Print) {
+    say(messages, b"nscc: ");
+}
+
+// The end of a message: why something failed, in the system's words, without the number that stands behind them.
+fn say_why(messages: &impl Print, why: io::Error) {
+    let mut room = [0u8; REASON_MOST];
+    let mut text = Cursor::new(&mut room[..]);
+    let _ = write!(text, "{why}");
+    let length = (text.position() as usize).min(REASON_MOST);
+    if let Ok(reason) = std::str::from_utf8(&room[..length]) {
+        let words = match reason.split_once(" (os error ") {
+            Some((words, _)) => words,
+            None => reason,
+        };
+        let _ = messages.println(words);
+    }
+}
+
+// A message: what failed, and why.
+fn tell_failed(messages: &impl Print, what: &[u8], why: io::Error) -> u8 {
+    name_itself(messages);
+    say(messages, what);
+    say(messages, b": ");
+    say_why(messages, why);
     FAILED
 }
 
 // Says what a usage is.
-fn tell_usage() -> u8 {
-    name_itself();
-    io::write_all(STDERR_FILENO, b"usage: nscc [-p] [-r] [--] [LOG]\n");
+fn tell_usage(messages: &impl Print) -> u8 {
+    name_itself(messages);
+    say(messages, b"usage: nscc [-p] [-r] [--] [LOG]\n");
     MISUSED
 }
 
 // Says why a log was not replayed to its end.
-fn tell_ending(input: Input, name: &[u8]) -> u8 {
+fn tell_ending(messages: &impl Print, input: replay_stream::Input, name: &[u8]) -> u8 {
     match input {
-        Input::Done => DONE,
-        Input::Long => {
-            name_itself();
-            io::write_all(STDERR_FILENO, name);
-            io::write_all(STDERR_FILENO, b": reaches 2^48 bytes\n");
+        replay_stream::Input::Done => DONE,
+        replay_stream::Input::Long => {
+            name_itself(messages);
+            say(messages, name);
+            say(messages, b": reaches 2^48 bytes\n");
             FAILED
         }
-        Input::Failed => tell_failed(name),
-        Input::Unwritten => tell_failed(b"standard output"),
+        replay_stream::Input::Failed(why) => tell_failed(messages, name, why),
+        replay_stream::Input::Unwritten(why) => tell_failed(messages, b"standard output", why),
     }
-}
-
-// Writes a text to standard output, and answers whether it is written.
-fn write_out(text: &[u8]) -> bool {
-    io::write_all(STDOUT_FILENO, text)
 }
 
 // How it ended that a text was to be written.
-fn status_of(written: bool) -> u8 {
-    if written {
-        return DONE;
+fn status_of(messages: &impl Print, written: io::Result<()>) -> u8 {
+    match written {
+        Ok(()) => DONE,
+        Err(why) => tell_failed(messages, b"standard output", why),
     }
-    tell_failed(b"standard output")
 }
 
-fn write_help() -> bool {
-    write_out(b"usage: nscc [-p] [-r] [--] [LOG]\n")
-        & write_out(
-            b"Replays an event log, of standard input where LOG is - or is not there, and writes a line for each record.\n",
-        )
-        & write_out(b"  -p, --progress  tells on standard error how many records are done\n")
-        & write_out(b"  -r, --report    writes a report of the run in place of its lines\n")
-        & write_out(b"  -h, --help      writes this\n")
-        & write_out(b"      --version   writes the version\n")
-        & write_out(b"      --          what follows is no option\n")
+fn write_help(rt: &impl Print) -> io::Result<()> {
+    rt.write_all(b"usage: nscc [-p] [-r] [--] [LOG]\n")?;
+    rt.write_all(
+        b"Replays an event log, of standard input where LOG is - or is not there, and writes a line for each record.\n",
+    )?;
+    rt.write_all(b"  -p, --progress  tells on standard error how many records are done\n")?;
+    rt.write_all(b"  -r, --report    writes a report of the run in place of its lines\n")?;
+    rt.write_all(b"  -h, --help      writes this\n")?;
+    rt.write_all(b"      --version   writes the version\n")?;
+    rt.write_all(b"      --          what follows is no option\n")
 }
 
-// Replays the log that a file has, and says why it did not come to its end where it did not.
-fn replay_log(fd: i32, name: &[u8], task: Task) -> u8 {
-    let replayed = replay_stream::replay_from(fd, task);
+// Replays the log that a reader gives, and says why it did not come to its end where it did not.
+fn replay_log<L: Read, R: Print + Eprint>(
+    rt: &R,
+    messages: &impl Print,
+    log: &mut L,
+    name: &[u8],
+    task: Task,
+) -> u8 {
+    let replayed = replay_stream::replay_from(rt, log, task);
     let input = replayed.input;
-    tell_ending(input, name)
+    tell_ending(messages, input, name)
 }
 
-// Opens the log that a word names, and replays it; `-` is standard input.
-fn open_and_replay(index: usize, task: Task) -> u8 {
-    let mut path = io::buffer();
-    let length = os::arg(index, &mut path);
-    if os::errno() != 0 {
-        return tell_failed(b"LOG");
+// Replays the log that standard input gives.
+fn replay_input<R: Print + Eprint + Input>(rt: &R, messages: &impl Print, task: Task) -> u8 {
+    let mut log = rt.reader();
+    replay_log(rt, messages, &mut log, b"standard input", task)
+}
+
+// Opens the file that a word names. A name is text.
+fn open<R: Files>(rt: &R, word: &[u8]) -> io::Result<R::File> {
+    match std::str::from_utf8(word) {
+        Ok(name) => fs::open(rt, name),
+        Err(_) => Err(io::Error::new(ErrorKind::InvalidInput, "its name is not UTF-8")),
     }
-    if (length == 1) & (path[0] == b'-') {
-        return replay_log(STDIN_FILENO, b"standard input", task);
+}
+
+// Opens the log that a word names, and replays it.
+fn open_and_replay<R: Print + Eprint + Files>(
+    rt: &R,
+    messages: &impl Print,
+    word: &[u8],
+    task: Task,
+) -> u8 {
+    match open(rt, word) {
+        Err(why) => tell_failed(messages, word, why),
+        Ok(file) => {
+            let mut log = file;
+            replay_log(rt, messages, &mut log, word, task)
+        }
     }
-    let fd = os::open_read(&path[..length]);
-    if fd < 0 {
-        return tell_failed(&path[..length]);
+}
+
+// Replays the log of the word at an index; `-` is standard input.
+fn replay_named<R: Print + Eprint + Input + Files + Env>(
+    rt: &R,
+    messages: &impl Print,
+    index: usize,
+    task: Task,
+) -> u8 {
+    let mut word = [0u8; WORD_MOST];
+    match rt.arg(index, &mut word) {
+        Err(_) => tell_failed(
+            messages,
+            b"LOG",
+            io::Error::from_raw_os_error(NAME_TOO_LONG),
+        ),
+        Ok(length) => {
+            if (length == 1) & (word[0] == b'-') {
+                return replay_input(rt, messages, task);
+            }
+            open_and_replay(rt, messages, &word[..length], task)
+        }
     }
-    let status = replay_log(fd, &path[..length], task);
-    libc::close(fd);
-    status
 }
 
 // What is made of a log.
@@ -114,39 +177,41 @@ fn task_of(o: Options) -> Task {
 }
 
 // Says which word is no option.
-fn tell_unknown(index: usize) -> u8 {
-    let mut word = io::buffer();
-    let length = os::arg(index, &mut word);
-    name_itself();
-    io::write_all(STDERR_FILENO, &word[..length]);
-    io::write_all(STDERR_FILENO, b": no such option\n");
-    tell_usage()
+fn tell_unknown(rt: &impl Env, messages: &impl Print, index: usize) -> u8 {
+    let mut word = [0u8; WORD_MOST];
+    name_itself(messages);
+    if let Ok(length) = rt.arg(index, &mut word) {
+        say(messages, &word[..length]);
+    }
+    say(messages, b": no such option\n");
+    tell_usage(messages)
 }
 
 // Does what is asked for, and answers how that ended.
-fn perform(o: Options) -> u8 {
+fn perform<R: Print + Eprint + Input + Files + Env>(
+    rt: &R,
+    messages: &impl Print,
+    o: Options,
+) -> u8 {
     if o.unknown != 0 {
-        return tell_unknown(o.unknown);
+        return tell_unknown(rt, messages, o.unknown);
     }
     if o.help {
-        return status_of(write_help());
+        return status_of(messages, write_help(rt));
     }
     if o.version {
-        return status_of(write_out(b"nscc 1.0.0\n"));
+        return status_of(messages, rt.write_all(b"nscc 1.0.0\n"));
     }
     if o.many {
-        return tell_usage();
+        return tell_usage(messages);
     }
     if o.log == 0 {
-        return replay_log(STDIN_FILENO, b"standard input", task_of(o));
+        return replay_input(rt, messages, task_of(o));
     }
-    open_and_replay(o.log, task_of(o))
+    replay_named(rt, messages, o.log, task_of(o))
 }
 
-fn main() {
-    let o = options::read();
-    let status = perform(o);
-    if o.status {
-        io::write_all(STATUS_FILENO, &[status]);
-    }
+fn main(rt: HostRuntime) -> ExitCode {
+    let o = options::read(&rt);
+    ExitCode::from(perform(&rt, &rt.stderr(), o))
 }

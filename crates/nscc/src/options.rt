@@ -1,12 +1,14 @@
 // The words of the command line: what is asked for, and of which log.
-use check::same;
+use std::env::{Env, FillError};
+
+// No word that is looked at is longer.
+pub(crate) const WORD_MOST: usize = 4096;
 
 // What a word says.
 #[derive(Clone, Copy)]
 enum Word {
     Progress,
     Report,
-    Status,
     Help,
     Version,
     // What comes behind it is no option.
@@ -20,10 +22,9 @@ enum Word {
 // What the words say. A word is told by its index, 0 where there is none.
 #[derive(Clone, Copy)]
 pub(crate) struct Options {
-    // Progress is told, a report made in place of lines, and how it ended written to descriptor 3.
+    // Progress is told, and a report made in place of lines.
     pub progress: bool,
     pub report: bool,
-    pub status: bool,
     pub help: bool,
     pub version: bool,
     // The options have ended.
@@ -37,25 +38,14 @@ pub(crate) struct Options {
 
 // What a word of two bytes or more that begins with `-` says.
 fn option_of(word: &[u8]) -> Word {
-    if same(word, b"-p") | same(word, b"--progress") {
-        return Word::Progress;
+    match word {
+        b"-p" | b"--progress" => Word::Progress,
+        b"-r" | b"--report" => Word::Report,
+        b"-h" | b"--help" => Word::Help,
+        b"--version" => Word::Version,
+        b"--" => Word::End,
+        _ => Word::Unknown,
     }
-    if same(word, b"-r") | same(word, b"--report") {
-        return Word::Report;
-    }
-    if same(word, b"-h") | same(word, b"--help") {
-        return Word::Help;
-    }
-    if same(word, b"--version") {
-        return Word::Version;
-    }
-    if same(word, b"--status") {
-        return Word::Status;
-    }
-    if same(word, b"--") {
-        return Word::End;
-    }
-    Word::Unknown
 }
 
 // What a word says, where the options have ended or not.
@@ -77,7 +67,6 @@ impl Options {
         Options {
             progress: false,
             report: false,
-            status: false,
             help: false,
             version: false,
             ended: false,
@@ -92,7 +81,6 @@ impl Options {
         match word {
             Word::Progress => self.progress = true,
             Word::Report => self.report = true,
-            Word::Status => self.status = true,
             Word::Help => self.help = true,
             Word::Version => self.version = true,
             Word::End => self.ended = true,
@@ -106,22 +94,27 @@ impl Options {
     }
 }
 
-// What is said with the word at an index more.
-fn read_word(options: Options, index: usize) -> Options {
-    let mut word = io::buffer();
-    let length = os::arg(index, &mut word);
-    let says = word_of(&word[..length], options.ended);
-    options.with(says, index)
+// What is said with the word at an index more, if there is one. A word that is too long is no option.
+fn read_word(rt: &impl Env, options: Options, index: usize) -> Option<Options> {
+    let mut word = [0u8; WORD_MOST];
+    match rt.arg(index, &mut word) {
+        Ok(length) => {
+            let says = word_of(&word[..length], options.ended);
+            Some(options.with(says, index))
+        }
+        Err(FillError::TooLong) => Some(options.with(Word::Log, index)),
+        Err(FillError::NotPresent) => None,
+    }
 }
 
 // What the words of the command line say.
-pub(crate) fn read() -> Options {
-    let count = os::arg_count();
+pub(crate) fn read(rt: &impl Env) -> Options {
     let mut options = Options::none();
-    let mut index = 1;
-    while index < count {
-        options = read_word(options, index);
-        index += 1;
+    for index in 1..usize::MAX {
+        match read_word(rt, options, index) {
+            Some(more) => options = more,
+            None => break,
+        }
     }
     options
 }

@@ -1,70 +1,74 @@
 // What the programs write: progress to standard error; header, lines and report to standard output, where each write's answer is looked at.
 use crate::Task;
 use crate::reading::Reading;
-use libc::{STDERR_FILENO, STDOUT_FILENO};
 use replay::Place;
 use report_text::SHEET_MOST;
+use std::io;
 
-// How many records are done, on standard error.
-fn tell(place: Place) {
-    io::write_all(STDERR_FILENO, b"nscc: ");
-    io::print_decimal(STDERR_FILENO, place.done);
-    io::write_all(STDERR_FILENO, b" records\n");
+// How many records are done, on standard error. Whether that is written is not looked at.
+fn tell(rt: &impl Eprint, place: Place) {
+    let done = place.done;
+    let _ = eprintln!(rt; "nscc: {done} records");
 }
 
 // Behind each part of a report that brought bytes; those of lines are told as they are written.
-pub(crate) fn tell_counted(task: Task, part: Reading, place: Place) {
+pub(crate) fn tell_counted(rt: &impl Eprint, task: Task, part: Reading, place: Place) {
     let Task::Report { progress } = task else {
         return;
     };
     if progress & part.on {
-        tell(place);
+        tell(rt, place);
     }
 }
 
 // Writes lines, unless a write before failed, and answers whether all are written.
-pub(crate) fn put_lines(written: bool, text: &[u8], place: Place, progress: bool) -> bool {
-    if !written {
-        return false;
-    }
-    if !io::write_all(STDOUT_FILENO, text) {
-        return false;
-    }
+pub(crate) fn put_lines<R: Print + Eprint>(
+    rt: &R,
+    written: io::Result<()>,
+    text: &[u8],
+    place: Place,
+    progress: bool,
+) -> io::Result<()> {
+    written?;
+    rt.write_all(text)?;
     if progress {
-        tell(place);
+        tell(rt, place);
     }
-    true
+    Ok(())
 }
 
 // The header of the lines.
-fn write_header() -> bool {
+fn write_header(rt: &impl Print) -> io::Result<()> {
     let mut out = [0u8; replay_lines::HEADER];
     let n = replay_lines::header(&mut out);
-    io::write_all(STDOUT_FILENO, &out[..n])
+    rt.write_all(&out[..n])
 }
 
 // What is written before the log is read: lines have a header. Answers whether it is written.
-pub(crate) fn write_first(task: Task) -> bool {
+pub(crate) fn write_first(rt: &impl Print, task: Task) -> io::Result<()> {
     match task {
-        Task::Lines { .. } => write_header(),
-        Task::Report { .. } => true,
+        Task::Lines { .. } => write_header(rt),
+        Task::Report { .. } => Ok(()),
     }
 }
 
 // The report.
-fn write_sheet(figures: &[u64]) -> bool {
+fn write_sheet(rt: &impl Print, figures: &[u64]) -> io::Result<()> {
     let mut out = [0u8; SHEET_MOST];
     let n = report_text::sheet(figures, &mut out);
-    io::write_all(STDOUT_FILENO, &out[..n])
+    rt.write_all(&out[..n])
 }
 
 // What is written behind it, where all before was written: a report.
-pub(crate) fn write_last(written: bool, task: Task, figures: &[u64]) -> bool {
+pub(crate) fn write_last(
+    rt: &impl Print,
+    written: io::Result<()>,
+    task: Task,
+    figures: &[u64],
+) -> io::Result<()> {
     let Task::Report { .. } = task else {
         return written;
     };
-    if !written {
-        return false;
-    }
-    write_sheet(figures)
+    written?;
+    write_sheet(rt, figures)
 }

@@ -3,6 +3,7 @@ use crate::fields::narrow;
 use crate::phrase::Phrase;
 use crate::worlds::World;
 use crate::{calls, fields, make, say, slots, words, worlds};
+use std::io;
 
 // The world, the one before its last call or to compare it with, and the time of calls.
 #[derive(Clone, Copy)]
@@ -46,36 +47,36 @@ fn set_slot(b: Bench, p: Phrase) -> Bench {
 }
 
 // Writes whether the world has changed, and turns back.
-fn compare(b: Bench) -> Bench {
-    say::comparison(b.before, b.world);
-    at(b.before, b.time)
+fn compare(out: &impl Print, b: Bench) -> io::Result<Bench> {
+    say::comparison(out, b.before, b.world)?;
+    Ok(at(b.before, b.time))
 }
 
 // Writes what a look finds.
-fn look(b: Bench, p: Phrase) -> Bench {
+fn look(out: &impl Print, b: Bench, p: Phrase) -> io::Result<Bench> {
     let n = p.numbers;
     let status = p.word == words::STATUS_OF;
-    say::look(worlds::look(b.world, status, narrow(n[0])));
-    b
+    say::look(out, worlds::look(b.world, status, narrow(n[0])))?;
+    Ok(b)
 }
 
 // Writes the flow's record.
-fn record(b: Bench) -> Bench {
-    say::record(b.world);
-    b
+fn record(out: &impl Print, b: Bench) -> io::Result<Bench> {
+    say::record(out, b.world)?;
+    Ok(b)
 }
 
 // Another world, or the same to compare with.
-fn set_world(b: Bench, p: Phrase) -> Bench {
+fn set_world(out: &impl Print, b: Bench, p: Phrase) -> io::Result<Bench> {
     let n = p.numbers;
     let word = p.word;
     match word {
-        words::FULL => at(make::full(), make::CLOCK),
-        words::EMPTY => at(make::empty(narrow(n[0]), narrow(n[1])), make::CLOCK),
-        words::FLOWN => at(make::flown(narrow(n[0]), narrow(n[1])), make::CLOCK),
-        words::PAIR => at(make::pair(), make::CLOCK),
-        words::KEEP => at(b.world, b.time),
-        _ => compare(b),
+        words::FULL => Ok(at(make::full(), make::CLOCK)),
+        words::EMPTY => Ok(at(make::empty(narrow(n[0]), narrow(n[1])), make::CLOCK)),
+        words::FLOWN => Ok(at(make::flown(narrow(n[0]), narrow(n[1])), make::CLOCK)),
+        words::PAIR => Ok(at(make::pair(), make::CLOCK)),
+        words::KEEP => Ok(at(b.world, b.time)),
+        _ => compare(out, b),
     }
 }
 
@@ -104,26 +105,26 @@ fn call(b: Bench, p: Phrase) -> Bench {
 }
 
 // Writes what a choice answers, so that a case may have several.
-fn choose(b: Bench, p: Phrase) -> Bench {
+fn choose(out: &impl Print, b: Bench, p: Phrase) -> io::Result<Bench> {
     let c = call(b, p);
-    say::choice(c.before, c.world);
-    c
+    say::choice(out, c.before, c.world)?;
+    Ok(c)
 }
 
-pub(crate) fn act(b: Bench, p: Phrase) -> Bench {
+pub(crate) fn act(out: &impl Print, b: Bench, p: Phrase) -> io::Result<Bench> {
     let word = p.word;
     match word {
-        words::MTU..=words::TIME => set_number(b, p),
-        words::STATUS..=words::EV_TIME => set_slot(b, p),
-        words::FULL..=words::COMPARE => set_world(b, p),
-        words::STATUS_OF..=words::NEXT_MARKED => look(b, p),
-        words::RECORD => record(b),
-        words::CHOOSE => choose(b, p),
-        words::NEW_DATA..=words::SET_UP => call(b, p),
+        words::MTU..=words::TIME => Ok(set_number(b, p)),
+        words::STATUS..=words::EV_TIME => Ok(set_slot(b, p)),
+        words::FULL..=words::COMPARE => set_world(out, b, p),
+        words::STATUS_OF..=words::NEXT_MARKED => look(out, b, p),
+        words::RECORD => record(out, b),
+        words::CHOOSE => choose(out, b, p),
+        words::NEW_DATA..=words::SET_UP => Ok(call(b, p)),
         words::UNKNOWN => {
-            say::text(b" unknown");
-            b
+            say::text(out, b" unknown")?;
+            Ok(b)
         }
-        _ => b,
+        _ => Ok(b),
     }
 }

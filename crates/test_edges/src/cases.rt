@@ -2,13 +2,14 @@
 use crate::bench::Bench;
 use crate::phrase::Phrase;
 use crate::{bench, read, report, say, words};
+use std::io;
 
 // A word is acted on when the next one comes.
-fn act_before(b: Bench, p: Phrase, number: bool) -> Bench {
+fn act_before(out: &impl Print, b: Bench, p: Phrase, number: bool) -> io::Result<Bench> {
     if number {
-        return b;
+        return Ok(b);
     }
-    bench::act(b, p)
+    bench::act(out, b, p)
 }
 
 // With the word or the number that stands in a part of the line.
@@ -19,13 +20,13 @@ fn phrase_with(p: Phrase, line: &[u8], from: usize, end: usize, number: bool) ->
     Phrase::new(words::place(line, from, end), true)
 }
 
-fn finish(b: Bench, p: Phrase) {
-    let c = bench::act(b, p);
-    report::write(p.word, c.before, c.world, c.time);
+fn finish(out: &impl Print, b: Bench, p: Phrase) -> io::Result<()> {
+    let c = bench::act(out, b, p)?;
+    report::write(out, p.word, c.before, c.world, c.time)
 }
 
 // One case: what stands before the parenthesis is its name.
-fn case(line: &[u8]) {
+fn case(out: &impl Print, line: &[u8]) -> io::Result<()> {
     let mut bench = bench::start();
     let mut phrase = Phrase::new(words::NONE, false);
     let mut from = 0;
@@ -33,23 +34,24 @@ fn case(line: &[u8]) {
         let end = read::end_of(line, from, true);
         if phrase.open {
             let number = read::is_number(read::byte_at(line, from));
-            bench = act_before(bench, phrase, number);
+            bench = act_before(out, bench, phrase, number)?;
             phrase = phrase_with(phrase, line, from, end, number);
         }
         phrase = phrase.stop(read::byte_at(line, end));
         from = end + 1;
     }
-    finish(bench, phrase);
+    finish(out, bench, phrase)
 }
 
-pub(crate) fn run(s: &[u8]) {
+pub(crate) fn run(out: &impl Print, s: &[u8]) -> io::Result<()> {
     let mut from = 0;
     while from < s.len() {
         let end = read::end_of(s, from, false);
-        say::text(&s[from..end]);
-        say::text(b":");
-        case(&s[from..end]);
-        say::text(b"\n");
+        say::text(out, &s[from..end])?;
+        say::text(out, b":")?;
+        case(out, &s[from..end])?;
+        say::text(out, b"\n")?;
         from = end + 1;
     }
+    Ok(())
 }

@@ -6,6 +6,7 @@ use crate::worlds::{Call, World};
 use crate::{flows, say, worlds};
 use ledger::Flow;
 use sender::{Ack, Loss, Send};
+use std::io;
 
 // A new packet of 41 bytes.
 fn a_send(f: Flow) -> Send {
@@ -22,19 +23,19 @@ fn an_ack(f: Flow) -> Ack {
     plain_ack(before, 0, before, narrow(f.held))
 }
 
-fn event(w: World, time: u64, call: Call) {
-    say::answer(w, worlds::after(w, time, call));
+fn event(out: &impl Print, w: World, time: u64, call: Call) -> io::Result<()> {
+    say::answer(out, w, worlds::after(w, time, call))
 }
 
 // Seven answers.
-pub(crate) fn each(w: World, time: u64) {
+pub(crate) fn each(out: &impl Print, w: World, time: u64) -> io::Result<()> {
     let flow = flows::flow_of(w);
     let psn = flow.low;
-    event(w, time, Call::NewData(1));
-    event(w, time, Call::Send(a_send(flow)));
-    event(w, time, Call::Ack(an_ack(flow)));
-    event(w, time, Call::Nack(plain_nack(psn, 0, 2)));
-    event(w, time, Call::Loss(Loss { psn, ev: 0 }));
-    event(w, time, Call::Path);
-    event(w, time, Call::Choose);
+    event(out, w, time, Call::NewData(1))?;
+    event(out, w, time, Call::Send(a_send(flow)))?;
+    event(out, w, time, Call::Ack(an_ack(flow)))?;
+    event(out, w, time, Call::Nack(plain_nack(psn, 0, 2)))?;
+    event(out, w, time, Call::Loss(Loss { psn, ev: 0 }))?;
+    event(out, w, time, Call::Path)?;
+    event(out, w, time, Call::Choose)
 }

@@ -19,8 +19,13 @@ mod slots;
 mod words;
 mod worlds;
 
-fn main() {
-    let mut buffer = io::large_buffer();
-    let n = io::read_full(libc::STDIN_FILENO, &mut buffer);
-    cases::run(&buffer[..n]);
+use std::io;
+
+// Room for the cases.
+const CASES_MOST: usize = 64 << 10;
+
+fn main(rt: HostRuntime) -> io::Result<()> {
+    let mut buffer = [0u8; CASES_MOST];
+    let n = read::full(&mut rt.reader(), &mut buffer)?;
+    cases::run(&rt, &buffer[..n])
 }

@@ -1,5 +1,23 @@
 // Words and numbers in the text of the cases.
-ghost use Rattle.std.specs.Prelude.{◌≤◌, length};
+ghost use Rattle.std.specs.Prelude.{◌≤◌, length, IfOk};
+
+use std::io;
+use std::io::Read;
+
+// Reads until buf is full or the input ends, and answers how many bytes it put at buf's front.
+pub(crate) fn full<R: Read>(input: &mut R, buf: &mut [u8]) -> io::Result<usize>
+    ensures { IfOk result (λ n. n ≤ length buf.new) }
+{
+    let mut done = 0;
+    while done < buf.len() {
+        let got = input.read(&mut buf[done..])?;
+        if got == 0 {
+            break;
+        }
+        done += got;
+    }
+    Ok(done)
+}
 
 // What stands at a place; past the end, the end of a line.
 pub(crate) fn byte_at(s: &[u8], at: usize) -> u8 {

@@ -2,6 +2,7 @@
 use crate::same::same_world;
 use crate::worlds::World;
 use crate::{events, make, ring, say, words};
+use std::io;
 use window::Settings;
 
 // In-flight of the worked example: none of its records leaves it below zero.
@@ -13,18 +14,18 @@ fn bytes_of(in_flight: i64) -> u64 {
 }
 
 // A line of document 01's worked example.
-fn row(w: World) {
+fn row(out: &impl Print, w: World) -> io::Result<()> {
     let state = w.state;
     let totals = state.totals;
     let window = state.window;
     let phase = state.phase;
-    say::also(w.number as u64);
-    say::also(bytes_of(totals.in_flight));
-    say::also(window.cwnd);
-    say::also(totals.flying as u64);
-    say::also(totals.marked as u64);
-    say::also(totals.backlog);
-    say::word_of(phase);
+    say::also(out, w.number as u64)?;
+    say::also(out, bytes_of(totals.in_flight))?;
+    say::also(out, window.cwnd)?;
+    say::also(out, totals.flying as u64)?;
+    say::also(out, totals.marked as u64)?;
+    say::also(out, totals.backlog)?;
+    say::word_of(out, phase)
 }
 
 // What setting up must leave, by the number that it answered.
@@ -36,29 +37,36 @@ fn set_up_leaves(settings: Settings, table: usize, number: u32) -> World {
 }
 
 // The number; then `fresh` or `same`, where the world is what setting up must leave.
-fn set_up(before: World, after: World) {
+fn set_up(out: &impl Print, before: World, after: World) -> io::Result<()> {
     let state = before.state;
     let number = after.number;
-    say::also(number as u64);
+    say::also(out, number as u64)?;
     if number == 0 {
-        say::text(b" fresh");
+        say::text(out, b" fresh")?;
     } else {
-        say::text(b" same");
+        say::text(out, b" same")?;
     }
     if !same_world(set_up_leaves(state.settings, after.table, number), after) {
-        say::text(b" CHANGED");
+        say::text(out, b" CHANGED")?;
     }
+    Ok(())
 }
 
 // By the last word of a case: the world before and after its call, and the time.
-pub(crate) fn write(word: u32, before: World, after: World, time: u64) {
+pub(crate) fn write(
+    out: &impl Print,
+    word: u32,
+    before: World,
+    after: World,
+    time: u64,
+) -> io::Result<()> {
     match word {
-        words::NEW_DATA..=words::PATH => say::answer(before, after),
-        words::SET_UP => set_up(before, after),
-        words::EVENTS => events::each(after, time),
-        words::ROW => row(after),
-        words::LEDGER => ring::write(after),
-        words::COMPARE..=words::CHOOSE => (),
-        _ => say::text(b" unknown"),
+        words::NEW_DATA..=words::PATH => say::answer(out, before, after),
+        words::SET_UP => set_up(out, before, after),
+        words::EVENTS => events::each(out, after, time),
+        words::ROW => row(out, after),
+        words::LEDGER => ring::write(out, after),
+        words::COMPARE..=words::CHOOSE => Ok(()),
+        _ => say::text(out, b" unknown"),
     }
 }

@@ -2,6 +2,7 @@
 // its ring from low on, slot by slot, equal ones together with their number: f flying, m marked, d done, e empty, x what no slot may be.
 use crate::worlds::World;
 use crate::{flows, say, slots, worlds};
+use std::io;
 
 const FLYING: u8 = b'f';
 
@@ -54,32 +55,32 @@ struct Run {
 }
 
 impl Run {
-    fn write(self) {
+    fn write(self, out: &impl Print) -> io::Result<()> {
         let kind = self.kind;
         match kind {
-            FLYING => say::text(b" f"),
-            MARKED => say::text(b" m"),
-            DONE => say::text(b" d"),
-            EMPTY => say::text(b" e"),
-            _ => say::text(b" x"),
-        }
-        say::number(self.count);
+            FLYING => say::text(out, b" f"),
+            MARKED => say::text(out, b" m"),
+            DONE => say::text(out, b" d"),
+            EMPTY => say::text(out, b" e"),
+            _ => say::text(out, b" x"),
+        }?;
+        say::number(out, self.count)
     }
 
     // The run with a slot more, or a new one where the slot is of another kind.
-    fn next(self, kind: u8) -> Run {
+    fn next(self, out: &impl Print, kind: u8) -> io::Result<Run> {
         if self.kind == kind {
-            return Run {
+            return Ok(Run {
                 kind,
                 count: std::num::wrapping_add_u64(self.count, 1),
-            };
+            });
         }
-        self.write();
-        Run { kind, count: 1 }
+        self.write(out)?;
+        Ok(Run { kind, count: 1 })
     }
 }
 
-fn slots(w: World) {
+fn slots(out: &impl Print, w: World) -> io::Result<()> {
     let mut run = Run {
         kind: kind(w, slot_after(w, 0)),
         count: 0,
@@ -87,21 +88,21 @@ fn slots(w: World) {
     let end = worlds::capacity(w.table, w.wide);
     let mut k = 0;
     while k < end {
-        run = run.next(kind(w, slot_after(w, k)));
+        run = run.next(out, kind(w, slot_after(w, k)))?;
         k += 1;
     }
-    run.write();
+    run.write(out)
 }
 
-pub(crate) fn write(w: World) {
+pub(crate) fn write(out: &impl Print, w: World) -> io::Result<()> {
     let state = w.state;
     let totals = state.totals;
     let flow = flows::flow_of(w);
-    say::also(w.number as u64);
-    say::also(flow.low as u64);
-    say::also(flow.next as u64);
-    say::also(totals.flying as u64);
-    say::also(totals.marked as u64);
-    say::also(totals.marked_bytes);
-    slots(w);
+    say::also(out, w.number as u64)?;
+    say::also(out, flow.low as u64)?;
+    say::also(out, flow.next as u64)?;
+    say::also(out, totals.flying as u64)?;
+    say::also(out, totals.marked as u64)?;
+    say::also(out, totals.marked_bytes)?;
+    slots(out, w)
 }

@@ -10,7 +10,9 @@ mod same;
 mod say;
 mod tables;
 
-fn main() {
-    cases::run();
-    tables::run();
+use std::io;
+
+fn main(rt: HostRuntime) -> io::Result<()> {
+    cases::run(&rt)?;
+    tables::run(&rt)
 }

@@ -2,41 +2,42 @@
 use context::choice::Turn;
 use rules::verdict::number_of;
 use sender::look::Look;
+use std::io;
 
-pub(crate) fn text(t: &[u8]) {
-    io::write_all(libc::STDOUT_FILENO, t);
+pub(crate) fn text(out: &impl Print, t: &[u8]) -> io::Result<()> {
+    out.write_all(t)
 }
 
 // A space and a number.
-pub(crate) fn also(n: u32) {
-    text(b" ");
-    io::print_decimal(libc::STDOUT_FILENO, n as u64);
+pub(crate) fn also(out: &impl Print, n: u32) -> io::Result<()> {
+    text(out, b" ")?;
+    print!(out; "{n}")
 }
 
 // A refusal's verdict: whether state and lent memory are as they were.
-pub(crate) fn verdict(same: bool) {
+pub(crate) fn verdict(out: &impl Print, same: bool) -> io::Result<()> {
     if same {
-        text(b" same");
-        return;
+        return text(out, b" same");
     }
-    text(b" CHANGED");
+    text(out, b" CHANGED")
 }
 
 // The number that a look answered, and what it found.
-pub(crate) fn look(a: Look) {
+pub(crate) fn look(out: &impl Print, a: Look) -> io::Result<()> {
     let verdict = a.verdict;
-    also(number_of(verdict));
-    also(a.found);
+    also(out, number_of(verdict))?;
+    also(out, a.found)
 }
 
 // The flow that a choice names, and its packet: a new one, or a marked one again.
-pub(crate) fn named(t: Turn) {
-    text(b" flow ");
-    io::print_decimal(libc::STDOUT_FILENO, t.flow as u64);
+pub(crate) fn named(out: &impl Print, t: Turn) -> io::Result<()> {
+    text(out, b" flow ")?;
+    let flow = t.flow;
+    print!(out; "{flow}")?;
     if t.resend {
-        text(b" again");
+        text(out, b" again")?;
     } else {
-        text(b" new");
+        text(out, b" new")?;
     }
-    also(t.psn);
+    also(out, t.psn)
 }
