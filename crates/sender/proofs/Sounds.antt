@@ -10,7 +10,7 @@ use native.Mathlib.Omega.{arith}
 use lib.Dec.{ltb, eqb}
 use lib.ListN.{length, get_or, set, take, drop, length-set, length-drop, take-append-drop}
 use lib.Seq.{take_all, take-suc, get_or-drop, drop-drop}
-use borrow.Author.Tests.{ltb-true, eqb-true, lt-ltb, eq-eqb}
+use borrow.Author.Tests.{ltb-true, eqb-true, lt-ltb, eq-eqb, not-true, not-false}
 use Rattle.rules.specs.Branch.{so_both, eq_both}
 use Rattle.rules.specs.Test.{both, whole}
 use Rattle.window.specs.Limits.{time_end, later_end}

@@ -29,6 +29,9 @@ use Rattle.window.specs.declared.Sampling.{Sampling}
 use Rattle.window.proofs.Tests.{window_later, sample_bounds, same_sample}
 use Rattle.window.proofs.Keeps.{cwnd_most}
 use Rattle.window.proofs.MaxWnd.{max_wnd_high}
+use Rattle.paths.specs.Path.{choice}
+use Rattle.paths.specs.declared.Choice.{Choice}
+use Rattle.paths.proofs.Chosen.{choice_inside}
 use Rattle.ledger.specs.Packets.{is_flying, is_marked, is_out}
 use Rattle.ledger.specs.Bounds.{size_least, backlog_most, Flown}
 use Rattle.ledger.specs.Ring.{Ring, Ledger, cap_of, long_of, packet_of}

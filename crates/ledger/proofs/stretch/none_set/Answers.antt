@@ -1,5 +1,5 @@
 -- `none_set` joins three stretches: up to the first whole word, the whole words, and what is behind them.
-use Rattle.std.proofs.Common.{◌+◌, ◌-◌, ◌*◌, ◌/◌, Bool, ◌&&◌, ◌∙◌, ap₂, arith, rules}
+use Rattle.std.proofs.Common.{◌+◌, ◌-◌, ◌*◌, ◌/◌, Bool, ◌&&◌, ◌∙◌, ap₂, arith}
 use Rattle.ledger.specs.Stretch.{clear_at}
 use Rattle.ledger.proofs.Stretches.{in_join}
 use Rattle.ledger.proofs.stretch.none_set.Goals as goal

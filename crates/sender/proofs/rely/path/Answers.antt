@@ -2,12 +2,10 @@
 use mathlib.Core.Path.{refl, sym, ap, ap₂, ◌∙◌}
 use mathlib.Core.List.{[]}
 use Prim.Native.Nat.{ℕ}
-use borrow.Author.Rules.{rules}
-use borrow.Author.Tests.{not-true, not-false}
 use Rattle.rules.specs.Verdict.{number_of, accepted_zero, refused_not}
 use Rattle.rules.specs.declared.verdict.Verdict.TheVariants.{Accepted}
 use Rattle.ledger.specs.Memory.{Memory, memory}
-use Rattle.sender.specs.World.{World, world, view_of, routed}
+use Rattle.sender.specs.World.{world, view_of, routed}
 use Rattle.sender.specs.Rows.{path_rows}
 use Rattle.sender.specs.Steps.{route_of, path_state, path_step}
 use Rattle.sender.specs.Events.{past_path}

@@ -1,11 +1,9 @@
 -- `ack` puts the ledger's step, the window's rules and the EV's time together (`ack_is`); each call's need is what a sound world and an ACK
 -- that no row refuses leave (`ack_ready`).
-use borrow.Author.Rules.{rules}
 use native.Mathlib.Omega.{arith}
-use Rattle.ledger.specs.Ring.{Ledger}
-use Rattle.ledger.specs.Memory.{memory, Kept, kept}
+use Rattle.ledger.specs.Memory.{memory, kept}
 use Rattle.ledger.specs.Steps.{acknowledge_of}
-use Rattle.sender.specs.World.{World, world, view_of, ledger_of}
+use Rattle.sender.specs.World.{world, view_of, ledger_of}
 use Rattle.sender.proofs.Sounds.{SoundFacts, among_facts, holds_ledger}
 use Rattle.sender.proofs.Views.{sound_lengths}
 use Rattle.sender.proofs.Stepping.{Ackable, ack_facts, avoid_asks, Ready, ready_above, ready_word, state_asks, ack_ready, sample_at}

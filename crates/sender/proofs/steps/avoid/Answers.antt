@@ -1,6 +1,5 @@
 -- `avoid` sets the EV's time where feedback says so, and else leaves the times.
 use mathlib.Core.Path.{refl}
-use borrow.Author.Rules.{rules}
 use Rattle.rules.specs.Branch.{so_yes, so_no}
 use Rattle.sender.specs.Steps.{avoided_in}
 use Rattle.sender.proofs.steps.avoid.Goals as goal

@@ -1,10 +1,8 @@
 -- `loss` puts the ledger's step, the window's rules and the EV's time together (`loss_is`); each call's need is what a sound world and a
 -- loss that no row refuses leave (`marked_ready`).
-use borrow.Author.Rules.{rules}
-use Rattle.ledger.specs.Ring.{Ledger}
-use Rattle.ledger.specs.Memory.{memory, Kept, kept}
+use Rattle.ledger.specs.Memory.{memory, kept}
 use Rattle.ledger.specs.Steps.{mark_of}
-use Rattle.sender.specs.World.{World, world, ring_of, view_of, ledger_of}
+use Rattle.sender.specs.World.{world, ring_of, view_of, ledger_of}
 use Rattle.sender.proofs.Sounds.{SoundFacts, among_facts, holds_ledger}
 use Rattle.sender.proofs.Views.{sound_lengths}
 use Rattle.sender.proofs.Stepping.{Markable, loss_facts, avoid_asks, Ready, ready_above, ready_word, state_asks, mark_flies}

@@ -1,13 +1,11 @@
 -- `send` pushes a new packet or resends a marked one and names the state; each call's need is what a sound world and a send that no
 -- row refuses leave (`send_ready`).
 use mathlib.Core.Path.{◌≡◌, refl, ap, ◌∙◌}
-use borrow.Author.Rules.{rules}
 use Rattle.rules.specs.Branch.{if_so, so_yes, so_no}
-use Rattle.ledger.specs.Ring.{Ledger}
-use Rattle.ledger.specs.Memory.{memory, Kept, kept, kept_of}
+use Rattle.ledger.specs.Memory.{memory, kept, kept_of}
 use Rattle.ledger.specs.Steps.{push_of, resend_of}
 use Rattle.ledger.proofs.Shows.{shown_cap}
-use Rattle.sender.specs.World.{World, world, ring_of, view_of, ledger_of}
+use Rattle.sender.specs.World.{world, ring_of, view_of, ledger_of}
 use Rattle.sender.specs.Steps.{send_step}
 use Rattle.sender.proofs.Sounds.{SoundFacts, among_facts, holds_ledger}
 use Rattle.sender.proofs.Stepping.{Sendable, send_facts, Ready, state_asks, push_asks, resend_asks, send_ready, settles}

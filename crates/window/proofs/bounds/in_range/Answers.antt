@@ -2,7 +2,6 @@
 use mathlib.Core.Bool.{and-true}
 use Prim.Native.Nat.{◌<◌}
 use native.Mathlib.Omega.{arith}
-use borrow.Author.Rules.{rules}
 use borrow.Author.Tests.{lt-ltb}
 use Rattle.serial.specs.Psn.{psns}
 use Rattle.window.specs.Range.{in_range}
