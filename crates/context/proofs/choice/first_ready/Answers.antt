@@ -1,0 +1,53 @@
+-- `first_ready` asks flow by flow: up to k nobody is ready (proofs/Rounds).
+use mathlib.Core.Path.{◌≡◌, refl, sym, ap, ◌∙◌}
+use Prim.Native.Nat.{◌-◌, ◌≤◌}
+use native.Mathlib.Omega.{arith}
+use borrow.Author.Rules.{rules}
+use Rattle.ledger.specs.Memory.{memory}
+use Rattle.context.specs.Context.{Context, context}
+use Rattle.context.specs.Turns.{is_ready, numbers, first_ready, offered_by, choice_of}
+use Rattle.context.proofs.Rounds.{named_none, named_here, named_later}
+use Rattle.context.proofs.choice.first_ready.Goals as goal
+
+pub loop-k-init : goal.loop-k-init
+loop-k-init c = (omega arith, refl)
+
+pub offer-offered-requires : goal.offer-offered-requires
+offer-offered-requires c = record {
+  evs_value = c.requires.evs_value;
+  k_bound = omega (arith, c.requires.from_le_end);
+}
+
+pub returns-in-Named : goal.returns-in-Named
+unfolding choice_of
+returns-in-Named c =
+    let handed = let a = c.args in
+    context a.c a.flows.now (memory a.outstanding.now a.marked.now a.sizes.now a.sent.now) a.evs.now in
+    let x = handed in
+    named_here x (is_ready x) _ _ c.loop-k-test.true (ap choice_of (sym c.in-Named.is) ∙ c.offer-offered.ensures)
+    ∙ sym (ap (offered_by x) c.loop-k.invariant.1)
+
+pub overflow_add-k : goal.overflow_add-k
+overflow_add-k c = omega arith
+
+pub loop-k-smaller : goal.loop-k-smaller
+loop-k-smaller c = omega arith
+
+pub loop-k-preserved : goal.loop-k-preserved
+unfolding choice_of
+loop-k-preserved c =
+    let handed = let a = c.args in
+    context a.c a.flows.now (memory a.outstanding.now a.marked.now a.sizes.now a.sent.now) a.evs.now in
+    let x = handed in (
+      omega arith,
+      c.loop-k.invariant.1
+          ∙ named_later x (is_ready x) _ _ c.loop-k-test.true (ap choice_of (sym c.in_default.is) ∙ c.offer-offered.ensures),
+    )
+
+pub returns : goal.returns
+unfolding choice_of offered_by
+returns c =
+    let handed = let a = c.args in
+    context a.c a.flows.now (memory a.outstanding.now a.marked.now a.sizes.now a.sent.now) a.evs.now in
+    let x = handed in
+    sym (ap (offered_by x) (c.loop-k.invariant.1 ∙ named_none x (is_ready x) _ _ c.loop-k-test.false))

@@ -1,0 +1,31 @@
+-- `loss` tests number 2 and then relies on it: either answer is a case of `on_loss`.
+use mathlib.Core.Path.{sym, ◌∙◌}
+use borrow.Author.Rules.{rules}
+use borrow.Author.Tests.{not-true, not-false}
+use Rattle.rules.specs.Verdict.{number_of}
+use Rattle.ledger.specs.Memory.{memory}
+use Rattle.context.specs.Context.{Context, context}
+use Rattle.context.specs.Events.{on_loss, loss_of, loss_left}
+use Rattle.context.proofs.Kept.{past_loss_lem}
+use Rattle.context.proofs.Entries.{unsound_answer}
+use Rattle.context.proofs.entry.loss.Goals as goal
+
+pub returns-then-not-is_sound : goal.returns-then-not-is_sound
+unfolding number_of on_loss
+returns-then-not-is_sound c =
+    let handed = context c.args.c c.args.flows.now
+    (memory c.args.outstanding.now c.args.marked.now c.args.sizes.now c.args.sent.now) c.args.evs.now in
+    unsound_answer (handed) (sym c.is_sound.ensures ∙ c.if-not-is_sound.true)
+    (loss_of c.args.time c.args.flow c.args.a (handed))
+    (loss_left c.args.time c.args.flow c.args.a (handed))
+
+pub loss-requires : goal.loss-requires
+loss-requires c =
+    sym c.is_sound.ensures ∙ c.if-not-is_sound.false
+
+pub returns : goal.returns
+returns c =
+    let handed = context c.args.c c.args.flows.now
+    (memory c.args.outstanding.now c.args.marked.now c.args.sizes.now c.args.sent.now) c.args.evs.now in
+    let so = sym c.is_sound.ensures ∙ c.if-not-is_sound.false in
+    c.loss.ensures ∙ past_loss_lem (handed) so c.args.time c.args.flow c.args.a

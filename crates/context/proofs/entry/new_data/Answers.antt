@@ -1,0 +1,31 @@
+-- `new_data` tests number 2 and then relies on it: either answer is a case of `on_new_data`.
+use mathlib.Core.Path.{sym, ◌∙◌}
+use borrow.Author.Rules.{rules}
+use borrow.Author.Tests.{not-true, not-false}
+use Rattle.rules.specs.Verdict.{number_of}
+use Rattle.ledger.specs.Memory.{memory}
+use Rattle.context.specs.Context.{Context, context}
+use Rattle.context.specs.Events.{on_new_data, new_data_of, new_data_left}
+use Rattle.context.proofs.Kept.{past_new_data_lem}
+use Rattle.context.proofs.Entries.{unsound_answer}
+use Rattle.context.proofs.entry.new_data.Goals as goal
+
+pub returns-then-not-is_sound : goal.returns-then-not-is_sound
+unfolding number_of on_new_data
+returns-then-not-is_sound c =
+    let handed = context c.args.c c.args.flows.now
+    (memory c.args.outstanding.now c.args.marked.now c.args.sizes.now c.args.sent.now) c.args.evs.now in
+    unsound_answer (handed) (sym c.is_sound.ensures ∙ c.if-not-is_sound.true)
+    (new_data_of c.args.time c.args.flow c.args.bytes (handed))
+    (new_data_left c.args.time c.args.flow c.args.bytes (handed))
+
+pub new_data-requires : goal.new_data-requires
+new_data-requires c =
+    sym c.is_sound.ensures ∙ c.if-not-is_sound.false
+
+pub returns : goal.returns
+returns c =
+    let handed = context c.args.c c.args.flows.now
+    (memory c.args.outstanding.now c.args.marked.now c.args.sizes.now c.args.sent.now) c.args.evs.now in
+    let so = sym c.is_sound.ensures ∙ c.if-not-is_sound.false in
+    c.new_data.ensures ∙ past_new_data_lem (handed) so c.args.time c.args.flow c.args.bytes

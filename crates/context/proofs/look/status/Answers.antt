@@ -1,0 +1,61 @@
+-- `look::status` tests number 2, then the flow, and then asks for the packet (proofs/Looks).
+use mathlib.Core.Path.{◌≡◌, sym, ap, ◌∙◌}
+use mathlib.Core.Bool.{true}
+use Prim.Native.Nat.{◌<◌}
+use native.Mathlib.Omega.{arith}
+use borrow.Author.Rules.{rules}
+use borrow.Author.Tests.{not-true, not-false}
+use Rattle.rules.specs.Verdict.{number_of}
+use Rattle.ledger.specs.Memory.{memory}
+use Rattle.ledger.specs.declared.Packet.{Packet}
+use Rattle.context.specs.Context.{Context, context, flow_count}
+use Rattle.context.specs.Sound.{sound_context}
+use Rattle.context.specs.Look.{on_status}
+use Rattle.context.proofs.Looks.{look_unsound, look_no_flow, look_found}
+use Rattle.context.proofs.look.status.Goals as goal
+use Rattle.context.proofs.look.status.Goals.{After-count, Else-count-flow}
+
+-- past number 2
+holds : (c : After-count) →
+    let handed = context c.args.c c.args.flows.now
+    (memory c.args.outstanding.now c.args.marked.now c.args.sizes.now c.args.sent.now) c.args.evs.now in
+    sound_context (handed) ≡ true
+holds c = sym c.is_sound.ensures ∙ c.if-not-is_sound.false
+
+-- a flow in range
+inside : (c : Else-count-flow) →
+    let handed = context c.args.c c.args.flows.now
+    (memory c.args.outstanding.now c.args.marked.now c.args.sizes.now c.args.sent.now) c.args.evs.now in
+    c.args.flow < flow_count (handed)
+inside c = omega (arith, c.if-count-flow.false, c.count.ensures)
+
+pub returns-then-not-is_sound : goal.returns-then-not-is_sound
+unfolding number_of on_status
+returns-then-not-is_sound c =
+    let handed = context c.args.c c.args.flows.now
+    (memory c.args.outstanding.now c.args.marked.now c.args.sizes.now c.args.sent.now) c.args.evs.now in
+    c.look.ensures
+    ∙ look_unsound c.args.flow _ (handed) (sym c.is_sound.ensures ∙ c.if-not-is_sound.true)
+
+pub returns-then-count-flow : goal.returns-then-count-flow
+unfolding number_of on_status
+returns-then-count-flow c =
+    let handed = context c.args.c c.args.flows.now
+    (memory c.args.outstanding.now c.args.marked.now c.args.sizes.now c.args.sent.now) c.args.evs.now in
+    c.look-then-count-flow.ensures
+    ∙ look_no_flow c.args.flow _ (handed) (holds (goal.at.returns-then-count-flow c).After-count) (omega (arith, c.if-count-flow.true, c.count.ensures))
+
+pub packet_at-x-requires : goal.packet_at-x-requires
+packet_at-x-requires c = record {
+  evs_value = holds (goal.at.packet_at-x-requires c).After-count;
+  flow_bound = inside (goal.at.packet_at-x-requires c).Else-count-flow;
+}
+
+pub returns : goal.returns
+unfolding number_of on_status
+returns c =
+    let handed = context c.args.c c.args.flows.now
+    (memory c.args.outstanding.now c.args.marked.now c.args.sizes.now c.args.sent.now) c.args.evs.now in
+    c.look-2.ensures
+    ∙ look_found c.args.flow _ (handed) (holds (goal.at.returns c).After-count) (inside (goal.at.returns c).Else-count-flow)
+    (ap (λ (x : Packet). x.status) c.packet_at-x.ensures)

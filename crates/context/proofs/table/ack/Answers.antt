@@ -1,0 +1,50 @@
+-- `ack` over the table by value: the records' words are lent to the entry point, and what it leaves is read as records
+-- (proofs/Tables).
+use mathlib.Core.Path.{refl, sym}
+use mathlib.Core.Option.{none}
+use borrow.Author.Rules.{rules}
+use Rattle.rules.specs.Branch.{lt_yes}
+use Rattle.rules.specs.Verdict.{number_of}
+use Rattle.ledger.specs.Memory.{memory}
+use Rattle.flow_table.proofs.Eight.{eight}
+use Rattle.sender.specs.Events.{says_of}
+use Rattle.context.specs.Context.{answered}
+use Rattle.context.specs.Events.{on_ack, ack_says}
+use Rattle.context.proofs.Events.{ack_event}
+use Rattle.context.proofs.Tables.{Lends, step_long, step_fits, step_answer, step_said}
+use Rattle.context.proofs.table.ack.Goals as goal
+use Rattle.context.proofs.table.ack.Goals.{After-ack-answer}
+
+-- the words of the records that there are, lent to the entry point
+lends : (c : After-ack-answer) → let a = c.args in let r = c.ack-answer.result in Lends (on_ack a.time a.flow a.a) a.fs c.to_words-words.result a.c
+    (memory a.outstanding.now a.marked.now a.sizes.now a.sent.now) a.evs.now
+    (answered (number_of r.verdict) r.state c.ack-answer.new.flows
+    (memory c.ack-answer.new.outstanding c.ack-answer.new.marked c.ack-answer.new.sizes c.ack-answer.new.sent) c.ack-answer.new.evs)
+lends c =
+    record {
+      event = ack_event c.args.time c.args.flow c.args.a;
+      words = c.to_words-words.ensures.0;
+      eight = eight c.args.fs _ c.well_formed.1.0;
+      few = c.if-n-gt-FLOWS_MOST.false;
+      answer = c.ack-answer.ensures.evs_value;
+    }
+
+pub returns-then-n-gt-FLOWS_MOST : goal.returns-then-n-gt-FLOWS_MOST
+unfolding number_of says_of
+returns-then-n-gt-FLOWS_MOST c = (lt_yes _ _ _ _ _ c.if-n-gt-FLOWS_MOST.true refl, lt_yes _ _ _ _ _ c.if-n-gt-FLOWS_MOST.true refl)
+
+pub slice_bounds-from_words-end : goal.slice_bounds-from_words-end
+slice_bounds-from_words-end c = sym (step_long (lends (goal.at.slice_bounds-from_words-end c).After-ack-answer))
+
+pub from_words-flows-requires : goal.from_words-flows-requires
+from_words-flows-requires c = record {
+  n_le_flows_most = (step_fits (lends (goal.at.from_words-flows-requires c).After-ack-answer) c.to_words-words.ensures.1).0;
+  all_fit = (step_fits (lends (goal.at.from_words-flows-requires c).After-ack-answer) c.to_words-words.ensures.1).1;
+}
+
+pub returns : goal.returns
+returns c =
+    let a = c.args in (
+      step_answer (lends (goal.at.returns c).After-ack-answer) c.from_words-flows.result c.from_words-flows.ensures,
+      step_said (lends (goal.at.returns c).After-ack-answer) (ack_says a.time a.flow a.a) none c.ack-answer.ensures.feedback_value,
+    )
