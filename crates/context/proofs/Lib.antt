@@ -17,4 +17,3 @@ pub mod Choices
 pub mod Offers
 pub mod Events
 pub mod Tables
-pub mod Lending

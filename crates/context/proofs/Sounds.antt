@@ -1,33 +1,30 @@
 -- What a sound context has, fact by fact, and the way back; and that each flow of it is sound among the others (`one_holds`).
 -- Assumes nothing.
-use mathlib.Core.Path.{◌≡◌, refl, sym, ap, ◌∙◌}
-use mathlib.Core.Bool.{Bool, true, ◌&&◌}
-use Prim.Native.Nat.{ℕ, ◌+◌, ◌*◌, ◌/◌, ◌≤◌, ◌<◌, ◌^◌}
+use mathlib.Core.Path.{◌≡◌, ◌∙◌}
+use mathlib.Core.Bool.{true}
+use Prim.Native.Nat.{ℕ, ◌*◌, ◌<◌, ◌^◌}
 use native.Mathlib.Omega.{arith}
 use lib.Dec.{ltb, eqb}
 use lib.ListN.{length}
 use borrow.Author.Tests.{ltb-true, eqb-true, lt-ltb, eq-eqb}
 use Rattle.rules.specs.Test.{both, whole}
-use Rattle.bits.specs.Bits.{sum_to}
 use Rattle.window.specs.Limits.{time_end}
 use Rattle.window.specs.Range.{in_range, InRange}
 use Rattle.window.specs.Sound.{sound_window, SoundWindow}
 use Rattle.window.proofs.Tests.{range_facts, range_test, window_facts, window_test}
 use Rattle.ledger.specs.Bounds.{in_bounds, Flown}
-use Rattle.ledger.specs.Packets.{flying_one, marked_one, marked_size, sum_of}
-use Rattle.ledger.specs.Ring.{packets}
+use Rattle.ledger.specs.Packets.{flying_one, marked_one, marked_size}
 use Rattle.ledger.specs.Memory.{Memory}
-use Rattle.ledger.specs.Sound.{all_to, is_capacity, stands, Others, Few, sound_ledger}
-use Rattle.ledger.specs.declared.Packet.{Packet}
+use Rattle.ledger.specs.Sound.{all_to, is_capacity, Others, Few, sound_ledger}
 use Rattle.ledger.proofs.Facts.{Facts, stands_facts, flown_facts, flown_test, sound_ledger_whole, few_flying, few_marked, few_bytes}
 use Rattle.ledger.proofs.Walks.{all_at, all_of}
 use Rattle.flow_table.specs.Words.{is_table, Table}
 use Rattle.flow_table.specs.Parts.{words_in, Rings}
 use Rattle.flow_table.proofs.Places.{table_facts, facts_table}
-use Rattle.sender.specs.World.{World, view_of, ledger_in}
+use Rattle.sender.specs.World.{view_of, ledger_in}
 use Rattle.sender.specs.Sound.{times_ok, sound_among, Holds}
 use Rattle.sender.specs.Named.{phase_of}
-use Rattle.sender.proofs.Sounds.{SoundFacts, among_facts, facts_among}
+use Rattle.sender.proofs.Sounds.{facts_among}
 use Rattle.context.specs.Context.{Context, flow_count, cap_in, flow_in, ring_in, joined_of, world_at}
 use Rattle.context.specs.Sound.{is_cut, stands_at, adds_at, adds_up, backlogs, totals_over, named_ok, sound_context}
 use Rattle.context.proofs.Sums.{sum_but, sum_split, but_le}

@@ -153,3 +153,25 @@ over_said say refused none ys c m t e =
     e ∙ lt_both (λ (v : _). v ≡ say (context c (words_of ys) m t)) flows_most (length ys) _ _
     (λ many. none (context c (words_of ys) m t) (many_unsound c ys m t many))
     (λ few. ap (λ (ws : List ℕ). say (context c ws m t)) (lent_words ys few))
+
+-- ---- the three steps of a method: the table loaded, the step over it by value, the table stored
+
+-- the table fs is loaded from ys and leaves them, the step leaves gs, which is stored: the event's answer in records
+pub method_table : (on : Context → Answered) → Event on → {ys kept left : List Flow} {fs gs : Flows} (c : Controller) (m : Memory) (t : List ℕ)
+    {number : ℕ} {c' : Controller} {m' : Memory} {t' : List ℕ}
+    → (fs ≡ loaded ys) × (kept ≡ ys) → left ≡ saved gs kept
+    → stepped number c' gs m' t' ≡ on_flows fs on (context c (take (flow_words * fs.n) (value_words fs)) m t)
+    → tabled number c' left m' t' ≡ in_records (on (context c (words_of ys) m t))
+method_table on E {ys = ys} {gs = gs} c m t {number = number} {c' = c'} {m' = m'} {t' = t'} l s e =
+    ap (λ (zs : List Flow). tabled number c' zs m' t') (s ∙ ap (saved gs) l.1)
+    ∙ over_table on E ys c m t
+    (e ∙ ap (λ (fs : Flows). on_flows fs on (context c (take (flow_words * fs.n) (value_words fs)) m t)) l.0)
+
+-- the same of what else the event says
+pub method_said : {A : Type 0} (say : Context → A) (refused : A) → ((x : Context) → sound_context x ≡ false → refused ≡ say x)
+    → (ys : List Flow) {fs : Flows} (c : Controller) (m : Memory) (t : List ℕ) {v : A} → fs ≡ loaded ys
+    → v ≡ unless_many fs refused (say (context c (take (flow_words * fs.n) (value_words fs)) m t))
+    → v ≡ say (context c (words_of ys) m t)
+method_said say refused unsaid ys c m t l e =
+    over_said say refused unsaid ys c m t
+    (e ∙ ap (λ (fs : Flows). unless_many fs refused (say (context c (take (flow_words * fs.n) (value_words fs)) m t))) l)

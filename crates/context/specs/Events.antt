@@ -6,7 +6,7 @@ use Rattle.std.specs.Prelude.{List, ℕ}
 use Rattle.rules.specs.Branch.{if_eq}
 use Rattle.rules.specs.Rows.{Row, first_of}
 use Rattle.window.specs.declared.Sampling.{Sampling}
-use Rattle.sender.specs.World.{World, ring_of, view_of, world_of}
+use Rattle.sender.specs.World.{ring_of, view_of, world_of}
 use Rattle.sender.specs.Rows.{new_data_rows, send_all_rows, ack_all_rows, nack_all_rows, loss_all_rows, path_rows}
 use Rattle.sender.specs.Steps.{new_data_step, send_step, ack_sampling, ack_step, nack_sampling, nack_step, loss_step, path_step, route_of}
 use Rattle.sender.specs.Events.{says}

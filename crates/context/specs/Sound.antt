@@ -1,6 +1,6 @@
 -- Refusal 2 over a context. Request M-107: "Refusal 2 tests every flow and the number of flows"; the shared totals are over all flows.
 -- Assumes nothing.
-use Rattle.std.specs.Prelude.{◌≡◌, Bool, ◌&&◌, ℕ, ◌*◌, ◌/◌, length, ltb, eqb}
+use Rattle.std.specs.Prelude.{Bool, ◌&&◌, ℕ, ◌*◌, length, ltb, eqb}
 use Rattle.bits.specs.Bits.{sum_to}
 use Rattle.window.specs.Limits.{time_end}
 use Rattle.window.specs.Range.{in_range}

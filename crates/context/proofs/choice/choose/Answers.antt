@@ -4,10 +4,8 @@ use mathlib.Core.Bool.{true}
 use mathlib.Core.Option.{some}
 use Prim.Native.Nat.{ℕ, ◌+◌, ◌%◌}
 use native.Mathlib.Omega.{arith}
-use borrow.Author.Rules.{rules}
-use borrow.Author.Tests.{not-true, not-false}
 use Rattle.rules.specs.Verdict.{number_of}
-use Rattle.context.specs.Context.{Context, context}
+use Rattle.context.specs.Context.{context}
 use Rattle.context.specs.Lent.{context_given}
 use Rattle.context.specs.Sound.{sound_context}
 use Rattle.context.specs.Turns.{choice_of, chose}
@@ -55,8 +53,7 @@ returns c =
     let handed = let a = c.args in
     context_given a.c a.flows.now a.outstanding.now a.marked.now a.sizes.now a.sent.now a.evs.now in
     let x = handed in
-    let known = c.choice-1.given in
-    let t = known.0.0 in
-    let e = ap choice_of (sym known.1) ∙ c.round-choice.ensures in
+    let t = c.in-Named.turn in
+    let e = ap choice_of (sym c.in-Named.is) ∙ c.round-choice.ensures in
     ap (λ (d : Controller). chose 0 (some t) (context d x.flows x.slots x.times)) c.with_turn-state.ensures
     ∙ choose_named x (holds (goal.at.returns c).After-round-choice) t e _ (c.after.ensures ∙ ap (λ (n : ℕ). (t.flow + 1) % n) c.count.ensures)

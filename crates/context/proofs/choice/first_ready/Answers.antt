@@ -1,11 +1,9 @@
 -- `first_ready` asks flow by flow: up to k nobody is ready (proofs/Rounds).
-use mathlib.Core.Path.{◌≡◌, refl, sym, ap, ◌∙◌}
-use Prim.Native.Nat.{◌-◌, ◌≤◌}
+use mathlib.Core.Path.{refl, sym, ap, ◌∙◌}
 use native.Mathlib.Omega.{arith}
-use borrow.Author.Rules.{rules}
 use Rattle.ledger.specs.Memory.{memory}
-use Rattle.context.specs.Context.{Context, context}
-use Rattle.context.specs.Turns.{is_ready, numbers, first_ready, offered_by, choice_of}
+use Rattle.context.specs.Context.{context}
+use Rattle.context.specs.Turns.{is_ready, offered_by, choice_of}
 use Rattle.context.proofs.Rounds.{named_none, named_here, named_later}
 use Rattle.context.proofs.choice.first_ready.Goals as goal
 

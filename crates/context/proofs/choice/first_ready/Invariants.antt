@@ -1,12 +1,9 @@
 -- `first_ready` asks flow by flow: up to k nobody is ready (proofs/Rounds).
-use mathlib.Core.Path.{◌≡◌, refl, sym, ap, ◌∙◌}
+use mathlib.Core.Path.{◌≡◌}
 use Prim.Native.Nat.{◌-◌, ◌≤◌}
-use native.Mathlib.Omega.{arith}
-use borrow.Author.Rules.{rules}
 use Rattle.ledger.specs.Memory.{memory}
-use Rattle.context.specs.Context.{Context, context}
-use Rattle.context.specs.Turns.{is_ready, numbers, first_ready, offered_by, choice_of}
-use Rattle.context.proofs.Rounds.{named_none, named_here, named_later}
+use Rattle.context.specs.Context.{context}
+use Rattle.context.specs.Turns.{is_ready, numbers, first_ready}
 use Rattle.context.proofs.choice.first_ready.Given as goal
 
 abbrev pub invariant-loop-k : goal.invariant-loop-k

@@ -4,16 +4,16 @@ use mathlib.Core.Bool.{Bool, not, ◌&&◌}
 use Prim.Native.Nat.{ℕ, ◌/◌}
 use lib.Dec.{ltb, eqb}
 use lib.ListN.{length}
-use borrow.Author.Rules.{rules}
 use Rattle.ledger.specs.Ring.{long_of}
 use Rattle.ledger.specs.declared.Flow.{Flow}
-use Rattle.context.specs.Context.{Context, flow_in}
+use Rattle.context.specs.Context.{flow_in}
 use Rattle.context.specs.Lent.{context_given}
 use Rattle.context.specs.Look.{marked_from}
 use Rattle.context.specs.Turns.{has_marked, is_ready, turn_of}
 use Rattle.context.proofs.Sounds.{SoundContext, context_facts}
 use Rattle.context.proofs.Joins.{flow_fits}
 use Rattle.context.proofs.Offers.{offer_marked, offered_so, offered_none, ready_marked, ready_new}
+use Rattle.std.proofs.Common.{ne_eqb, eq-eqb}
 use Rattle.context.proofs.choice.offer.Goals as goal
 use Rattle.context.proofs.choice.offer.Goals.{After-marked_from-psn, After-psn_minus, Start}
 
@@ -79,7 +79,7 @@ tested c =
     let f = c.flow_at-f.ensures in
     let cap = c.share-cap.ensures ∙ ap (λ (n : ℕ). length c.args.sizes.now / n) c.count.ensures in
     ap₂ (λ (g : Flow) (b : Bool). ltb 0 g.backlog && not b) f (ap₂ eqb (c.psn_minus.ensures ∙ ap long_of f) cap)
-    ∙ sym (ready_new (handed) c.args.k (sym (resends) ∙ c.if-resend.false))
+    ∙ sym (ready_new (handed) c.args.k (sym (resends) ∙ ap not (eq-eqb _ _ c.if-resend.false)))
 
 pub flow_at-f-requires : goal.flow_at-f-requires
 flow_at-f-requires c =
@@ -94,7 +94,7 @@ pub returns-then-resend : goal.returns-then-resend
 returns-then-resend c =
     let handed = let a = c.args in
     context_given a.c a.flows.now a.outstanding.now a.marked.now a.sizes.now a.sent.now a.evs.now in
-    offered_so (handed) c.args.k _ (turn_is (goal.at.returns-then-resend c).After-marked_from-psn) (ready_marked (handed) c.args.k (sym (resends (goal.at.returns-then-resend c).After-marked_from-psn) ∙ c.if-resend.true))
+    offered_so (handed) c.args.k _ (turn_is (goal.at.returns-then-resend c).After-marked_from-psn) (ready_marked (handed) c.args.k (sym (resends (goal.at.returns-then-resend c).After-marked_from-psn) ∙ ap not (ne_eqb _ _ c.if-resend.true)))
 
 pub returns-then-f-psn_minus : goal.returns-then-f-psn_minus
 returns-then-f-psn_minus c =

@@ -4,13 +4,11 @@ use mathlib.Core.Path.{◌≡◌, sym, ap, ◌∙◌}
 use mathlib.Core.Bool.{true}
 use Prim.Native.Nat.{◌≤◌}
 use native.Mathlib.Omega.{arith}
-use borrow.Author.Rules.{rules}
-use borrow.Author.Tests.{not-true, not-false}
 use Rattle.ledger.proofs.Signs.{word}
 use Rattle.sender.specs.Named.{has_room}
 use Rattle.sender.specs.Bounds.{Bounded}
 use Rattle.sender.proofs.Sounds.{holds_bounded}
-use Rattle.context.specs.Context.{Context, flow_count, flow_in, joined_of, world_at}
+use Rattle.context.specs.Context.{flow_count, flow_in, joined_of, world_at}
 use Rattle.context.specs.Lent.{context_given}
 use Rattle.context.specs.Turns.{window_open, offered_by, choice_of}
 use Rattle.context.proofs.Sounds.{SoundContext, context_facts, one_holds}
@@ -78,8 +76,8 @@ unfolding joined_of
 has_room-requires c =
     let B = bounded (goal.at.has_room-requires c).Start in
     record {
-      flown = (rw (word c.args.c.totals.in_flight B.flown) (B.flown, (B.mtu_high, B.cwnd_high))).0;
-      mtu_bound = (rw (word c.args.c.totals.in_flight B.flown) (B.flown, (B.mtu_high, B.cwnd_high))).1;
+      flown = rw (word c.args.c.totals.in_flight B.flown) B.flown;
+      mtu_bound = (B.mtu_high, B.cwnd_high);
     }
 
 pub returns-then-not-has_room : goal.returns-then-not-has_room

@@ -1,14 +1,12 @@
 -- `ack` tests number 2 and then relies on it: either answer is a case of `on_ack`.
 use mathlib.Core.Path.{sym, ◌∙◌}
 use native.Mathlib.Omega.{arith}
-use borrow.Author.Rules.{rules}
-use borrow.Author.Tests.{not-true, not-false}
 use Rattle.rules.specs.Verdict.{number_of}
 use Rattle.ledger.specs.Memory.{memory}
 use Rattle.sender.specs.World.{view_of}
 use Rattle.sender.specs.Steps.{ack_sampling}
 use Rattle.sender.specs.Events.{says_of}
-use Rattle.context.specs.Context.{Context, context, world_at}
+use Rattle.context.specs.Context.{context, world_at}
 use Rattle.context.specs.Events.{on_ack, ack_of, ack_left}
 use Rattle.context.proofs.Kept.{past_ack_lem, past_ack_says_lem}
 use Rattle.context.proofs.Lifts.{no_flow_says}

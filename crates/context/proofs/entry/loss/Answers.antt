@@ -1,10 +1,8 @@
 -- `loss` tests number 2 and then relies on it: either answer is a case of `on_loss`.
 use mathlib.Core.Path.{sym, ◌∙◌}
-use borrow.Author.Rules.{rules}
-use borrow.Author.Tests.{not-true, not-false}
 use Rattle.rules.specs.Verdict.{number_of}
 use Rattle.ledger.specs.Memory.{memory}
-use Rattle.context.specs.Context.{Context, context}
+use Rattle.context.specs.Context.{context}
 use Rattle.context.specs.Events.{on_loss, loss_of, loss_left}
 use Rattle.context.proofs.Kept.{past_loss_lem}
 use Rattle.context.proofs.Entries.{unsound_answer}

@@ -1,10 +1,8 @@
 -- `path` tests number 2 and then relies on it: either answer is a case of `on_path`.
 use mathlib.Core.Path.{sym, ◌∙◌}
-use borrow.Author.Rules.{rules}
-use borrow.Author.Tests.{not-true, not-false}
 use Rattle.rules.specs.Verdict.{number_of}
 use Rattle.ledger.specs.Memory.{memory}
-use Rattle.context.specs.Context.{Context, context}
+use Rattle.context.specs.Context.{context}
 use Rattle.context.specs.Events.{on_path, path_of}
 use Rattle.context.proofs.Kept.{past_path_lem}
 use Rattle.context.proofs.Entries.{unsound_route}

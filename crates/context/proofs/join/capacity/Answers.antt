@@ -7,7 +7,6 @@ use native.Mathlib.Omega.{arith}
 use native.Mathlib.Decide.{dec_le}
 use lib.Count.{count_leading_zeros, leading_top}
 use lib.Pow.{pow-add, pow_mono, pow_pos, shl_lt}
-use borrow.Author.Rules.{rules}
 use Rattle.ledger.proofs.Geometry.{cap_facts}
 use Rattle.context.proofs.join.capacity.Goals as goal
 use Rattle.context.proofs.join.capacity.Goals.{Start}

@@ -1,6 +1,5 @@
 -- `cut_of` is `cut_at` of the capacity.
 use native.Mathlib.Omega.{arith}
-use borrow.Author.Rules.{rules}
 use Rattle.ledger.proofs.Geometry.{cap_facts}
 use Rattle.context.proofs.join.cut_of.Goals as goal
 

@@ -1,5 +1,4 @@
 -- `keep_backlog` stores an accepted event's words (`stored_kept`); a refused one's record is the one that stands there (`refused_kept`).
-use borrow.Author.Rules.{rules}
 use Rattle.context.proofs.Lifts.{stored_kept, refused_kept}
 use Rattle.context.proofs.join.keep_backlog.Goals as goal
 

@@ -1,11 +1,10 @@
 -- `look::marked_from` looks over the marked bits of flow k's part (proofs/Looks).
 use mathlib.Core.Path.{ap₂, ◌∙◌}
 use native.Mathlib.Omega.{arith}
-use borrow.Author.Rules.{rules}
 use Rattle.ledger.specs.Memory.{Memory, shown}
 use Rattle.ledger.specs.Seek.{next_marked_of}
 use Rattle.ledger.specs.declared.Flow.{Flow}
-use Rattle.context.specs.Context.{Context, cap_in}
+use Rattle.context.specs.Context.{cap_in}
 use Rattle.context.specs.Lent.{context_given}
 use Rattle.context.specs.Look.{marked_from}
 use Rattle.context.proofs.Walks.{Laid, laid, laid_part}

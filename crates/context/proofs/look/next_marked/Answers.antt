@@ -3,11 +3,9 @@ use mathlib.Core.Path.{◌≡◌, sym, ◌∙◌}
 use mathlib.Core.Bool.{true}
 use Prim.Native.Nat.{◌<◌}
 use native.Mathlib.Omega.{arith}
-use borrow.Author.Rules.{rules}
-use borrow.Author.Tests.{not-true, not-false}
 use Rattle.rules.specs.Verdict.{number_of}
 use Rattle.ledger.specs.Memory.{memory}
-use Rattle.context.specs.Context.{Context, context, flow_count}
+use Rattle.context.specs.Context.{context, flow_count}
 use Rattle.context.specs.Sound.{sound_context}
 use Rattle.context.specs.Look.{on_next_marked}
 use Rattle.context.proofs.Looks.{look_unsound, look_no_flow, look_found}

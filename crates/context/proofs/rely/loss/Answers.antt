@@ -3,11 +3,10 @@
 use mathlib.Core.Path.{ap, ◌∙◌}
 use Prim.Native.Nat.{◌≤◌}
 use native.Mathlib.Omega.{arith}
-use borrow.Author.Rules.{rules}
-use Rattle.sender.specs.World.{World, View, view_of, world_of}
+use Rattle.sender.specs.World.{view_of, world_of}
 use Rattle.sender.specs.Events.{past_loss as oneLoss}
 use Rattle.sender.specs.Steps.{loss_step}
-use Rattle.context.specs.Context.{Context, joined_of, world_at, flow_count}
+use Rattle.context.specs.Context.{joined_of, world_at, flow_count}
 use Rattle.context.specs.Events.{past_loss}
 use Rattle.context.specs.Lent.{context_given}
 use Rattle.context.proofs.Joins.{Here, cut_asks, cut_here, here_fits, here_holds, lent_world, put_marked}

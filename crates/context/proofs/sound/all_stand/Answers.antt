@@ -1,10 +1,7 @@
 -- `all_stand` walks the flows. The invariant: all before flow k stand.
 use mathlib.Core.Path.{◌≡◌, sym, ap, ◌∙◌}
-use mathlib.Core.Bool.{Bool, true, false, false≢true}
-use Prim.Native.Nat.{ℕ, ◌-◌, ◌≤◌}
+use mathlib.Core.Bool.{false, false≢true}
 use native.Mathlib.Omega.{arith}
-use borrow.Author.Rules.{rules}
-use borrow.Author.Tests.{not-true, not-false}
 use Rattle.bits.proofs.Words.{same_truth}
 use Rattle.ledger.specs.Memory.{memory}
 use Rattle.ledger.specs.Sound.{all_to}

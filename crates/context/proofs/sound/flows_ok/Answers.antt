@@ -7,7 +7,7 @@ use mir.Syntax.{w64}
 use mir.Val.{to_z, of_z}
 use borrow.Author.Rules.{rules}
 use Rattle.ledger.specs.Bounds.{in_bounds}
-use Rattle.ledger.specs.Memory.{Memory, memory}
+use Rattle.ledger.specs.Memory.{memory}
 use Rattle.flow_table.specs.Words.{count_of}
 use Rattle.context.specs.Sound.{is_cut}
 use Rattle.context.proofs.Numbering.{not_table, table_so, not_cut, parted, not_all, standing, tested}

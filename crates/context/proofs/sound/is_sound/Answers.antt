@@ -1,11 +1,9 @@
 -- `is_sound` makes the tests of `sound_context` in their order: by the laws of proofs/Numbering. The name is asked for once the first three
 -- hold, which bound what it is computed from.
 use mathlib.Core.Path.{sym, ◌∙◌}
-use borrow.Author.Rules.{rules}
-use borrow.Author.Tests.{not-false}
 use Rattle.window.proofs.Tests.{range_facts}
 use Rattle.ledger.specs.Memory.{memory}
-use Rattle.context.specs.Context.{Context, context}
+use Rattle.context.specs.Context.{context}
 use Rattle.context.proofs.Numbering.{not_range, not_window, not_flows, nameable, tests_left}
 use mathlib.Core.Bool.{not}
 use mathlib.Core.Path.{ap}

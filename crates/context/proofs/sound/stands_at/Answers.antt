@@ -1,8 +1,6 @@
 -- `stands_at` tests that low and next are PSNs, and then flow k on its part (`laid_part`).
 use mathlib.Core.Path.{sym, ap₂, ◌∙◌}
 use native.Mathlib.Omega.{arith}
-use borrow.Author.Rules.{rules}
-use borrow.Author.Tests.{not-true, not-false}
 use Rattle.ledger.specs.Memory.{Memory, memory, shown}
 use Rattle.ledger.specs.Sound.{stands}
 use Rattle.ledger.specs.declared.Flow.{Flow}

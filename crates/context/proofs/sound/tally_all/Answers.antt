@@ -1,11 +1,10 @@
 -- `tally_all` walks the flows. The invariant: what is added up is the tally of those before flow k, at most 2^40 of each a flow.
 use mathlib.Core.Path.{◌≡◌, ap, ◌∙◌}
-use Prim.Native.Nat.{◌-◌, ◌*◌, ◌≤◌, ◌^◌}
+use Prim.Native.Nat.{◌≤◌}
 use native.Mathlib.Omega.{arith}
-use borrow.Author.Rules.{rules}
-use Rattle.ledger.specs.Memory.{Memory, memory}
+use Rattle.ledger.specs.Memory.{memory}
 use Rattle.context.specs.Walk.{tally_to}
-use Rattle.context.proofs.Walks.{FewIn, tally_none, tally_more}
+use Rattle.context.proofs.Walks.{tally_none, tally_more}
 use Rattle.context.proofs.sound.tally_all.Goals as goal
 
 pub loop-k-init : goal.loop-k-init

@@ -2,7 +2,6 @@
 use mathlib.Core.Path.{◌≡◌, ap, ap₂, ◌∙◌}
 use Prim.Native.Nat.{◌≤◌, ◌^◌}
 use native.Mathlib.Omega.{arith}
-use borrow.Author.Rules.{rules}
 use Rattle.ledger.specs.Memory.{Memory, memory}
 use Rattle.ledger.specs.Stretch.{tally_of}
 use Rattle.ledger.specs.declared.Flow.{Flow}

@@ -1,6 +1,5 @@
 -- `fresh` is `fresh_state`: what is shared of the sender's.
 use mathlib.Core.Path.{ap, ◌∙◌}
-use borrow.Author.Rules.{rules}
 use Rattle.context.specs.Context.{shared_of}
 use Rattle.context.specs.Start.{fresh_state}
 use Rattle.context.proofs.start.fresh.Goals as goal

@@ -1,10 +1,8 @@
 -- `fresh_flows` overwrites one record a turn; the invariant and its steps are those of `Overwritten`.
-use Prim.Native.Nat.{◌-◌}
 use native.Mathlib.Omega.{arith}
-use borrow.Author.Rules.{rules}
 use Rattle.flow_table.proofs.Places.{table_facts}
 use Rattle.context.specs.Start.{fresh_table}
-use Rattle.context.proofs.Starts.{Overwritten, over_none, over_more, over_all}
+use Rattle.context.proofs.Starts.{over_none, over_more, over_all}
 use Rattle.context.proofs.start.fresh_flows.Goals as goal
 
 pub loop-k-init : goal.loop-k-init

@@ -1,8 +1,6 @@
 -- `lengths_ok` makes the tests of `lengths_ok` in their order: a table has at least one flow to divide by.
 use mathlib.Core.Path.{sym, ◌∙◌}
 use native.Mathlib.Omega.{arith}
-use borrow.Author.Rules.{rules}
-use borrow.Author.Tests.{not-true, not-false}
 use Rattle.flow_table.specs.Words.{Table}
 use Rattle.flow_table.proofs.Places.{table_facts}
 use Rattle.context.specs.Start.{lengths_ok}

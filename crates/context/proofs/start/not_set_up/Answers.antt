@@ -1,6 +1,5 @@
 -- `not_set_up` answers the fresh state of no settings.
 use mathlib.Core.Path.{refl, ap, ◌∙◌}
-use borrow.Author.Rules.{rules}
 use Rattle.context.specs.Start.{fresh_state}
 use Rattle.context.proofs.start.not_set_up.Goals as goal
 

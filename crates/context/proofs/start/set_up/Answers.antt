@@ -3,9 +3,8 @@
 use mathlib.Core.Path.{◌≡◌, ap, ◌∙◌}
 use mathlib.Core.Bool.{true}
 use lib.ListN.{length}
-use borrow.Author.Rules.{rules}
 use Rattle.rules.specs.Verdict.{number_of}
-use Rattle.ledger.specs.Memory.{Memory, memory}
+use Rattle.ledger.specs.Memory.{memory}
 use Rattle.flow_table.specs.Words.{is_table}
 use Rattle.context.proofs.Starts.{refused_range, refused_lengths, accepted_table, accepted_so, fresh_length}
 use mathlib.Core.Bool.{not}
@@ -17,7 +16,7 @@ table : (c : Else-not-lengths_ok-evs) → is_table c.args.flows.now ≡ true
 table c =
     let handed = memory c.args.outstanding.now c.args.marked.now c.args.sizes.now c.args.sent.now in
     accepted_table c.args.settings c.args.flows.now (handed) c.args.evs.now _ c.in_range.ensures
-    c.if-not-in_range.false _ c.lengths_ok.ensures (ap not c.if-not-lengths_ok-evs.false)
+    (ap not c.if-not-in_range.false) _ c.lengths_ok.ensures (ap not c.if-not-lengths_ok-evs.false)
 
 pub returns-then-not-in_range : goal.returns-then-not-in_range
 unfolding number_of
@@ -31,7 +30,7 @@ unfolding number_of
 returns-then-not-lengths_ok-evs c =
     let handed = memory c.args.outstanding.now c.args.marked.now c.args.sizes.now c.args.sent.now in
     refused_lengths c.args.settings c.args.flows.now (handed) c.args.evs.now _ c.in_range.ensures
-    _ c.not_set_up-then-not-lengths_ok-evs.ensures.0 _ (ap number_of c.not_set_up-then-not-lengths_ok-evs.ensures.1) c.if-not-in_range.false _ c.lengths_ok.ensures
+    _ c.not_set_up-then-not-lengths_ok-evs.ensures.0 _ (ap number_of c.not_set_up-then-not-lengths_ok-evs.ensures.1) (ap not c.if-not-in_range.false) _ c.lengths_ok.ensures
     (ap not c.if-not-lengths_ok-evs.true)
 
 pub fresh_flows-requires : goal.fresh_flows-requires
@@ -47,5 +46,5 @@ unfolding number_of
 returns c =
     let handed = memory c.args.outstanding.now c.args.marked.now c.args.sizes.now c.args.sent.now in
     accepted_so c.args.settings c.args.flows.now (handed) c.args.evs.now _ c.in_range.ensures
-    c.if-not-in_range.false _ c.lengths_ok.ensures (ap not c.if-not-lengths_ok-evs.false)
+    (ap not c.if-not-in_range.false) _ c.lengths_ok.ensures (ap not c.if-not-lengths_ok-evs.false)
     _ _ _ _ c.fresh.ensures c.fresh_flows.ensures c.clear.ensures.0 c.clear.ensures.1

@@ -2,7 +2,6 @@
 -- (proofs/Tables).
 use mathlib.Core.Path.{refl, sym}
 use mathlib.Core.Option.{none}
-use borrow.Author.Rules.{rules}
 use Rattle.rules.specs.Branch.{lt_yes}
 use Rattle.rules.specs.Verdict.{number_of}
 use Rattle.ledger.specs.Memory.{memory}

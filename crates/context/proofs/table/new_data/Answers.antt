@@ -1,7 +1,6 @@
 -- `new_data` over the table by value: the records' words are lent to the entry point, and what it leaves is read as records
 -- (proofs/Tables).
 use mathlib.Core.Path.{refl, sym}
-use borrow.Author.Rules.{rules}
 use Rattle.rules.specs.Branch.{lt_yes}
 use Rattle.rules.specs.Verdict.{number_of}
 use Rattle.ledger.specs.Memory.{memory}

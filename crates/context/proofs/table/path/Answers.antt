@@ -4,7 +4,6 @@ use mathlib.Core.Path.{refl, sym, ap, ◌∙◌}
 use mathlib.Core.List.{List}
 use Prim.Native.Nat.{ℕ, ◌-◌, ◌*◌}
 use lib.ListN.{take, take-append-drop}
-use borrow.Author.Rules.{rules}
 use Rattle.rules.specs.Branch.{lt_yes}
 use Rattle.rules.specs.Verdict.{number_of}
 use Rattle.ledger.specs.Memory.{memory}

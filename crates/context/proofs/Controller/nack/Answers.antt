@@ -1,0 +1,16 @@
+-- `Controller::nack` loads the table, makes the step and stores the table: `method_table`.
+use Rattle.ledger.specs.Memory.{memory}
+use Rattle.context.specs.Events.{on_nack, nack_says}
+use mathlib.Core.Option.{none}
+use Rattle.context.proofs.Events.{nack_event, nack_unsaid}
+use Rattle.context.proofs.Tables.{method_table, method_said}
+use Rattle.context.proofs.Controller.nack.Goals as goal
+
+pub returns : goal.returns
+returns c =
+    let a = c.args in (
+      method_table (on_nack a.time a.flow a.a) (nack_event a.time a.flow a.a) a.self (memory a.outstanding.now a.marked.now a.sizes.now a.sent.now) a.evs.now
+          c.load-fs.ensures c.save.ensures c.nack-r.ensures.0,
+      method_said (nack_says a.time a.flow a.a) none (nack_unsaid a.time a.flow a.a) a.table.now a.self (memory a.outstanding.now a.marked.now a.sizes.now a.sent.now)
+          a.evs.now c.load-fs.ensures.0 c.nack-r.ensures.1,
+    )
