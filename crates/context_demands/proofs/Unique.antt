@@ -7,7 +7,8 @@ use mathlib.Core.List.{List}
 use mathlib.Core.Option.{Option, some-injective, none-ne-some}
 use Prim.Native.Nat.{ℕ}
 use Rattle.rules.specs.Unique.{OneOutcome, Tells, unique}
-use Rattle.rules.specs.Verdict.{number_of, number_tells}
+use Rattle.rules.specs.Verdict.{number_of}
+use Rattle.rules.proofs.Verdicts.{number_tells}
 use Rattle.rules.specs.declared.verdict.Verdict.{Verdict}
 use Rattle.window.specs.declared.Settings.{Settings}
 use Rattle.window.specs.declared.Sampling.{Sampling}

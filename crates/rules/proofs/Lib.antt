@@ -1,2 +1,3 @@
 -- The laws that proofs share.
 pub mod Keys
+pub mod Verdicts

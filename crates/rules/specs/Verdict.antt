@@ -1,9 +1,8 @@
 -- The number that document 01's table, as the requests amend it, gives each verdict. "Accepted is 0."
 -- Assumes nothing.
 use Rattle.std.specs.Prelude.{◌≡◌, refl, Bool, true, false, cond, ℕ, ◌≤◌, eqb}
-use Rattle.std.proofs.Common.{sym, ap, ◌∙◌, arith, eqb-true}
+use Rattle.std.proofs.Common.{sym, ◌∙◌, arith, eqb-true}
 use Rattle.std.proofs.lemmas.Bool.{eqb-false}
-use Rattle.rules.specs.Unique.{Tells}
 use Rattle.rules.specs.declared.verdict.Verdict.{Verdict}
 use Rattle.rules.specs.declared.verdict.Verdict.TheVariants.{Accepted, Setting, Unsound, Time, Size, Backlog, WindowFull, RingFull}
 use Rattle.rules.specs.declared.verdict.Verdict.TheVariants.{WrongPsn, UnsentOrOld, NotFlying, Sinks, Malformed, NoRoom}
@@ -82,10 +81,6 @@ number_back Trigger = refl
 number_back Flow = refl
 number_back PlanTooLong = refl
 number_back LogTooLong = refl
-
--- no two verdicts have one number
-pub number_tells : Tells number_of
-number_tells v w e = sym (number_back v) ∙ ap verdict_of e ∙ number_back w
 
 -- no number is past the table's last
 pub number_most : (v : Verdict) → number_of v ≤ 28
