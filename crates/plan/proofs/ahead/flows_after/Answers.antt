@@ -1,0 +1,23 @@
+-- `flows_after` leaves the records of a resend, and moves the sender's record for a new packet.
+use mathlib.Core.Path.{refl, ap, ◌∙◌}
+use borrow.Author.Rules.{rules}
+use Rattle.rules.specs.Branch.{so_yes, so_no}
+use Rattle.ledger.specs.declared.Flow.{Flow}
+use Rattle.flow_table.specs.Lent.{with_record}
+use Rattle.plan.specs.Ahead.{pushed, flows_after}
+use Rattle.plan.proofs.ahead.flows_after.Goals as goal
+
+pub returns-then-a : goal.returns-then-a
+unfolding flows_after
+returns-then-a c = so_yes _ _ _ _ c.if-a.true refl
+
+pub push-requires : goal.push-requires
+push-requires c = rw c.nth.ensures (c.requires.size_bound c.if-a.false)
+
+pub returns : goal.returns
+unfolding flows_after
+returns c =
+    let a = c.args in
+    so_no _ _ _ _ c.if-a.false
+    (c.with_record.ensures
+    ∙ ap (λ (f : Flow). with_record a.fs a.p.flow f) (c.push.ensures ∙ ap (pushed a.p.send.size) c.nth.ensures))

@@ -1,0 +1,77 @@
+-- `all_waiting` takes the record of flow after flow (`waits_to`).
+use mathlib.Core.Path.{◌≡◌, ap, ◌∙◌}
+use Prim.Native.Nat.{◌-◌, ◌≤◌, ◌<◌}
+use native.Mathlib.Omega.{arith}
+use borrow.Author.Rules.{rules}
+use Rattle.ledger.specs.Memory.{memory}
+use Rattle.context.specs.Context.{Context, context, flow_count}
+use Rattle.context.proofs.Sounds.{SoundContext, context_facts}
+use Rattle.context.proofs.Joins.{flow_fits}
+use Rattle.plan.specs.Course.{waits_to}
+use Rattle.plan.proofs.Coursing.{waits_none, waits_next}
+use Rattle.plan.proofs.course.all_waiting.Goals as goal
+use Rattle.plan.proofs.course.all_waiting.Goals.{In-loop-k, Start}
+
+facts : (c : Start) →
+    let handed = let a = c.args in
+    context a.c a.flows.now (memory a.outstanding.now a.marked.now a.sizes.now a.sent.now) a.evs.now in
+    SoundContext (handed)
+facts c =
+    let handed = let a = c.args in
+    context a.c a.flows.now (memory a.outstanding.now a.marked.now a.sizes.now a.sent.now) a.evs.now in
+    context_facts (handed) c.requires
+
+-- flow k is one of them
+inside : (c : In-loop-k) →
+    let handed = let a = c.args in
+    context a.c a.flows.now (memory a.outstanding.now a.marked.now a.sizes.now a.sent.now) a.evs.now in
+    c.loop-k.k < flow_count (handed)
+inside c = omega (arith, c.loop-k-test.true, c.count-n.ensures)
+
+pub loop-k-init : goal.loop-k-init
+loop-k-init c =
+    let handed = let a = c.args in
+    context a.c a.flows.now (memory a.outstanding.now a.marked.now a.sizes.now a.sent.now) a.evs.now in
+    (omega arith, waits_none (handed) c.no_flows-fs.ensures c.count-n.ensures)
+
+pub flow_at-f-requires : goal.flow_at-f-requires
+flow_at-f-requires c =
+    let handed = let a = c.args in
+    context a.c a.flows.now (memory a.outstanding.now a.marked.now a.sizes.now a.sent.now) a.evs.now in
+    record {
+      k_bound = inside (goal.at.flow_at-f-requires c).In-loop-k;
+      fits = flow_fits (handed) (facts (goal.at.flow_at-f-requires c).Start) c.loop-k.k (inside (goal.at.flow_at-f-requires c).In-loop-k);
+    }
+
+pub waiting_from-w-requires : goal.waiting_from-w-requires
+waiting_from-w-requires c = record {
+  evs_value = c.requires;
+  k_bound = inside (goal.at.waiting_from-w-requires c).In-loop-k;
+}
+
+pub with_record-fs-requires : goal.with_record-fs-requires
+with_record-fs-requires c =
+    omega (arith, inside (goal.at.with_record-fs-requires c).In-loop-k, (facts (goal.at.with_record-fs-requires c).Start).table.few)
+
+pub overflow_add-k : goal.overflow_add-k
+overflow_add-k c = omega arith
+
+pub loop-k-smaller : goal.loop-k-smaller
+loop-k-smaller c = omega arith
+
+pub loop-k-preserved : goal.loop-k-preserved
+loop-k-preserved c =
+    let handed = let a = c.args in
+    context a.c a.flows.now (memory a.outstanding.now a.marked.now a.sizes.now a.sent.now) a.evs.now in (
+      omega arith,
+      waits_next (handed) c.loop-k.k c.loop-k.invariant.1 c.flow_at-f.ensures c.waiting_from-w.ensures
+          c.with_record-fs.ensures,
+    )
+
+pub returns : goal.returns
+returns c =
+    let handed = let a = c.args in
+    context a.c a.flows.now (memory a.outstanding.now a.marked.now a.sizes.now a.sent.now) a.evs.now in
+    let x = handed in
+    let end : c.loop-k.k ≡ flow_count x = omega (arith, c.count-n.ensures) in
+    c.loop-k.invariant.1 ∙ ap (waits_to x) end

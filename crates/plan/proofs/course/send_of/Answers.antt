@@ -1,0 +1,16 @@
+-- `send_of` reads the flow's record of what waits: a new packet where none does, and else the packet at its low.
+use borrow.Author.Rules.{rules}
+use Rattle.rules.specs.Branch.{eq_yes, eq_no}
+use Rattle.plan.specs.Course.{send_by}
+use Rattle.plan.proofs.course.send_of.Goals as goal
+
+pub returns-then-psn-w : goal.returns-then-psn-w
+unfolding send_by
+returns-then-psn-w c =
+    eq_yes _ _ _ _ _ (rw c.nth-w.ensures at c.if-psn-w.true) (rw c.nth-f.ensures)
+
+pub returns : goal.returns
+unfolding send_by
+returns c =
+    let w = c.nth-w.ensures in
+    eq_no _ _ _ _ _ (rw w at c.if-psn-w.false) (rw (c.packet_at-x.ensures, w))

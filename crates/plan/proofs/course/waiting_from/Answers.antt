@@ -1,0 +1,21 @@
+-- `waiting_from` is the flow's record, with low at the packet that is found.
+use borrow.Author.Rules.{rules}
+use Rattle.context.specs.Context.{Context}
+use Rattle.context.specs.Lent.{context_given}
+use Rattle.context.proofs.Sounds.{context_facts}
+use Rattle.context.proofs.Joins.{flow_fits}
+use Rattle.plan.specs.Course.{waiting_from}
+use Rattle.plan.proofs.course.waiting_from.Goals as goal
+
+pub flow_at-f-requires : goal.flow_at-f-requires
+flow_at-f-requires c =
+    let handed = let a = c.args in
+    context_given a.c a.flows.now a.outstanding.now a.marked.now a.sizes.now a.sent.now a.evs.now in
+    record {
+      k_bound = c.requires.k_bound;
+      fits = flow_fits (handed) (context_facts (handed) c.requires.evs_value) c.args.k c.requires.k_bound;
+    }
+
+pub returns : goal.returns
+unfolding waiting_from
+returns c = rw (c.marked_from.ensures, c.flow_at-f.ensures)

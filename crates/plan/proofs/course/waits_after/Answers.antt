@@ -1,0 +1,15 @@
+-- `waits_after` moves the record of a flow that sent again to its next packet that waits, and leaves the records for a new packet.
+use mathlib.Core.Path.{refl}
+use borrow.Author.Rules.{rules}
+use Rattle.rules.specs.Branch.{so_yes, so_no}
+use Rattle.plan.specs.Course.{waits_after}
+use Rattle.plan.proofs.course.waits_after.Goals as goal
+
+pub returns-then-a : goal.returns-then-a
+unfolding waits_after
+returns-then-a c =
+    so_yes _ _ _ _ c.if-a.true (rw (c.with_record.ensures, c.waiting_from-w.ensures, c.psn_plus-behind.ensures))
+
+pub returns : goal.returns
+unfolding waits_after
+returns c = so_no _ _ _ _ c.if-a.false refl

@@ -1,0 +1,19 @@
+-- `send_at` reads a send's four numbers: each is below 2^32, so the PSN's is a PSN as it stands.
+use Prim.Native.Nat.{◌+◌, ◌*◌}
+use native.Mathlib.Nat.{mod-eq_of_lt}
+use native.Mathlib.Omega.{arith}
+use lib.ListN.{get_or}
+use borrow.Author.Rules.{rules}
+use Rattle.serial.specs.Psn.{psns}
+use Rattle.plan.specs.Plan.{planned_at}
+use Rattle.plan.proofs.words.send_at.Goals as goal
+
+pub overflow_cast-flow : goal.overflow_cast-flow
+overflow_cast-flow c = omega (arith, c.type_inv.plan (4 * c.args.i + 0))
+
+pub returns : goal.returns
+unfolding planned_at
+returns c =
+    let a = c.args in
+    let at = 4 * a.i + 2 in
+    rw (mod-eq_of_lt {n = get_or a.plan.now at 0} {m = psns} (omega (arith, c.shared_slice_known-3-1.given at)))

@@ -1,0 +1,42 @@
+-- `sent_again` goes send by send: none below i sends the packet again (proofs/Judging).
+use mathlib.Core.Path.{◌≡◌, sym}
+use mathlib.Core.Bool.{false}
+use Prim.Native.Nat.{◌-◌, ◌≤◌}
+use native.Mathlib.Omega.{arith}
+use Rattle.plan.specs.Ahead.{is_again, again_to}
+use Rattle.plan.proofs.Judging.{again_none, again_not, again_some}
+use Rattle.plan.proofs.words.sent_again.Goals as goal
+
+pub loop-i-init : goal.loop-i-init
+loop-i-init c = (omega arith, again_none _ _ _)
+
+pub send_at-p-requires : goal.send_at-p-requires
+send_at-p-requires c = omega (arith, c.requires)
+
+pub returns-then-a-p : goal.returns-then-a-p
+unfolding is_again
+returns-then-a-p c =
+    let a = c.args in
+    sym
+    (again_some a.plan.now a.flow a.psn a.n c.loop-i.i c.send_at-p.result c.send_at-p.ensures
+    c.loop-i-test.true c.if-a-p.true)
+
+pub overflow_add-i : goal.overflow_add-i
+overflow_add-i c = omega arith
+
+pub loop-i-smaller : goal.loop-i-smaller
+loop-i-smaller c = omega arith
+
+pub loop-i-preserved : goal.loop-i-preserved
+unfolding is_again
+loop-i-preserved c = (
+  omega arith,
+  again_not _ _ _ c.loop-i.i c.send_at-p.result c.send_at-p.ensures c.loop-i.invariant.1 c.if-a-p.false,
+)
+
+pub returns : goal.returns
+returns c =
+    let a = c.args in
+    let l = c.loop-i in
+    let end : l.i ≡ a.n = omega arith in
+    sym (rw end at l.invariant.1)

@@ -1,0 +1,14 @@
+-- `sent_again` goes send by send: none below i sends the packet again (proofs/Judging).
+use mathlib.Core.Path.{◌≡◌, sym}
+use mathlib.Core.Bool.{false}
+use Prim.Native.Nat.{◌-◌, ◌≤◌}
+use native.Mathlib.Omega.{arith}
+use Rattle.plan.specs.Ahead.{is_again, again_to}
+use Rattle.plan.proofs.Judging.{again_none, again_not, again_some}
+use Rattle.plan.proofs.words.sent_again.Given as goal
+
+abbrev pub invariant-loop-i : goal.invariant-loop-i
+invariant-loop-i l = (l.i ≤ l.n) × (again_to l.plan l.i l.flow l.psn ≡ false)
+
+abbrev pub decreases-loop-i : goal.decreases-loop-i
+decreases-loop-i l = l.n - l.i
