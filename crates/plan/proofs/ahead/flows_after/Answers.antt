@@ -1,6 +1,5 @@
 -- `flows_after` leaves the records of a resend, and moves the sender's record for a new packet.
 use mathlib.Core.Path.{refl, ap, ◌∙◌}
-use borrow.Author.Rules.{rules}
 use Rattle.rules.specs.Branch.{so_yes, so_no}
 use Rattle.ledger.specs.declared.Flow.{Flow}
 use Rattle.flow_table.specs.Lent.{with_record}

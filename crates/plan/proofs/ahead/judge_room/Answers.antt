@@ -1,7 +1,5 @@
 -- `judge_room` hands on the verdict that it is given, and where that is accepted tests the room, on in-flight's word.
 use mathlib.Core.Path.{◌≡◌, refl, sym, ap, ◌∙◌}
-use borrow.Author.Rules.{rules}
-use borrow.Author.Tests.{not-true, not-false}
 use Rattle.rules.specs.Branch.{eq_yes, eq_no, so_yes, so_no}
 use Rattle.rules.specs.Verdict.{number_of, accepted_zero, refused_not}
 use Rattle.ledger.proofs.Signs.{word}
@@ -28,11 +26,13 @@ returns-then-not-is_accepted c = eq_no _ 0 _ _ _ (refused_not _ _ c.is_accepted.
 pub returns-then-has_room : goal.returns-then-has_room
 unfolding room_then number_of
 returns-then-has_room c =
+    let g = goal.at.returns-then-has_room c in
     let a = c.args in
-    eq_yes (number_of a.verdict) 0 0 _ _ (zero (goal.at.returns-then-has_room c).After-has_room) (so_yes _ 0 0 6 (room (goal.at.returns-then-has_room c).After-has_room ∙ c.if-has_room.true) refl)
+    eq_yes (number_of a.verdict) 0 0 _ _ (zero g.After-has_room) (so_yes _ 0 0 6 (room g.After-has_room ∙ c.if-has_room.true) refl)
 
 pub returns : goal.returns
 unfolding room_then number_of
 returns c =
+    let g = goal.at.returns c in
     let a = c.args in
-    eq_yes (number_of a.verdict) 0 6 _ _ (zero (goal.at.returns c).After-has_room) (so_no _ 6 0 6 (room (goal.at.returns c).After-has_room ∙ c.if-has_room.false) refl)
+    eq_yes (number_of a.verdict) 0 6 _ _ (zero g.After-has_room) (so_no _ 6 0 6 (room g.After-has_room ∙ c.if-has_room.false) refl)

@@ -1,5 +1,4 @@
 -- `push` moves next by one and takes the bytes from the backlog.
-use borrow.Author.Rules.{rules}
 use Rattle.plan.specs.Ahead.{pushed}
 use Rattle.plan.proofs.ahead.push.Goals as goal
 

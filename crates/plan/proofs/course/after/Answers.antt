@@ -1,5 +1,4 @@
 -- `after` moves what is kept, part by part; the turn is the flow behind the one that sent, of as many as are counted.
-use borrow.Author.Rules.{rules}
 use Rattle.plan.specs.Course.{course_after}
 use Rattle.plan.proofs.course.after.Goals as goal
 

@@ -1,10 +1,9 @@
 -- `all_waiting` takes the record of flow after flow (`waits_to`).
 use mathlib.Core.Path.{◌≡◌, ap, ◌∙◌}
-use Prim.Native.Nat.{◌-◌, ◌≤◌, ◌<◌}
+use Prim.Native.Nat.{◌<◌}
 use native.Mathlib.Omega.{arith}
-use borrow.Author.Rules.{rules}
 use Rattle.ledger.specs.Memory.{memory}
-use Rattle.context.specs.Context.{Context, context, flow_count}
+use Rattle.context.specs.Context.{context, flow_count}
 use Rattle.context.proofs.Sounds.{SoundContext, context_facts}
 use Rattle.context.proofs.Joins.{flow_fits}
 use Rattle.plan.specs.Course.{waits_to}
@@ -15,43 +14,47 @@ use Rattle.plan.proofs.course.all_waiting.Goals.{In-loop-k, Start}
 facts : (c : Start) →
     let handed = let a = c.args in
     context a.c a.flows.now (memory a.outstanding.now a.marked.now a.sizes.now a.sent.now) a.evs.now in
-    SoundContext (handed)
+    SoundContext handed
 facts c =
     let handed = let a = c.args in
     context a.c a.flows.now (memory a.outstanding.now a.marked.now a.sizes.now a.sent.now) a.evs.now in
-    context_facts (handed) c.requires
+    context_facts handed c.requires
 
 -- flow k is one of them
 inside : (c : In-loop-k) →
     let handed = let a = c.args in
     context a.c a.flows.now (memory a.outstanding.now a.marked.now a.sizes.now a.sent.now) a.evs.now in
-    c.loop-k.k < flow_count (handed)
+    c.loop-k.k < flow_count handed
 inside c = omega (arith, c.loop-k-test.true, c.count-n.ensures)
 
 pub loop-k-init : goal.loop-k-init
 loop-k-init c =
     let handed = let a = c.args in
     context a.c a.flows.now (memory a.outstanding.now a.marked.now a.sizes.now a.sent.now) a.evs.now in
-    (omega arith, waits_none (handed) c.no_flows-fs.ensures c.count-n.ensures)
+    (omega arith, waits_none handed c.no_flows-fs.ensures c.count-n.ensures)
 
 pub flow_at-f-requires : goal.flow_at-f-requires
 flow_at-f-requires c =
+    let g = goal.at.flow_at-f-requires c in
     let handed = let a = c.args in
     context a.c a.flows.now (memory a.outstanding.now a.marked.now a.sizes.now a.sent.now) a.evs.now in
     record {
-      k_bound = inside (goal.at.flow_at-f-requires c).In-loop-k;
-      fits = flow_fits (handed) (facts (goal.at.flow_at-f-requires c).Start) c.loop-k.k (inside (goal.at.flow_at-f-requires c).In-loop-k);
+      k_bound = inside g.In-loop-k;
+      fits = flow_fits handed (facts g.Start) c.loop-k.k (inside g.In-loop-k);
     }
 
 pub waiting_from-w-requires : goal.waiting_from-w-requires
-waiting_from-w-requires c = record {
-  evs_value = c.requires;
-  k_bound = inside (goal.at.waiting_from-w-requires c).In-loop-k;
-}
+waiting_from-w-requires c =
+    let g = goal.at.waiting_from-w-requires c in
+    record {
+      evs_value = c.requires;
+      k_bound = inside g.In-loop-k;
+    }
 
 pub with_record-fs-requires : goal.with_record-fs-requires
 with_record-fs-requires c =
-    omega (arith, inside (goal.at.with_record-fs-requires c).In-loop-k, (facts (goal.at.with_record-fs-requires c).Start).table.few)
+    let g = goal.at.with_record-fs-requires c in
+    omega (arith, inside g.In-loop-k, (facts g.Start).table.few)
 
 pub overflow_add-k : goal.overflow_add-k
 overflow_add-k c = omega arith
@@ -64,7 +67,7 @@ loop-k-preserved c =
     let handed = let a = c.args in
     context a.c a.flows.now (memory a.outstanding.now a.marked.now a.sizes.now a.sent.now) a.evs.now in (
       omega arith,
-      waits_next (handed) c.loop-k.k c.loop-k.invariant.1 c.flow_at-f.ensures c.waiting_from-w.ensures
+      waits_next handed c.loop-k.k c.loop-k.invariant.1 c.flow_at-f.ensures c.waiting_from-w.ensures
           c.with_record-fs.ensures,
     )
 

@@ -1,14 +1,9 @@
 -- `all_waiting` takes the record of flow after flow (`waits_to`).
-use mathlib.Core.Path.{◌≡◌, ap, ◌∙◌}
-use Prim.Native.Nat.{◌-◌, ◌≤◌, ◌<◌}
-use native.Mathlib.Omega.{arith}
-use borrow.Author.Rules.{rules}
+use mathlib.Core.Path.{◌≡◌}
+use Prim.Native.Nat.{◌-◌, ◌≤◌}
 use Rattle.ledger.specs.Memory.{memory}
-use Rattle.context.specs.Context.{Context, context, flow_count}
-use Rattle.context.proofs.Sounds.{SoundContext, context_facts}
-use Rattle.context.proofs.Joins.{flow_fits}
+use Rattle.context.specs.Context.{context}
 use Rattle.plan.specs.Course.{waits_to}
-use Rattle.plan.proofs.Coursing.{waits_none, waits_next}
 use Rattle.plan.proofs.course.all_waiting.Given as goal
 
 abbrev pub invariant-loop-k : goal.invariant-loop-k

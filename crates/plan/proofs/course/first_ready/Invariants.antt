@@ -1,9 +1,7 @@
 -- `first_ready` asks flow by flow: up to k nobody is ready (proofs/Coursing).
-use mathlib.Core.Path.{◌≡◌, refl, sym, ◌∙◌}
+use mathlib.Core.Path.{◌≡◌}
 use Prim.Native.Nat.{◌-◌, ◌≤◌}
-use native.Mathlib.Omega.{arith}
 use Rattle.plan.specs.Course.{ready_by, first_from}
-use Rattle.plan.proofs.Coursing.{first_none, first_here, first_later}
 use Rattle.plan.proofs.course.first_ready.Given as goal
 
 abbrev pub invariant-loop-k : goal.invariant-loop-k

@@ -1,6 +1,5 @@
 -- `is_ready` tests the flow's record of what waits, and then what a new packet needs.
 use mathlib.Core.Path.{refl}
-use borrow.Author.Rules.{rules}
 use Rattle.rules.specs.Branch.{eq_yes, eq_no}
 use Rattle.ledger.specs.Ring.{long_of}
 use Rattle.plan.specs.Course.{ready_by}

@@ -1,5 +1,4 @@
 -- `send_of` reads the flow's record of what waits: a new packet where none does, and else the packet at its low.
-use borrow.Author.Rules.{rules}
 use Rattle.rules.specs.Branch.{eq_yes, eq_no}
 use Rattle.plan.specs.Course.{send_by}
 use Rattle.plan.proofs.course.send_of.Goals as goal

@@ -1,5 +1,4 @@
 -- `start` is what the judge starts with, the packets that wait, and the held turn.
-use borrow.Author.Rules.{rules}
 use Rattle.plan.specs.Course.{course_of}
 use Rattle.plan.proofs.course.start.Goals as goal
 

@@ -1,6 +1,4 @@
 -- `waiting_from` is the flow's record, with low at the packet that is found.
-use borrow.Author.Rules.{rules}
-use Rattle.context.specs.Context.{Context}
 use Rattle.context.specs.Lent.{context_given}
 use Rattle.context.proofs.Sounds.{context_facts}
 use Rattle.context.proofs.Joins.{flow_fits}
@@ -13,7 +11,7 @@ flow_at-f-requires c =
     context_given a.c a.flows.now a.outstanding.now a.marked.now a.sizes.now a.sent.now a.evs.now in
     record {
       k_bound = c.requires.k_bound;
-      fits = flow_fits (handed) (context_facts (handed) c.requires.evs_value) c.args.k c.requires.k_bound;
+      fits = flow_fits handed (context_facts handed c.requires.evs_value) c.args.k c.requires.k_bound;
     }
 
 pub returns : goal.returns

@@ -1,6 +1,5 @@
 -- `waits_after` moves the record of a flow that sent again to its next packet that waits, and leaves the records for a new packet.
 use mathlib.Core.Path.{refl}
-use borrow.Author.Rules.{rules}
 use Rattle.rules.specs.Branch.{so_yes, so_no}
 use Rattle.plan.specs.Course.{waits_after}
 use Rattle.plan.proofs.course.waits_after.Goals as goal

@@ -3,12 +3,10 @@ use mathlib.Core.Path.{◌≡◌, sym, ◌∙◌}
 use mathlib.Core.Bool.{true, false, ◌||◌}
 use native.Mathlib.Omega.{arith}
 use lib.Dec.{leb, ltb}
-use borrow.Author.Rules.{rules}
-use borrow.Author.Tests.{not-true, not-false}
 use Rattle.rules.specs.Verdict.{number_of}
 use Rattle.window.specs.Limits.{time_end}
 use Rattle.ledger.specs.Memory.{memory}
-use Rattle.context.specs.Context.{Context, context}
+use Rattle.context.specs.Context.{context}
 use Rattle.context.specs.Sound.{sound_context}
 use Rattle.plan.specs.Plan.{send_count, plan_of}
 use Rattle.plan.proofs.Made.{sends_length, judge_2, judge_3, judge_27, judge_made, timely}
@@ -19,7 +17,7 @@ use Rattle.plan.proofs.judge.judge.Goals.{After-count, After-is_late}
 holds : (c : After-is_late) →
     let handed = let a = c.args in
     context a.c a.flows.now (memory a.outstanding.now a.marked.now a.sizes.now a.sent.now) a.evs.now in
-    sound_context (handed) ≡ true
+    sound_context handed ≡ true
 holds c = sym c.is_sound.ensures ∙ c.if-not-is_sound.false
 
 in_time : (c : After-count) → (ltb c.args.time c.args.c.clock || leb time_end c.args.time) ≡ false
@@ -30,35 +28,40 @@ unfolding number_of
 returns-then-not-is_sound c =
     let handed = let a = c.args in
     context a.c a.flows.now (memory a.outstanding.now a.marked.now a.sizes.now a.sent.now) a.evs.now in
-    c.no_send.ensures ∙ judge_2 _ _ (handed) (sym c.is_sound.ensures ∙ c.if-not-is_sound.true)
+    c.no_send.ensures ∙ judge_2 _ _ handed (sym c.is_sound.ensures ∙ c.if-not-is_sound.true)
 
 pub returns-then-is_late : goal.returns-then-is_late
 unfolding number_of
 returns-then-is_late c =
+    let g = goal.at.returns-then-is_late c in
     let handed = let a = c.args in
     context a.c a.flows.now (memory a.outstanding.now a.marked.now a.sizes.now a.sent.now) a.evs.now in
-    c.no_send-then-is_late.ensures ∙ judge_3 _ _ (handed) (holds (goal.at.returns-then-is_late c).After-is_late) (sym c.is_late.ensures ∙ c.if-is_late.true)
+    c.no_send-then-is_late.ensures ∙ judge_3 _ _ handed (holds g.After-is_late) (sym c.is_late.ensures ∙ c.if-is_late.true)
 
 pub returns-then-count-gt-SENDS_MOST : goal.returns-then-count-gt-SENDS_MOST
 unfolding number_of
 returns-then-count-gt-SENDS_MOST c =
+    let g = goal.at.returns-then-count-gt-SENDS_MOST c in
     let handed = let a = c.args in
     context a.c a.flows.now (memory a.outstanding.now a.marked.now a.sizes.now a.sent.now) a.evs.now in
     let ws = c.args.plan.now in
     c.no_send-then-count-gt-SENDS_MOST.ensures
-    ∙ judge_27 _ (plan_of ws) (handed) (holds (goal.at.returns-then-count-gt-SENDS_MOST c).After-is_late) (in_time (goal.at.returns-then-count-gt-SENDS_MOST c).After-count)
+    ∙ judge_27 _ (plan_of ws) handed (holds g.After-is_late) (in_time g.After-count)
     (omega (arith, c.if-count-gt-SENDS_MOST.true, c.count.ensures, sends_length ws 0 (send_count ws)))
 
 pub judge_each-requires : goal.judge_each-requires
-judge_each-requires c = record {
-  evs_value = holds (goal.at.judge_each-requires c).After-is_late;
-  clock_le_time = timely _ _ (in_time (goal.at.judge_each-requires c).After-count);
-}
+judge_each-requires c =
+    let g = goal.at.judge_each-requires c in
+    record {
+      evs_value = holds g.After-is_late;
+      clock_le_time = timely _ _ (in_time g.After-count);
+    }
 
 pub returns : goal.returns
 returns c =
+    let g = goal.at.returns c in
     let handed = let a = c.args in
     context a.c a.flows.now (memory a.outstanding.now a.marked.now a.sizes.now a.sent.now) a.evs.now in
     let ws = c.args.plan.now in
-    judge_made _ (plan_of ws) (handed) (holds (goal.at.returns c).After-is_late) (in_time (goal.at.returns c).After-count)
+    judge_made _ (plan_of ws) handed (holds g.After-is_late) (in_time g.After-count)
     (omega (arith, c.if-count-gt-SENDS_MOST.false, c.count.ensures, sends_length ws 0 (send_count ws))) c.judge_each.ensures

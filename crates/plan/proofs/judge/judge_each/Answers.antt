@@ -1,18 +1,16 @@
 -- `judge_each` judges send by send (proofs/Made).
 use mathlib.Core.Path.{◌≡◌, ap, ◌∙◌}
-use Prim.Native.Nat.{ℕ, ◌-◌}
+use Prim.Native.Nat.{ℕ}
 use native.Mathlib.Omega.{arith}
-use borrow.Author.Rules.{rules}
-use borrow.Author.Tests.{not-true, not-false}
 use Rattle.rules.specs.Verdict.{number_of, accepted_zero, refused_not}
 use Rattle.ledger.specs.Memory.{memory}
-use Rattle.context.specs.Context.{Context, context}
+use Rattle.context.specs.Context.{context}
 use Rattle.plan.specs.Plan.{planned_at, sends_from, plan_of}
 use Rattle.plan.specs.Ahead.{ahead_number, ahead_after}
 use Rattle.plan.specs.Judge.{made_from}
 use Rattle.plan.specs.declared.Planned.{Planned}
 use Rattle.plan.proofs.Agrees.{agrees_flown}
-use Rattle.plan.proofs.Made.{Reached, reached_start, reached_end, reached_refused, after_asks, reached_next}
+use Rattle.plan.proofs.Made.{reached_start, reached_end, reached_refused, after_asks, reached_next}
 use Rattle.plan.proofs.judge.judge_each.Goals as goal
 use Rattle.plan.proofs.judge.judge_each.Goals.{After-judge_next-verdict, At-loop-i, Else-not-is_accepted}
 
@@ -21,23 +19,23 @@ told : (c : After-judge_next-verdict) →
     let handed = let a = c.args in
     context a.c a.flows.now (memory a.outstanding.now a.marked.now a.sizes.now a.sent.now) a.evs.now in
     let ws = c.args.plan.now in
-    number_of c.judge_next-verdict.result ≡ ahead_number (handed) ws c.loop-i.i c.loop-i.s (planned_at ws c.loop-i.i)
+    number_of c.judge_next-verdict.result ≡ ahead_number handed ws c.loop-i.i c.loop-i.s (planned_at ws c.loop-i.i)
 told c =
     let handed = let a = c.args in
     context a.c a.flows.now (memory a.outstanding.now a.marked.now a.sizes.now a.sent.now) a.evs.now in
     c.judge_next-verdict.ensures
-    ∙ ap (λ (p : Planned). ahead_number (handed) c.args.plan.now c.loop-i.i c.loop-i.s p) c.send_at-p.ensures
+    ∙ ap (λ (p : Planned). ahead_number handed c.args.plan.now c.loop-i.i c.loop-i.s p) c.send_at-p.ensures
 
 -- all the sends, as many as were counted
 whole : (c : At-loop-i) →
     let handed = let a = c.args in
     context a.c a.flows.now (memory a.outstanding.now a.marked.now a.sizes.now a.sent.now) a.evs.now in
-    made_from c.args.time 0 (sends_from c.args.plan.now 0 c.count-n.result) (handed)
-    ≡ made_from c.args.time 0 (plan_of c.args.plan.now) (handed)
+    made_from c.args.time 0 (sends_from c.args.plan.now 0 c.count-n.result) handed
+    ≡ made_from c.args.time 0 (plan_of c.args.plan.now) handed
 whole c =
     let handed = let a = c.args in
     context a.c a.flows.now (memory a.outstanding.now a.marked.now a.sizes.now a.sent.now) a.evs.now in
-    ap (λ (m : ℕ). made_from c.args.time 0 (sends_from c.args.plan.now 0 m) (handed)) c.count-n.ensures
+    ap (λ (m : ℕ). made_from c.args.time 0 (sends_from c.args.plan.now 0 m) handed) c.count-n.ensures
 
 -- send i was accepted
 accepted : (c : Else-not-is_accepted) → number_of c.judge_next-verdict.result ≡ 0
@@ -47,7 +45,7 @@ pub loop-i-init : goal.loop-i-init
 loop-i-init c =
     let handed = let a = c.args in
     context a.c a.flows.now (memory a.outstanding.now a.marked.now a.sizes.now a.sent.now) a.evs.now in
-    reached_start _ (handed) _ _ c.requires.evs_value c.requires.clock_le_time.0 c.requires.clock_le_time.1 c.start-s.ensures
+    reached_start _ handed _ _ c.requires.evs_value c.requires.clock_le_time.0 c.requires.clock_le_time.1 c.start-s.ensures
 
 pub send_at-p-requires : goal.send_at-p-requires
 send_at-p-requires c = omega (arith, c.loop-i-test.true, c.count-n.ensures)
@@ -60,14 +58,16 @@ judge_next-verdict-requires c = record {
 
 pub returns-then-not-is_accepted : goal.returns-then-not-is_accepted
 returns-then-not-is_accepted c =
-    reached_refused c.loop-i.invariant c.loop-i-test.true (told (goal.at.returns-then-not-is_accepted c).After-judge_next-verdict)
+    let g = goal.at.returns-then-not-is_accepted c in
+    reached_refused c.loop-i.invariant c.loop-i-test.true (told g.After-judge_next-verdict)
     (refused_not c.judge_next-verdict.result _ c.is_accepted.ensures c.if-not-is_accepted.true)
-    ∙ whole (goal.at.returns-then-not-is_accepted c).At-loop-i
+    ∙ whole g.At-loop-i
 
 pub after-s-requires : goal.after-s-requires
 after-s-requires c =
-    let asks = after_asks c.loop-i.invariant c.loop-i-test.true (told (goal.at.after-s-requires c).After-judge_next-verdict)
-    (accepted (goal.at.after-s-requires c).Else-not-is_accepted) in
+    let g = goal.at.after-s-requires c in
+    let asks = after_asks c.loop-i.invariant c.loop-i-test.true (told g.After-judge_next-verdict)
+    (accepted g.Else-not-is_accepted) in
     let p = c.send_at-p.ensures in
     record { flow_lt_flows_most = rw p asks.0; size_bound = rw p asks.1 }
 
@@ -79,10 +79,12 @@ loop-i-smaller c = omega arith
 
 pub loop-i-preserved : goal.loop-i-preserved
 loop-i-preserved c =
-    reached_next c.loop-i.invariant c.loop-i-test.true (told (goal.at.loop-i-preserved c).After-judge_next-verdict) (accepted (goal.at.loop-i-preserved c).Else-not-is_accepted)
+    let g = goal.at.loop-i-preserved c in
+    reached_next c.loop-i.invariant c.loop-i-test.true (told g.After-judge_next-verdict) (accepted g.Else-not-is_accepted)
     (c.after-s.ensures ∙ ap (ahead_after c.loop-i.s) c.send_at-p.ensures) (omega arith)
 
 pub returns : goal.returns
 unfolding number_of
 returns c =
-    c.no_send.ensures ∙ reached_end c.loop-i.invariant c.loop-i-test.false ∙ whole (goal.at.returns c).At-loop-i
+    let g = goal.at.returns c in
+    c.no_send.ensures ∙ reached_end c.loop-i.invariant c.loop-i-test.false ∙ whole g.At-loop-i

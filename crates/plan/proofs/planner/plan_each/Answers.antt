@@ -1,16 +1,14 @@
 -- `plan_each` plans turn by turn (proofs/Proposals).
 use mathlib.Core.Path.{◌≡◌, ap, ◌∙◌}
 use mathlib.Core.Bool.{false}
-use Prim.Native.Nat.{ℕ, ◌-◌, ◌/◌, ◌^◌, ◌<◌, ◌≤◌}
+use Prim.Native.Nat.{ℕ, ◌/◌, ◌^◌, ◌<◌, ◌≤◌}
 use native.Mathlib.Omega.{arith}
 use lib.ListN.{length}
-use borrow.Author.Rules.{rules}
-use borrow.Author.Tests.{not-true, not-false}
 use Rattle.rules.specs.Verdict.{number_of, accepted_zero, refused_not}
 use Rattle.ledger.specs.Bounds.{Flown}
 use Rattle.ledger.specs.Memory.{memory}
 use Rattle.flow_table.specs.Words.{flows_most}
-use Rattle.context.specs.Context.{Context, context, flow_count, cap_in}
+use Rattle.context.specs.Context.{context, flow_count, cap_in}
 use Rattle.context.proofs.Sounds.{SoundContext, context_facts}
 use Rattle.plan.specs.Plan.{send_count, with_send}
 use Rattle.plan.specs.Ahead.{flow_by, ahead_number}
@@ -19,49 +17,40 @@ use Rattle.plan.specs.declared.Planned.{Planned}
 use Rattle.plan.proofs.Agrees.{agrees_flown}
 use Rattle.plan.proofs.Judging.{rooms}
 use Rattle.plan.proofs.Courses.{turn_in}
-use Rattle.plan.proofs.Proposals.{Planning, planning_start, planning_full, planning_nobody, planning_refused, next_asks, planning_next}
+use Rattle.plan.proofs.Proposals.{planning_start, planning_full, planning_nobody, planning_refused, next_asks, planning_next}
 use Rattle.plan.proofs.planner.plan_each.Goals as goal
 use Rattle.plan.proofs.planner.plan_each.Goals.{After-judge_next-verdict, After-named-k, At-loop-i, Else-n-k, Else-not-is_accepted, Start}
 
 facts : (c : Start) →
     let handed = let a = c.args in
     context a.c a.flows.now (memory a.outstanding.now a.marked.now a.sizes.now a.sent.now) a.evs.now in
-    SoundContext (handed)
+    SoundContext handed
 facts c =
     let handed = let a = c.args in
     context a.c a.flows.now (memory a.outstanding.now a.marked.now a.sizes.now a.sent.now) a.evs.now in
-    context_facts (handed) c.requires.evs_value
+    context_facts handed c.requires.evs_value
 
 -- how many flows there are
 count_of : (c : At-loop-i) →
     let handed = let a = c.args in
     context a.c a.flows.now (memory a.outstanding.now a.marked.now a.sizes.now a.sent.now) a.evs.now in
-    c.count-n.result ≡ flow_count (handed)
+    c.count-n.result ≡ flow_count handed
 count_of c = c.count-n.ensures
 
 -- who is named
 who : (c : After-named-k) →
-    let handed = let a = c.args in
-    context a.c a.flows.now (memory a.outstanding.now a.marked.now a.sizes.now a.sent.now) a.evs.now in
-    let x = handed in
+    let a = c.args in
+    let x = context a.c a.flows.now (memory a.outstanding.now a.marked.now a.sizes.now a.sent.now) a.evs.now in
     c.named-k.result ≡ named_by x.state (cap_in x) (flow_count x) c.loop-i.s
 who c =
-    let handed = let a = c.args in
-    context a.c a.flows.now (memory a.outstanding.now a.marked.now a.sizes.now a.sent.now) a.evs.now in
-    let count_of : c.count-n.result ≡ flow_count (handed) = c.count-n.ensures in
-    let a = c.args in
-    c.named-k.ensures ∙ ap (λ (m : ℕ). named_by a.c (length a.sizes.now / m) m c.loop-i.s) (count_of)
+    c.named-k.ensures ∙ ap (λ (m : ℕ). named_by c.args.c (length c.args.sizes.now / m) m c.loop-i.s) c.count-n.ensures
 
 -- a flow is named
 there : (c : Else-n-k) →
     let handed = let a = c.args in
     context a.c a.flows.now (memory a.outstanding.now a.marked.now a.sizes.now a.sent.now) a.evs.now in
-    c.named-k.result < flow_count (handed)
-there c =
-    let handed = let a = c.args in
-    context a.c a.flows.now (memory a.outstanding.now a.marked.now a.sizes.now a.sent.now) a.evs.now in
-    let count_of : c.count-n.result ≡ flow_count (handed) = c.count-n.ensures in
-    omega (arith, c.if-n-k.false, count_of)
+    c.named-k.result < flow_count handed
+there c = omega (arith, c.if-n-k.false, c.count-n.ensures)
 
 -- there is room for send i
 in_room : (c : At-loop-i) → c.loop-i.i < c.room-most.result → c.loop-i.i < send_count c.loop-i.plan
@@ -69,16 +58,15 @@ in_room c h = omega (arith, h, c.room-most.ensures, c.loop-i.invariant.long)
 
 -- the number that was told is that of what the flow sends
 told : (c : After-judge_next-verdict) →
-    let handed = let a = c.args in
-    context a.c a.flows.now (memory a.outstanding.now a.marked.now a.sizes.now a.sent.now) a.evs.now in
-    let x = handed in
+    let a = c.args in
+    let x = context a.c a.flows.now (memory a.outstanding.now a.marked.now a.sizes.now a.sent.now) a.evs.now in
     number_of c.judge_next-verdict.result
     ≡ ahead_number x c.loop-i.plan c.loop-i.i c.loop-i.s.ahead (send_by x c.loop-i.s c.args.bytes c.named-k.result)
 told c =
     let handed = let a = c.args in
     context a.c a.flows.now (memory a.outstanding.now a.marked.now a.sizes.now a.sent.now) a.evs.now in
     c.judge_next-verdict.ensures
-    ∙ ap (λ (p : Planned). ahead_number (handed) c.loop-i.plan c.loop-i.i c.loop-i.s.ahead p) c.send_of-p.ensures
+    ∙ ap (λ (p : Planned). ahead_number handed c.loop-i.plan c.loop-i.i c.loop-i.s.ahead p) c.send_of-p.ensures
 
 -- its send is accepted
 accepted : (c : Else-not-is_accepted) → number_of c.judge_next-verdict.result ≡ 0
@@ -88,43 +76,44 @@ asks : (c : Else-not-is_accepted) →
     let handed = let a = c.args in
     context a.c a.flows.now (memory a.outstanding.now a.marked.now a.sizes.now a.sent.now) a.evs.now in
     let p = c.send_of-p.result in
-    ((p.flow < flow_count (handed)) × (p.flow < flows_most) × Flown (2 ^ 26) c.loop-i.s.ahead.in_flight)
+    ((p.flow < flow_count handed) × (p.flow < flows_most) × Flown (2 ^ 26) c.loop-i.s.ahead.in_flight)
     × (p.send.resend ≡ false → p.send.size ≤ (flow_by c.loop-i.s.ahead p.flow).backlog)
 asks c =
-    let handed = let a = c.args in
-    context a.c a.flows.now (memory a.outstanding.now a.marked.now a.sizes.now a.sent.now) a.evs.now in
-    let facts : SoundContext (handed) = context_facts (handed) c.requires.evs_value in
-    let count_of : c.count-n.result ≡ flow_count (handed) = c.count-n.ensures in
-    let who : let x = handed in
-    c.named-k.result ≡ named_by x.state (cap_in x) (flow_count x) c.loop-i.s = let a = c.args in
-    c.named-k.ensures ∙ ap (λ (m : ℕ). named_by a.c (length a.sizes.now / m) m c.loop-i.s) (count_of) in
-    let there : c.named-k.result < flow_count (handed) = omega (arith, c.if-n-k.false, count_of) in
-    let told : let x = handed in
-    number_of c.judge_next-verdict.result
-    ≡ ahead_number x c.loop-i.plan c.loop-i.i c.loop-i.s.ahead (send_by x c.loop-i.s c.args.bytes c.named-k.result) = c.judge_next-verdict.ensures
-    ∙ ap (λ (p : Planned). ahead_number (handed) c.loop-i.plan c.loop-i.i c.loop-i.s.ahead p) c.send_of-p.ensures in
-    let in_room : c.loop-i.i < c.room-most.result → c.loop-i.i < send_count c.loop-i.plan = λ h. omega (arith, h, c.room-most.ensures, c.loop-i.invariant.long) in
-    next_asks (facts) c.loop-i.invariant c.loop-i-test.true _ (who) (there) (told) (accepted c)
-    (in_room c.loop-i-test.true) c.send_of-p.ensures
+    let a = c.args in
+    let x = context a.c a.flows.now (memory a.outstanding.now a.marked.now a.sizes.now a.sent.now) a.evs.now in
+    let l = c.loop-i in
+    let S = context_facts x c.requires.evs_value in
+    let who : c.named-k.result ≡ named_by x.state (cap_in x) (flow_count x) l.s =
+    c.named-k.ensures ∙ ap (λ (m : ℕ). named_by a.c (length a.sizes.now / m) m l.s) c.count-n.ensures in
+    let there : c.named-k.result < flow_count x = omega (arith, c.if-n-k.false, c.count-n.ensures) in
+    let told : number_of c.judge_next-verdict.result ≡ ahead_number x l.plan l.i l.s.ahead (send_by x l.s a.bytes c.named-k.result) =
+    c.judge_next-verdict.ensures ∙ ap (λ (p : Planned). ahead_number x l.plan l.i l.s.ahead p) c.send_of-p.ensures in
+    let in_room : l.i < send_count l.plan = omega (arith, c.loop-i-test.true, c.room-most.ensures, l.invariant.long) in
+    next_asks S l.invariant c.loop-i-test.true _ who there told (accepted c) in_room c.send_of-p.ensures
 
 pub nonzero_div-cap : goal.nonzero_div-cap
 nonzero_div-cap c =
-    omega (arith, c.count-n.ensures, (facts (goal.at.nonzero_div-cap c).Start).table.some)
+    let g = goal.at.nonzero_div-cap c in
+    omega (arith, c.count-n.ensures, (facts g.Start).table.some)
 
 pub loop-i-init : goal.loop-i-init
 loop-i-init c =
     let handed = let a = c.args in
     context a.c a.flows.now (memory a.outstanding.now a.marked.now a.sizes.now a.sent.now) a.evs.now in
-    planning_start _ _ (handed) _ _ c.requires.evs_value c.requires.clock_le_time.0 c.requires.clock_le_time.1 c.start-s.ensures
+    planning_start _ _ handed _ _ c.requires.evs_value c.requires.clock_le_time.0 c.requires.clock_le_time.1 c.start-s.ensures
 
 pub named-k-requires : goal.named-k-requires
 named-k-requires c =
+    let g = goal.at.named-k-requires c in
     let handed = let a = c.args in
     context a.c a.flows.now (memory a.outstanding.now a.marked.now a.sizes.now a.sent.now) a.evs.now in
     let R = c.loop-i.invariant in
-    let B = rooms (handed) c.requires.evs_value in
+    let B = rooms handed c.requires.evs_value in
     record {
-      turn_lt_n = (omega (arith, turn_in (facts (goal.at.named-k-requires c).Start) R.agrees R.follows, count_of (goal.at.named-k-requires c).At-loop-i), omega (arith, (facts (goal.at.named-k-requires c).Start).table.few, count_of (goal.at.named-k-requires c).At-loop-i));
+      turn_lt_n = (
+        omega (arith, turn_in (facts g.Start) R.agrees R.follows, count_of g.At-loop-i),
+        omega (arith, (facts g.Start).table.few, count_of g.At-loop-i),
+      );
       mtu_bound = (B.0, B.1, agrees_flown R.agrees);
     }
 
@@ -133,37 +122,47 @@ shape_of-plan-then-n-k c = c.loop-i.invariant.long
 
 pub returns-then-n-k : goal.returns-then-n-k
 returns-then-n-k c =
+    let g = goal.at.returns-then-n-k c in
     rw (← c.room-most.ensures)
-    (planning_nobody (facts (goal.at.returns-then-n-k c).Start) c.loop-i.invariant c.loop-i-test.true _ (who (goal.at.returns-then-n-k c).After-named-k) (omega (arith, c.if-n-k.true, count_of (goal.at.returns-then-n-k c).At-loop-i)))
+    (planning_nobody (facts g.Start) c.loop-i.invariant c.loop-i-test.true _ (who g.After-named-k)
+    (omega (arith, c.if-n-k.true, count_of g.At-loop-i)))
 
 pub send_of-p-requires : goal.send_of-p-requires
-send_of-p-requires c = record {
-  evs_value = c.requires.evs_value;
-  k_bound = (there (goal.at.send_of-p-requires c).Else-n-k, omega (arith, there (goal.at.send_of-p-requires c).Else-n-k, (facts (goal.at.send_of-p-requires c).Start).table.few));
-}
+send_of-p-requires c =
+    let g = goal.at.send_of-p-requires c in
+    record {
+      evs_value = c.requires.evs_value;
+      k_bound = (there g.Else-n-k, omega (arith, there g.Else-n-k, (facts g.Start).table.few));
+    }
 
 pub judge_next-verdict-requires : goal.judge_next-verdict-requires
-judge_next-verdict-requires c = record {
-  evs_value = c.requires.evs_value;
-  i_bound = (omega (arith, in_room (goal.at.judge_next-verdict-requires c).At-loop-i c.loop-i-test.true), agrees_flown c.loop-i.invariant.agrees);
-}
+judge_next-verdict-requires c =
+    let g = goal.at.judge_next-verdict-requires c in
+    record {
+      evs_value = c.requires.evs_value;
+      i_bound = (omega (arith, in_room g.At-loop-i c.loop-i-test.true), agrees_flown c.loop-i.invariant.agrees);
+    }
 
 pub shape_of-plan-then-not-is_accepted : goal.shape_of-plan-then-not-is_accepted
 shape_of-plan-then-not-is_accepted c = c.loop-i.invariant.long
 
 pub returns-then-not-is_accepted : goal.returns-then-not-is_accepted
 returns-then-not-is_accepted c =
+    let g = goal.at.returns-then-not-is_accepted c in
     rw (← c.room-most.ensures)
-    (planning_refused (facts (goal.at.returns-then-not-is_accepted c).Start) c.loop-i.invariant c.loop-i-test.true _ (who (goal.at.returns-then-not-is_accepted c).After-named-k) (there (goal.at.returns-then-not-is_accepted c).Else-n-k) (told (goal.at.returns-then-not-is_accepted c).After-judge_next-verdict)
+    (planning_refused (facts g.Start) c.loop-i.invariant c.loop-i-test.true _ (who g.After-named-k) (there g.Else-n-k)
+    (told g.After-judge_next-verdict)
     (refused_not c.judge_next-verdict.result _ c.is_accepted.ensures c.if-not-is_accepted.true))
 
 pub put_send-requires : goal.put_send-requires
 put_send-requires c =
-    (in_room (goal.at.put_send-requires c).At-loop-i c.loop-i-test.true, (asks (goal.at.put_send-requires c).Else-not-is_accepted).0.1)
+    let g = goal.at.put_send-requires c in
+    (in_room g.At-loop-i c.loop-i-test.true, (asks g.Else-not-is_accepted).0.1)
 
 pub after-s-requires : goal.after-s-requires
 after-s-requires c =
-    let told = asks (goal.at.after-s-requires c).Else-not-is_accepted in
+    let g = goal.at.after-s-requires c in
+    let told = asks g.Else-not-is_accepted in
     record { evs_value = c.requires.evs_value; flow_bound = told.0; size_bound = told.1 }
 
 pub overflow_add-i : goal.overflow_add-i
@@ -176,12 +175,14 @@ loop-i-smaller c = omega arith
 
 pub loop-i-preserved : goal.loop-i-preserved
 loop-i-preserved c =
+    let g = goal.at.loop-i-preserved c in
     let handed = let a = c.args in
     context a.c a.flows.now (memory a.outstanding.now a.marked.now a.sizes.now a.sent.now) a.evs.now in
     let p = c.send_of-p.ensures in
-    planning_next (facts (goal.at.loop-i-preserved c).Start) c.loop-i.invariant c.loop-i-test.true _ (who (goal.at.loop-i-preserved c).After-named-k) (there (goal.at.loop-i-preserved c).Else-n-k) (told (goal.at.loop-i-preserved c).After-judge_next-verdict) (accepted (goal.at.loop-i-preserved c).Else-not-is_accepted)
-    (in_room (goal.at.loop-i-preserved c).At-loop-i c.loop-i-test.true)
-    (c.after-s.ensures ∙ ap (course_after (handed) c.loop-i.s) p) (omega arith)
+    planning_next (facts g.Start) c.loop-i.invariant c.loop-i-test.true _ (who g.After-named-k) (there g.Else-n-k)
+    (told g.After-judge_next-verdict) (accepted g.Else-not-is_accepted)
+    (in_room g.At-loop-i c.loop-i-test.true)
+    (c.after-s.ensures ∙ ap (course_after handed c.loop-i.s) p) (omega arith)
     (c.put_send.ensures ∙ ap (with_send c.loop-i.plan c.loop-i.i) p)
 
 pub shape_of-plan : goal.shape_of-plan
@@ -189,4 +190,5 @@ shape_of-plan c = c.loop-i.invariant.long
 
 pub returns : goal.returns
 returns c =
-    rw (← c.room-most.ensures) (planning_full (facts (goal.at.returns c).Start) c.loop-i.invariant c.loop-i-test.false)
+    let g = goal.at.returns c in
+    rw (← c.room-most.ensures) (planning_full (facts g.Start) c.loop-i.invariant c.loop-i-test.false)

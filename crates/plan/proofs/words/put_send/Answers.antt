@@ -1,7 +1,6 @@
 -- `put_send` stores a send's four numbers, one after the other.
 use lib.ListN.{length-set}
 use native.Mathlib.Omega.{arith}
-use borrow.Author.Rules.{rules}
 use Rattle.plan.specs.Plan.{with_send}
 use Rattle.plan.proofs.words.put_send.Goals as goal
 

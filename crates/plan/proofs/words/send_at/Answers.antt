@@ -3,7 +3,6 @@ use Prim.Native.Nat.{◌+◌, ◌*◌}
 use native.Mathlib.Nat.{mod-eq_of_lt}
 use native.Mathlib.Omega.{arith}
 use lib.ListN.{get_or}
-use borrow.Author.Rules.{rules}
 use Rattle.serial.specs.Psn.{psns}
 use Rattle.plan.specs.Plan.{planned_at}
 use Rattle.plan.proofs.words.send_at.Goals as goal
@@ -16,4 +15,4 @@ unfolding planned_at
 returns c =
     let a = c.args in
     let at = 4 * a.i + 2 in
-    rw (mod-eq_of_lt {n = get_or a.plan.now at 0} {m = psns} (omega (arith, c.shared_slice_known-3-1.given at)))
+    rw (mod-eq_of_lt {n = get_or a.plan.now at 0} {m = psns} (omega (arith, c.type_inv.plan at)))

@@ -1,9 +1,7 @@
 -- `sent_again` goes send by send: none below i sends the packet again (proofs/Judging).
 use mathlib.Core.Path.{◌≡◌, sym}
-use mathlib.Core.Bool.{false}
-use Prim.Native.Nat.{◌-◌, ◌≤◌}
 use native.Mathlib.Omega.{arith}
-use Rattle.plan.specs.Ahead.{is_again, again_to}
+use Rattle.plan.specs.Ahead.{is_again}
 use Rattle.plan.proofs.Judging.{again_none, again_not, again_some}
 use Rattle.plan.proofs.words.sent_again.Goals as goal
 

@@ -1,10 +1,8 @@
 -- `sent_again` goes send by send: none below i sends the packet again (proofs/Judging).
-use mathlib.Core.Path.{◌≡◌, sym}
+use mathlib.Core.Path.{◌≡◌}
 use mathlib.Core.Bool.{false}
 use Prim.Native.Nat.{◌-◌, ◌≤◌}
-use native.Mathlib.Omega.{arith}
-use Rattle.plan.specs.Ahead.{is_again, again_to}
-use Rattle.plan.proofs.Judging.{again_none, again_not, again_some}
+use Rattle.plan.specs.Ahead.{again_to}
 use Rattle.plan.proofs.words.sent_again.Given as goal
 
 abbrev pub invariant-loop-i : goal.invariant-loop-i
