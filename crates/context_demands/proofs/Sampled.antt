@@ -5,16 +5,13 @@ use mathlib.Core.Path.{◌≡◌, refl, ap, ◌∙◌}
 use Prim.Native.Nat.{ℕ, min}
 use Rattle.window.specs.Delays.{update_base_rtt_of}
 use Rattle.window.specs.declared.Window.{Window}
-use Rattle.sender.specs.World.{World, view_of}
-use Rattle.sender.specs.declared.Ack.{Ack}
-use Rattle.sender.specs.declared.Nack.{Nack}
-use Rattle.context.specs.Context.{Context, Answered, flow_in, joined_of, shared_of, world_at, put_world}
-use Rattle.demands.specs.Events.{Event, ack, nack}
+use Rattle.sender.specs.World.{World}
+use Rattle.context.specs.Context.{Context, Answered, joined_of, shared_of, world_at, put_world}
+use Rattle.demands.specs.Events.{ack, nack}
 use Rattle.demands.specs.Events.{step_of as oneStep}
-use Rattle.demands.specs.Samples.{SampleIs, NoSample, AverageIs}
-use Rattle.demands.proofs.Sampled.{Lowers, ack_sampled, nack_sampled, ack_lowers, nack_lowers, step_stays}
+use Rattle.demands.proofs.Sampled.{ack_sampled, nack_sampled, ack_lowers, nack_lowers, step_stays}
 use Rattle.demands.proofs.Averaged.{step_average}
-use Rattle.context_demands.specs.Events.{Flowed, answer, answer_at, step_at}
+use Rattle.context_demands.specs.Events.{Flowed, answer}
 use Rattle.context_demands.specs.Demands.{AckTakes, NackTakes, BaseStays, AverageFed}
 use Rattle.context_demands.proofs.Runs.{answer_cases, rules_hold}
 

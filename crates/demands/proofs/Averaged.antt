@@ -21,7 +21,7 @@ use Rattle.sender.specs.Steps.{path_state, path_step}
 use Rattle.sender.specs.declared.Ack.{Ack}
 use Rattle.sender.specs.declared.Nack.{Nack}
 use Rattle.demands.specs.Events.{Event, new_data, send, ack, nack, loss, path, step_of}
-use Rattle.demands.specs.Samples.{SampleIs, fed, ack_feed, fed_sample, AverageIs}
+use Rattle.demands.specs.Samples.{fed, ack_feed, fed_sample, AverageIs}
 use Rattle.demands.specs.Demands.{AverageFed}
 use Rattle.demands.proofs.Runs.{rules_hold}
 use Rattle.demands.proofs.Steady.{Delays, ack_delays, loss_delays, nack_delays}

@@ -1,5 +1,4 @@
 -- `put` sets word i / 64 to what it was but for bit i % 64: `put_law`.
-use borrow.Author.Rules.{rules}
 use Prim.Native.Nat.{◌/◌}
 use Rattle.bits.proofs.Machine.{put_law}
 use Rattle.bits.proofs.put.Goals as goal

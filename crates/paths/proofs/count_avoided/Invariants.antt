@@ -1,7 +1,6 @@
 -- `count_avoided` counts the avoided EVs: by its invariant, what is counted and the count of what is left make the count of all.
-use Rattle.std.proofs.Common.{◌≡◌, ◌+◌, ◌-◌, ◌≤◌, length, get_or, drop, arith, rules}
+use Rattle.std.proofs.Common.{◌≡◌, ◌+◌, ◌-◌, ◌≤◌, length, drop}
 use Rattle.paths.specs.Path.{avoided}
-use Rattle.paths.proofs.Walk.{avoids_le, avoided_next, avoided_rest}
 use Rattle.paths.proofs.count_avoided.Given as goal
 
 abbrev pub invariant-loop-i : goal.invariant-loop-i

@@ -1,7 +1,6 @@
 -- `first_free` finds the first free EV: by its invariant, the place that is reached and the first free place of
 -- what is left make that of all.
-use Rattle.std.proofs.Common.{◌≡◌, ◌+◌, ◌-◌, ◌≤◌, length, drop, arith, rules}
-use Rattle.paths.specs.Path.{first_free}
+use Rattle.std.proofs.Common.{arith}
 use Rattle.paths.proofs.Walk.{free_next, free_here, free_rest}
 use Rattle.paths.proofs.first_free.Goals as goal
 

@@ -1,8 +1,7 @@
 -- `first_free` finds the first free EV: by its invariant, the place that is reached and the first free place of
 -- what is left make that of all.
-use Rattle.std.proofs.Common.{◌≡◌, ◌+◌, ◌-◌, ◌≤◌, length, drop, arith, rules}
+use Rattle.std.proofs.Common.{◌≡◌, ◌+◌, ◌-◌, ◌≤◌, length, drop}
 use Rattle.paths.specs.Path.{first_free}
-use Rattle.paths.proofs.Walk.{free_next, free_here, free_rest}
 use Rattle.paths.proofs.first_free.Given as goal
 
 abbrev pub invariant-loop-i : goal.invariant-loop-i

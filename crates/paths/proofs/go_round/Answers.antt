@@ -1,5 +1,5 @@
 -- `go_round` passes the avoided EVs of the one part and then of the other, and counts on from the first free one.
-use Rattle.std.proofs.Common.{◌-◌, length, arith, rules}
+use Rattle.std.proofs.Common.{◌-◌, length, arith}
 use Rattle.paths.proofs.Walk.{early_part, avoided_append, avoided_lent, free_tail, free_head, avoided_head}
 use Rattle.paths.proofs.go_round.Goals as goal
 

@@ -1,5 +1,5 @@
 -- `land` goes so many steps from the cursor and one further: by two calls of `wrap`, each below twice n.
-use Rattle.std.proofs.Common.{◌+◌, mod-lt, arith, rules}
+use Rattle.std.proofs.Common.{◌+◌, mod-lt, arith}
 use Rattle.paths.specs.Path.{landed}
 use Rattle.paths.proofs.land.Goals as goal
 

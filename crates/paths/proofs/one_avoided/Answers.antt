@@ -1,6 +1,6 @@
 -- `one_avoided` tells whether an EV is avoided by the highest bit of the difference: it is below zero exactly where the time is
 -- before the EV's (`sign_tells`).
-use Rattle.std.proofs.Common.{arith, rules}
+use Rattle.std.proofs.Common.{arith}
 use Rattle.paths.proofs.Walk.{sign_tells}
 use Rattle.paths.proofs.one_avoided.Goals as goal
 

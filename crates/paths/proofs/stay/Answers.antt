@@ -1,5 +1,5 @@
 -- `stay` goes one step from the cursor, which is below n and so its own remainder.
-use Rattle.std.proofs.Common.{◌≡◌, ℕ, ◌+◌, ◌%◌, sym, ap, ◌∙◌, add-zero, mod-eq_of_lt, arith, rules}
+use Rattle.std.proofs.Common.{◌≡◌, ℕ, ◌+◌, ◌%◌, sym, ap, ◌∙◌, add-zero, mod-eq_of_lt, arith}
 use Rattle.paths.specs.Path.{landed}
 use Rattle.paths.specs.declared.Choice.{Choice}
 use Rattle.paths.proofs.stay.Goals as goal

@@ -1,5 +1,4 @@
-use Rattle.std.proofs.Common.{sym, ap, cond}
-use Rattle.rules.specs.Mode.{mode_of, on, off}
+use Rattle.rules.specs.Mode.{mode_of}
 use Rattle.rules.proofs.mode_of.Goals as goal
 
 pub returns-then-on : goal.returns-then-on

@@ -1,5 +1,4 @@
 -- `back` is next - 1 - cum: what its two differences ensure.
-use Rattle.std.proofs.Common.{rules}
 use Rattle.serial.specs.Psn.{back_of}
 use Rattle.serial.proofs.back.Goals as goal
 

@@ -1,5 +1,5 @@
 -- `bit_of` is bit i of the map: the shift by i, its lowest digit.
-use Rattle.std.proofs.Common.{rules, le-ltb, lt-ltb}
+use Rattle.std.proofs.Common.{le-ltb, lt-ltb}
 use Rattle.serial.specs.Psn.{bit_of}
 use Rattle.serial.proofs.bit_of.Goals as goal
 

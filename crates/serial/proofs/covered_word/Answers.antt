@@ -1,6 +1,6 @@
 -- `covered_word` tells by cum up to cum itself and by the map from there on, or by the map alone where cum lies behind psn:
 -- one law for each way out.
-use Rattle.std.proofs.Common.{arith, pow_pos, rules}
+use Rattle.std.proofs.Common.{arith, pow_pos}
 use Rattle.serial.proofs.CoverWord.{far_is, all_law, low_fits, joined_law, shifted_law, none_law}
 use Rattle.serial.proofs.covered_word.Goals as goal
 

@@ -1,5 +1,5 @@
 -- `covers` tests the cumulative part, then the map's bit: each branch opens one side of `covered`.
-use Rattle.std.proofs.Common.{rules, le-leb}
+use Rattle.std.proofs.Common.{le-leb}
 use borrow.Author.Tests.{lt-leb}
 use Rattle.serial.specs.Psn.{covered}
 use Rattle.serial.proofs.covers.Goals as goal

@@ -1,5 +1,4 @@
 -- `forward` is the gap where it isn't below zero, by `gap_cast`, else 0, by `gap_none`.
-use Rattle.std.proofs.Common.{rules}
 use Rattle.serial.proofs.Counts.{gap_word, gap_cast, gap_none}
 use Rattle.serial.proofs.forward.Goals as goal
 

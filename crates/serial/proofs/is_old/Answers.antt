@@ -1,5 +1,4 @@
 -- `is_old` is the sign of the gap, by `gap_sign`.
-use Rattle.std.proofs.Common.{rules}
 use Rattle.serial.proofs.Counts.{gap_word, gap_sign}
 use Rattle.serial.proofs.is_old.Goals as goal
 

@@ -1,5 +1,5 @@
 -- `psn_minus` is the difference modulo 2^32: the machine's wrapping difference, by `minus_of`.
-use Rattle.std.proofs.Common.{sym, ◌∙◌, mod-eq_of_lt, arith, rules}
+use Rattle.std.proofs.Common.{sym, ◌∙◌, mod-eq_of_lt, arith}
 use Rattle.serial.specs.Psn.{psns}
 use Rattle.serial.proofs.Wraps.{minus_of}
 use Rattle.serial.proofs.psn_minus.Goals as goal

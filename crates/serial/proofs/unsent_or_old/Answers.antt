@@ -1,5 +1,5 @@
 -- `unsent_or_old` is refusal 9: each branch opens one side of `unsent_or_old`.
-use Rattle.std.proofs.Common.{rules, le-ltb, lt-ltb}
+use Rattle.std.proofs.Common.{le-ltb, lt-ltb}
 use Rattle.serial.specs.Psn.{unsent_or_old}
 use Rattle.serial.proofs.unsent_or_old.Goals as goal
 

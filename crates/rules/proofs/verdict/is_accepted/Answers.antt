@@ -1,5 +1,5 @@
 -- `is_accepted` tells the verdict whose number is 0: no other has it.
-use Rattle.std.proofs.Common.{sym, ap, ne_eqb}
+use Rattle.std.proofs.Common.{sym, ne_eqb}
 use Rattle.rules.specs.Verdict.{number_of}
 use Rattle.rules.proofs.Verdicts.{number_tells}
 use Rattle.rules.specs.declared.verdict.Verdict.TheVariants.{Accepted}

@@ -1,5 +1,4 @@
 -- `number_of` gives each verdict its number, as its definition does.
-use Rattle.std.proofs.Common.{sym, ap}
 use Rattle.rules.specs.Verdict.{number_of}
 use Rattle.rules.proofs.verdict.number_of.Goals as goal
 
