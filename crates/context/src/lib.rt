@@ -60,9 +60,8 @@ pub struct Routed {
 }
 
 // Each event as a method on the controller by value (document 01, "Form by location": "answers state and outcome"), over a lent table of
-// records (request M-107). It is proved by a walk of its MIR, so it does no more than load the table, make the step and store the table;
-// `entry` has the same events over the table's words. No event has a `requires`: whatever is handed in, it ends, and answers by document
-// 01's table.
+// records (request M-107): it loads the table, makes the step and stores the table; `entry` has the same events over the table's words. No
+// event has a `requires`: whatever is handed in, it ends, and answers by document 01's table.
 impl Controller {
     // There is more to send on a flow. What is lent but for the table is only read.
     pub fn new_data(
