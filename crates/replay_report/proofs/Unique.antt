@@ -1,7 +1,6 @@
 -- "Prove that no two outcomes satisfy one promise": of `tally`. Its outcome is the answer with the final contents of the
 -- flows' records, the ring, the EV times and the figures.
 -- Assumes nothing.
-use mathlib.Core.Path.{refl}
 use mathlib.Core.List.{List}
 use Prim.Native.Nat.{ℕ}
 use Rattle.ledger.specs.Memory.{Memory}
