@@ -13,7 +13,7 @@ use Rattle.rules.specs.Test.{both}
 use Rattle.rules.specs.Rows.{Row}
 use Rattle.window.specs.declared.Sampling.{Sampling}
 use Rattle.window.specs.declared.Settings.{Settings}
-use Rattle.context.specs.Context.{Context, Answered, world_at}
+use Rattle.context.specs.Context.{Context, Answered}
 use Rattle.context.specs.Start.{on_set_up}
 use Rattle.sender.specs.Statements.{First}
 use Rattle.log_records.specs.Parse.{parse_at, parsed_number}
