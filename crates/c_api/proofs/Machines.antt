@@ -28,7 +28,6 @@ use Rattle.replay.specs.declared.Place.{Place}
 use Rattle.replay.specs.declared.Shown.{Shown}
 use Rattle.replay.specs.declared.records.Event.{Event}
 use Rattle.replay.specs.declared.records.Event.TheVariants as event
-use Rattle.replay.specs.declared.turns.Found.TheVariants as found
 use Rattle.replay.proofs.Progress.{turn_cases, turn_sound_place, place_sound_after}
 use Rattle.replay.proofs.Parts.{along}
 use Rattle.c_state.specs.Statements.{Machine}

@@ -1,0 +1,16 @@
+-- `nscc_new_data` is the event, whose number fits 32 bits.
+use mathlib.Core.Path.{◌∙◌}
+use native.Mathlib.Omega.{arith}
+use Rattle.c_api.proofs.Singles.{new_data_single, words_on, word_most_lem}
+use Rattle.c_api.proofs.nscc_new_data.Goals as goal
+
+pub overflow_cast-result : goal.overflow_cast-result
+overflow_cast-result c = omega (
+  arith,
+  word_most_lem _ _ _ _ _ _ (λ x. new_data_single _ _ x _) _
+      c.take.ensures,
+)
+
+pub returns : goal.returns
+returns c = c.take.ensures
+    ∙ words_on _ _ _ _ _ _ (λ x. new_data_single _ _ x _)
