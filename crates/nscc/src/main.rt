@@ -1,5 +1,6 @@
 // Replays an event log: `nscc LOG`, or `nscc` with the log on standard input; `nscc --help` says what else there is. Messages go to
-// standard error and begin with the program's name.
+// standard error and begin with the program's name. It ends with how that went as its exit status, and with `--status` writes that to
+// descriptor 3 too.
 #![tactic(auto)]
 
 mod options;
@@ -7,6 +8,7 @@ mod options;
 use crate::options::{Options, WORD_MOST};
 use replay_stream::Task;
 use std::env::Env;
+use std::fs::OpenOptions;
 use std::io::{Cursor, ErrorKind, Read, Write};
 use std::process::ExitCode;
 use std::rt::Files;
@@ -18,6 +20,9 @@ const DONE: u8 = 0;
 const FAILED: u8 = 1;
 
 const MISUSED: u8 = 2;
+
+// Where `--status` has it written: descriptor 3, whose permissions are those that it was opened with.
+const STATUS_NAME: &str = "/dev/fd/3";
 
 // Room for the longest reason.
 const REASON_MOST: usize = 320;
@@ -89,16 +94,32 @@ fn status_of(messages: &impl Print, written: io::Result<()>) -> u8 {
     }
 }
 
+// Writes one line more, whether those before are written or not, and answers whether all are: if not, why the last was not.
+fn write_line(rt: &impl Print, before: io::Result<()>, line: &[u8]) -> io::Result<()> {
+    rt.write_all(line)?;
+    before
+}
+
 fn write_help(rt: &impl Print) -> io::Result<()> {
-    rt.write_all(b"usage: nscc [-p] [-r] [--] [LOG]\n")?;
-    rt.write_all(
+    let mut done = rt.write_all(b"usage: nscc [-p] [-r] [--] [LOG]\n");
+    done = write_line(
+        rt,
+        done,
         b"Replays an event log, of standard input where LOG is - or is not there, and writes a line for each record.\n",
-    )?;
-    rt.write_all(b"  -p, --progress  tells on standard error how many records are done\n")?;
-    rt.write_all(b"  -r, --report    writes a report of the run in place of its lines\n")?;
-    rt.write_all(b"  -h, --help      writes this\n")?;
-    rt.write_all(b"      --version   writes the version\n")?;
-    rt.write_all(b"      --          what follows is no option\n")
+    );
+    done = write_line(
+        rt,
+        done,
+        b"  -p, --progress  tells on standard error how many records are done\n",
+    );
+    done = write_line(
+        rt,
+        done,
+        b"  -r, --report    writes a report of the run in place of its lines\n",
+    );
+    done = write_line(rt, done, b"  -h, --help      writes this\n");
+    done = write_line(rt, done, b"      --version   writes the version\n");
+    write_line(rt, done, b"      --          what follows is no option\n")
 }
 
 // Replays the log that a reader gives, and says why it did not come to its end where it did not.
@@ -211,7 +232,31 @@ fn perform<R: Print + Eprint + Input + Files + Env>(
     replay_named(rt, messages, o.log, task_of(o))
 }
 
+// Writes a status to descriptor 3, behind what is there, where that is open for writing.
+fn put_status(rt: &impl Files, digit: &[u8]) -> io::Result<()> {
+    let there = fs::symlink_metadata(rt, STATUS_NAME)?;
+    if there.permissions().readonly() {
+        return Ok(());
+    }
+    let mut file = OpenOptions::new().append(true).open(rt, STATUS_NAME)?;
+    file.write_all(digit)
+}
+
+// Writes how it ended there, as a digit. Where it can't be written nobody could be told.
+fn tell_status(rt: &impl Files, status: u8) {
+    let digit = match status {
+        DONE => b"0",
+        FAILED => b"1",
+        _ => b"2",
+    };
+    let _ = put_status(rt, digit);
+}
+
 fn main(rt: HostRuntime) -> ExitCode {
     let o = options::read(&rt);
-    ExitCode::from(perform(&rt, &rt.stderr(), o))
+    let status = perform(&rt, &rt.stderr(), o);
+    if o.status {
+        tell_status(&rt, status);
+    }
+    ExitCode::from(status)
 }

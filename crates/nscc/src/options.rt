@@ -9,6 +9,7 @@ pub(crate) const WORD_MOST: usize = 4096;
 enum Word {
     Progress,
     Report,
+    Status,
     Help,
     Version,
     // What comes behind it is no option.
@@ -22,9 +23,10 @@ enum Word {
 // What the words say. A word is told by its index, 0 where there is none.
 #[derive(Clone, Copy)]
 pub(crate) struct Options {
-    // Progress is told, and a report made in place of lines.
+    // Progress is told, a report made in place of lines, and how it ended written to descriptor 3.
     pub progress: bool,
     pub report: bool,
+    pub status: bool,
     pub help: bool,
     pub version: bool,
     // The options have ended.
@@ -43,6 +45,7 @@ fn option_of(word: &[u8]) -> Word {
         b"-r" | b"--report" => Word::Report,
         b"-h" | b"--help" => Word::Help,
         b"--version" => Word::Version,
+        b"--status" => Word::Status,
         b"--" => Word::End,
         _ => Word::Unknown,
     }
@@ -67,6 +70,7 @@ impl Options {
         Options {
             progress: false,
             report: false,
+            status: false,
             help: false,
             version: false,
             ended: false,
@@ -81,6 +85,7 @@ impl Options {
         match word {
             Word::Progress => self.progress = true,
             Word::Report => self.report = true,
+            Word::Status => self.status = true,
             Word::Help => self.help = true,
             Word::Version => self.version = true,
             Word::End => self.ended = true,
