@@ -6,10 +6,9 @@ ghost use Rattle.std.specs.Prelude.{◌≤◌, length, IfOk};
 use log_records::back::write_back;
 use replay_stream::{Input, Task};
 use std::env::Env;
-use std::fs;
-use std::io;
 use std::io::{ErrorKind, Read};
 use std::rt::Files;
+use std::{fs, io};
 
 // No log's name is longer.
 const NAME_MOST: usize = 4096;
