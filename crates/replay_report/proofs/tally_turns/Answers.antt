@@ -12,7 +12,14 @@ lent : (c : After-turn-t) → let a = c.args in
     Lent a.flows.now a.outstanding.now a.marked.now a.sizes.now a.sent.now a.evs.now c.turn-t.new.flows c.turn-t.new.outstanding
     c.turn-t.new.marked c.turn-t.new.sizes c.turn-t.new.sent c.turn-t.new.evs
 lent c =
-    lent_more c.loop-source.invariant.1 (c.turn-t.auto.flows, c.turn-t.auto.outstanding, c.turn-t.auto.marked, c.turn-t.auto.sizes, c.turn-t.auto.sent, c.turn-t.auto.evs)
+    lent_more c.loop-source.invariant.1 (
+      c.turn-t.auto.flows,
+      c.turn-t.auto.outstanding,
+      c.turn-t.auto.marked,
+      c.turn-t.auto.sizes,
+      c.turn-t.auto.sent,
+      c.turn-t.auto.evs,
+    )
 
 pub loop-source-init : goal.loop-source-init
 loop-source-init c =
@@ -45,7 +52,8 @@ shape_of-figures-then-t c = c.loop-source.invariant.0.long ∙ sym c.requires.fi
 pub returns-then-t : goal.returns-then-t
 unfolding number_of
 returns-then-t c =
-    let taken = turn_is c.turn-t.result c.turn-t.new.flows (memory c.turn-t.new.outstanding c.turn-t.new.marked c.turn-t.new.sizes c.turn-t.new.sent) c.turn-t.new.evs in
+    let taken = turn_is c.turn-t.result c.turn-t.new.flows (memory c.turn-t.new.outstanding c.turn-t.new.marked c.turn-t.new.sizes
+    c.turn-t.new.sent) c.turn-t.new.evs in
     going_ended c.loop-source.invariant.0 (taken) c.turn-t.ensures c.if-t.true
 
 pub count-requires : goal.count-requires
@@ -53,12 +61,14 @@ count-requires c = c.loop-source.invariant.0.long
 
 pub loop-source-smaller : goal.loop-source-smaller
 loop-source-smaller c =
-    let taken = turn_is c.turn-t.result c.turn-t.new.flows (memory c.turn-t.new.outstanding c.turn-t.new.marked c.turn-t.new.sizes c.turn-t.new.sent) c.turn-t.new.evs in
+    let taken = turn_is c.turn-t.result c.turn-t.new.flows (memory c.turn-t.new.outstanding c.turn-t.new.marked c.turn-t.new.sizes
+    c.turn-t.new.sent) c.turn-t.new.evs in
     going_less c.loop-source.invariant.0 (taken) c.turn-t.ensures c.if-t.false
 
 pub loop-source-preserved : goal.loop-source-preserved
 loop-source-preserved c =
-    let taken = turn_is c.turn-t.result c.turn-t.new.flows (memory c.turn-t.new.outstanding c.turn-t.new.marked c.turn-t.new.sizes c.turn-t.new.sent) c.turn-t.new.evs in (
+    let taken = turn_is c.turn-t.result c.turn-t.new.flows (memory c.turn-t.new.outstanding c.turn-t.new.marked c.turn-t.new.sizes
+    c.turn-t.new.sent) c.turn-t.new.evs in (
       going_more c.loop-source.invariant.0 (taken) c.turn-t.ensures c.if-t.false c.stands_at.result
           c.stands_at.ensures _
           c.count.ensures c.count.auto.figures,

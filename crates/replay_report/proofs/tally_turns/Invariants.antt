@@ -9,9 +9,11 @@ use Rattle.replay_report.proofs.tally_turns.Given as goal
 
 abbrev pub invariant-loop-source : goal.invariant-loop-source
 invariant-loop-source l =
-    Going (feed l.source l.log) l.initial.place (context l.initial.state l.initial.flows (memory l.initial.outstanding l.initial.marked l.initial.sizes l.initial.sent) l.initial.evs) l.initial.figures l.place
+    Going (feed l.source l.log) l.initial.place (context l.initial.state l.initial.flows
+    (memory l.initial.outstanding l.initial.marked l.initial.sizes l.initial.sent) l.initial.evs) l.initial.figures l.place
     (context l.state l.flows (memory l.outstanding l.marked l.sizes l.sent) l.evs) l.figures
-    × Lent l.initial.flows l.initial.outstanding l.initial.marked l.initial.sizes l.initial.sent l.initial.evs l.flows l.outstanding l.marked l.sizes l.sent l.evs
+    × Lent l.initial.flows l.initial.outstanding l.initial.marked l.initial.sizes l.initial.sent l.initial.evs l.flows l.outstanding
+    l.marked l.sizes l.sent l.evs
 
 abbrev pub decreases-loop-source : goal.decreases-loop-source
 decreases-loop-source l =
