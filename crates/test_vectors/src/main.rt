@@ -5,7 +5,7 @@ ghost use Rattle.std.specs.Prelude.{◌≤◌, length, IfOk};
 
 use log_records::back::write_back;
 use replay_stream::{Input, Task};
-use std::env::Env;
+use std::env::{Env, FillError};
 use std::io::{ErrorKind, Read};
 use std::rt::Files;
 use std::{fs, io};
@@ -41,12 +41,32 @@ fn read_full<L: Read>(log: &mut L, buf: &mut [u8]) -> io::Result<usize>
     Ok(done)
 }
 
+// Opens the log of this name. A name is text.
+fn open<R: Files>(rt: &R, name: &[u8]) -> io::Result<R::File> {
+    match std::str::from_utf8(name) {
+        Ok(path) => fs::open(rt, path),
+        Err(_) => Err(io::Error::from(ErrorKind::InvalidInput)),
+    }
+}
+
+// Reads the log of this name into buf, and answers how many bytes that are; none where there is no such log.
+fn read_log<R: Files>(rt: &R, name: &[u8], buf: &mut [u8]) -> io::Result<usize>
+    ensures { IfOk result (λ n. n ≤ length buf.new) }
+{
+    match open(rt, name) {
+        Ok(file) => {
+            let mut log = file;
+            read_full(&mut log, buf)
+        }
+        Err(_) => Ok(0),
+    }
+}
+
 // Reads a log's file again, and writes it back from the records that it is read as.
-fn back_one<R: Print + Files>(rt: &R, path: &str) -> io::Result<()> {
+fn back_one<R: Print + Files>(rt: &R, name: &[u8]) -> io::Result<()> {
     let mut log = [0u8; LOG_MOST];
     let mut room = [0u8; LOG_MOST];
-    let mut file = fs::open(rt, path)?;
-    let length = read_full(&mut file, &mut log)?;
+    let length = read_log(rt, name, &mut log)?;
     if length == log.len() {
         return rt.write_all(b"not written back: longer than its room\n");
     }
@@ -57,24 +77,38 @@ fn back_one<R: Print + Files>(rt: &R, path: &str) -> io::Result<()> {
     println!(rt; "back {count} of {length}")
 }
 
-// One log: its name, what its replay writes, and how much of it is written back.
-fn replay_one<R: Print + Eprint + Files>(rt: &R, path: &str) -> io::Result<()> {
-    println!(rt; "log {path}")?;
-    let mut log = fs::open(rt, path)?;
-    let replayed = replay_stream::replay_from(rt, &mut log, Task::Lines { progress: false });
-    complain(rt, replayed.input)?;
-    back_one(rt, path)
+// Replays a log, writes its lines, and says where it did not come to its end.
+fn replay_lines<L: Read, R: Print + Eprint>(rt: &R, log: &mut L) -> io::Result<()> {
+    let replayed = replay_stream::replay_from(rt, log, Task::Lines { progress: false });
+    complain(rt, replayed.input)
 }
 
-// The log that the argument at an index names, where there is one. Answers whether there is.
+// One log: its name, what its replay writes, and how much of it is written back. One that can't be opened has the header only, and is not
+// read.
+fn replay_one<R: Print + Eprint + Files>(rt: &R, name: &[u8]) -> io::Result<()> {
+    rt.write_all(b"log ")?;
+    rt.write_all(name)?;
+    rt.write_all(b"\n")?;
+    match open(rt, name) {
+        Ok(file) => {
+            let mut log = file;
+            replay_lines(rt, &mut log)?;
+        }
+        Err(why) => {
+            replay_lines(rt, &mut io::empty())?;
+            complain(rt, Input::Failed(why))?;
+        }
+    }
+    back_one(rt, name)
+}
+
+// The log that the argument at an index names, where there is one. Answers whether there is. No log has a name that is longer than its room.
 fn replay_at<R: Print + Eprint + Files + Env>(rt: &R, index: usize) -> io::Result<bool> {
     let mut name = [0u8; NAME_MOST];
-    let Ok(length) = rt.arg(index, &mut name) else {
-        return Ok(false);
-    };
-    match std::str::from_utf8(&name[..length]) {
-        Ok(path) => replay_one(rt, path)?,
-        Err(_) => return Err(io::Error::from(ErrorKind::InvalidInput)),
+    match rt.arg(index, &mut name) {
+        Ok(length) => replay_one(rt, &name[..length])?,
+        Err(FillError::TooLong) => replay_one(rt, b"")?,
+        Err(FillError::NotPresent) => return Ok(false),
     }
     Ok(true)
 }
