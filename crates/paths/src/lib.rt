@@ -46,10 +46,8 @@ fn count_avoided(evs: &[u64], time: u64) -> usize
     ensures { (result ≡ avoided time evs.now) × (result ≤ length evs.now) }
 {
     let mut count: usize = 0;
-    let mut i = 0;
-    while i < evs.len() {
-        count += one_avoided(evs[i], time);
-        i += 1;
+    for &until in evs {
+        count += one_avoided(until, time);
     }
     count
 }
@@ -58,14 +56,12 @@ fn count_avoided(evs: &[u64], time: u64) -> usize
 fn first_free(evs: &[u64], time: u64) -> usize
     ensures { (result ≡ first_free time evs.now) × (result ≤ length evs.now) }
 {
-    let mut i = 0;
-    while i < evs.len() {
-        if evs[i] <= time {
+    for (i, &until) in evs.iter().enumerate() {
+        if until <= time {
             return i;
         }
-        i += 1;
     }
-    i
+    evs.len()
 }
 
 // x modulo n, of an x below twice n: no division.

@@ -4,18 +4,15 @@ use Rattle.std.proofs.Common.{arith}
 use Rattle.paths.proofs.Walk.{free_next, free_here, free_rest}
 use Rattle.paths.proofs.first_free.Goals as goal
 
-pub loop-i-init : goal.loop-i-init
-loop-i-init c = (omega arith, omega arith)
-
-pub returns-then-evs-i : goal.returns-then-evs-i
-returns-then-evs-i c = let a = c.args in
+pub returns-then-until-time : goal.returns-then-until-time
+returns-then-until-time c = let a = c.args in
     let here = free_here a.time a.evs.now c.loop-i.i (omega arith) (omega arith) in
     (omega arith, omega arith)
 
 pub loop-i-preserved : goal.loop-i-preserved
 loop-i-preserved c = let a = c.args in
     let next = free_next a.time a.evs.now c.loop-i.i (omega arith) (omega arith) in
-    (omega arith, omega arith)
+    omega arith
 
 pub returns : goal.returns
 returns c = let a = c.args in
