@@ -4,12 +4,14 @@
 use mathlib.Core.Path.{◌≡◌, refl, sym, ap, ap₂, ◌∙◌}
 use mathlib.Core.Bool.{Bool, true, false, not, ◌&&◌, and-true, and_assoc}
 use mathlib.Core.List.{List, [], ◌∷◌, ◌++◌}
-use Prim.Native.Nat.{ℕ, zero, suc, ◌+◌, ◌-◌, ◌^◌, ◌≤◌, ◌<◌}
-use native.Mathlib.Nat.{not-suc-le-zero, le_of_suc-le-suc}
+use Prim.Native.Nat.{ℕ, zero, suc, ◌+◌, ◌*◌, ◌^◌, ◌≤◌, ◌<◌}
+use native.Mathlib.Nat.{zero-mul, not-suc-le-zero, le_of_suc-le-suc}
 use native.Mathlib.Omega.{arith}
+use native.Mathlib.Numerals.{add-one}
+use Rattle.std.specs.Simd.{first_chunks}
 use lib.Dec.{ltb, eqb}
-use lib.ListN.{length, get_or, set, take, drop, length-set, length-drop, take-append-drop}
-use lib.Seq.{take_all, take-suc, get_or-drop, drop-drop}
+use lib.ListN.{length, get_or, set, take, drop, length-set, take-append-drop}
+use lib.Seq.{take-suc, drop-drop}
 use borrow.Author.Tests.{ltb-true, eqb-true, lt-ltb, eq-eqb, not-true, not-false}
 use Rattle.rules.specs.Branch.{so_both, eq_both}
 use Rattle.rules.specs.Test.{both, whole}
@@ -56,34 +58,35 @@ unfolding times_ok
 times_append [] us = refl
 times_append (t ∷ ts) us = rw (times_append ts us) (sym (and_assoc (ltb t later_end) (times_ok ts) (times_ok us)))
 
--- the times from .. k - 1, and one more
-pub times_more : (ts : List ℕ) (from k : ℕ) (ok : Bool) → from ≤ k → k < length ts → ok ≡ times_ok (take (k - from) (drop from ts))
-    → (ok && ltb (get_or ts k 0) later_end) ≡ times_ok (take (k + 1 - from) (drop from ts))
+-- the first k times, and one more
+pub times_more : (ts : List ℕ) (k : ℕ) (ok : Bool) → k < length ts → ok ≡ times_ok (take k ts)
+    → (ok && ltb (get_or ts k 0) later_end) ≡ times_ok (take (k + 1) ts)
 unfolding times_ok
-times_more ts from k ok h l e =
-    let rest = drop from ts in
-    let next : k + 1 - from ≡ suc (k - from) = omega arith in
-    let here : from + (k - from) ≡ k = omega arith in
-    rw (next, take-suc rest (k - from) 0 (omega (arith, length-drop from ts)), get_or-drop from ts (k - from) 0, here)
+times_more ts k ok l e =
+    rw (add-one, take-suc ts k 0 l)
     (ap₂ (λ (x y : Bool). x && y) e (sym (and-true (ltb (get_or ts k 0) later_end)))
-    ∙ sym (times_append (take (k - from) rest) (get_or ts k 0 ∷ [])))
+    ∙ sym (times_append (take k ts) (get_or ts k 0 ∷ [])))
 
--- so far so good, and the times from i on: those before `to` are looked at, and found good or not
-pub times_block : (ts : List ℕ) (i to : ℕ) (ok b : Bool) → i ≤ to → times_ok ts ≡ times_ok (drop i ts)
-    → ok ≡ times_ok (take (to - i) (drop i ts)) → ok ≡ b → times_ok ts ≡ (b && times_ok (drop to ts))
-times_block ts i to ok b h so e is =
-    let rest = drop i ts in
-    let here : i + (to - i) ≡ to = omega arith in
+-- block i of n times each
+block_at : (n k i : ℕ) (ts : List ℕ) → i < k → get_or (first_chunks n k ts) i [] ≡ take n (drop (i * n) ts)
+block_at n zero i ts h = absurd (not-suc-le-zero h)
+block_at n (suc k) zero ts h = rw zero-mul
+block_at n (suc k) (suc i) ts h =
+    let next : n + i * n ≡ suc i * n = omega arith in
+    rw (← next, ← drop-drop (i * n) n ts) (block_at n k i (drop n ts) (omega arith))
+
+-- so far so good, and the times from block i on: those of the block are looked at, and found good or not
+pub times_block : (ts : List ℕ) (blocks : List (List ℕ)) (n k i : ℕ) (ok : Bool) → blocks ≡ first_chunks n k ts → i < k
+    → times_ok ts ≡ times_ok (drop (i * n) ts) → times_ok (get_or blocks i []) ≡ ok
+    → times_ok ts ≡ (ok && times_ok (drop ((i + 1) * n) ts))
+times_block ts blocks n k i ok e h so is =
+    let from = drop (i * n) ts in
+    let next : i * n + n ≡ (i + 1) * n = omega arith in
+    let block : times_ok (take n from) ≡ ok = rw (← block_at n k i ts h, ← e) is in
     so
-    ∙ ap times_ok (sym (take-append-drop (to - i) rest))
-    ∙ times_append (take (to - i) rest) (drop (to - i) rest)
-    ∙ ap₂ (λ (x y : Bool). x && y) (sym e ∙ is) (ap times_ok (drop-drop (to - i) i ts ∙ ap (λ (n : ℕ). drop n ts) here))
-
--- the rest is looked at
-pub times_end : (ts : List ℕ) (i : ℕ) (ok : Bool) → times_ok ts ≡ times_ok (drop i ts) → ok ≡ times_ok (take (length ts - i) (drop i ts))
-    → ok ≡ times_ok ts
-times_end ts i ok so e =
-    e ∙ ap times_ok (take_all (length ts - i) (drop i ts) (omega (arith, length-drop i ts))) ∙ sym so
+    ∙ ap times_ok (sym (take-append-drop n from))
+    ∙ times_append (take n from) (drop n from)
+    ∙ ap₂ (λ (x y : Bool). x && y) block (ap times_ok (rw (← next) (drop-drop n (i * n) ts)))
 
 -- each of them is in its bound, which is what `paths` asks of them
 times_each : (ts : List ℕ) → times_ok ts ≡ true → (k : ℕ) → k < length ts → get_or ts k 0 < later_end

@@ -1,16 +1,12 @@
--- Setting up: a lent slice overwritten with zeros, a cleared memory shows the layout of no packets, and an accepted
--- setting up leaves a sound world.
+-- Setting up: a cleared memory shows the layout of no packets, and an accepted setting up leaves a sound world.
 -- Assumes nothing.
 use mathlib.Core.Path.{◌≡◌, refl, sym, ap, ◌∙◌}
 use mathlib.Core.Bool.{Bool, true, false, not, ◌&&◌}
 use mathlib.Core.List.{List, []}
-use mathlib.Core.Logic.{by_cases}
-use Prim.Native.Nat.{ℕ, zero, suc, ◌+◌, ◌/◌, ◌%◌, ◌≤◌, ◌<◌}
-use native.Mathlib.Decide.{dec_lt}
+use Prim.Native.Nat.{ℕ, zero, suc, ◌/◌, ◌%◌, ◌<◌}
 use native.Mathlib.Omega.{arith}
 use lib.Dec.{eqb}
-use lib.ListN.{length, get_or, set, replicate, length-set, length-replicate}
-use lib.Seq.{ext_get_or, get_or-set_same, get_or-set_other}
+use lib.ListN.{length, get_or, replicate, length-replicate}
 use borrow.Author.Tests.{eqb-true, le-ltb, not-false}
 use Rattle.rules.specs.Branch.{if_so, eq_yes, eq_no, so_yes, eq_both}
 use Rattle.rules.specs.Rows.{first_of, first_none, first_here, first_later, none_here}
@@ -44,32 +40,6 @@ zero_at_lem : (n i : ℕ) → ◌≡◌ {A = ℕ} (get_or (replicate n 0) i 0) 0
 zero_at_lem zero i = refl
 zero_at_lem (suc n) zero = refl
 zero_at_lem (suc n) (suc i) = zero_at_lem n i
-
--- of the slice xs, now ys, the first k elements are overwritten
-pub record Cleared (xs ys : List ℕ) (k : ℕ) : Type 0 where
-  pub within : k ≤ length xs
-  pub long : length ys ≡ length xs
-  pub zero_so : (i : ℕ) → i < k → get_or ys i 0 ≡ 0
-
-module _ (xs : List ℕ) where
-  pub cleared_none : Cleared xs xs 0
-  cleared_none = record { within = omega arith; long = refl; zero_so = λ i h. absurd (let z : ⊥ = omega arith in z) }
-
-  pub cleared_more : (ys : List ℕ) (k : ℕ) → Cleared xs ys k → k < length ys → Cleared xs (set ys k 0) (k + 1)
-  cleared_more ys k C h =
-      record {
-        within = omega (arith, C.long);
-        long = length-set ys k 0 ∙ C.long;
-        zero_so =
-            λ i l. by_cases (dec_lt i k)
-            (λ p. get_or-set_other ys k i 0 0 (λ e. omega arith) ∙ C.zero_so i p)
-            (λ p. let e : i ≡ k = omega arith in rw e (get_or-set_same ys k 0 0 h));
-      }
-
-  pub cleared_all : (ys : List ℕ) (k : ℕ) → Cleared xs ys k → length ys ≤ k → ys ≡ zeros xs
-  cleared_all ys k C h =
-      ext_get_or 0 ys (zeros xs) (C.long ∙ sym (length-replicate (length xs) 0))
-      (λ i l. C.zero_so i (omega arith) ∙ sym (zero_at_lem (length xs) i))
 
 -- ---- a cleared memory
 

@@ -7,27 +7,6 @@ use crate::Controller;
 use ledger::{Flow, Totals};
 use window::Settings;
 
-// Zeros over a lent slice, at each width.
-fn clear_32(xs: &mut [u32])
-    ensures { xs.new ≡ zeros xs.old }
-{
-    let mut k = 0;
-    while k < xs.len() {
-        xs[k] = 0;
-        k += 1;
-    }
-}
-
-fn clear_64(xs: &mut [u64])
-    ensures { xs.new ≡ zeros xs.old }
-{
-    let mut k = 0;
-    while k < xs.len() {
-        xs[k] = 0;
-        k += 1;
-    }
-}
-
 // Settings of zeros.
 pub fn no_settings() -> Settings
     ensures { result ≡ no_settings }
@@ -89,9 +68,9 @@ pub fn clear<'a, 'b, 'c, 'd, 'e>(
     ensures { (memory_after outstanding.new marked.new sizes.new sent.new ≡ clear_memory (memory_before outstanding.old marked.old sizes.old sent.old))
         × (evs.new ≡ zeros evs.old) }
 {
-    clear_64(outstanding);
-    clear_64(marked);
-    clear_32(sizes);
-    clear_64(sent);
-    clear_64(evs);
+    outstanding.fill(0);
+    marked.fill(0);
+    sizes.fill(0);
+    sent.fill(0);
+    evs.fill(0);
 }
