@@ -1,18 +1,17 @@
--- What one turn adds: of `load` and `from_words`, which fill a table by value record by record, of `save`, which stores it so, and of
--- `to_words`, which spells it out.
+-- What one turn adds: of `from_words`, which fills a table by value record by record, and of `to_words`, which spells it out.
 -- Assumes nothing.
 use mathlib.Core.Path.{◌≡◌, refl, sym, ap, ◌∙◌}
 use mathlib.Core.List.{List, [], ◌∷◌, ◌++◌, append_assoc, append-nil}
 use Prim.Native.Nat.{ℕ, suc, ◌+◌, ◌-◌, ◌*◌, ◌<◌, ◌≤◌}
 use native.Mathlib.Omega.{arith}
 use native.Mathlib.Numerals.{add-one}
-use lib.ListN.{length, take, drop, get_or, set, replicate, length-append, length-drop, length-replicate}
-use lib.Seq.{length-take-le, take_all, take-suc, drop-cons, set_at}
+use lib.ListN.{length, take, get_or, set, replicate, length-append, length-replicate}
+use lib.Seq.{length-take-le, take_all, take-suc, set_at}
 use Rattle.serial.specs.Psn.{psns}
 use Rattle.ledger.specs.declared.Flow.{Flow}
 use Rattle.flow_table.specs.Words.{flow_words, flows_most, backlog_place, word_place, flow_at, with_flow, words_of}
 use Rattle.flow_table.specs.Words.{first_flows, no_flow, AllFit}
-use Rattle.flow_table.specs.Lent.{filled, over_first, with_record}
+use Rattle.flow_table.specs.Lent.{filled, with_record}
 use Rattle.flow_table.specs.declared.lent.Flows.{Flows}
 use Rattle.flow_table.proofs.Places.{fits_with}
 use Rattle.flow_table.proofs.Records.{words_length, words_set, first_length, first_at}
@@ -28,18 +27,6 @@ filled_next i ys l r =
     rw (one_more i r) (set_at (take i ys) no_flow rest (get_or ys i no_flow) i (length-take-le i ys (omega arith))) in
     let more : take (i + 1) ys ≡ take i ys ++ (get_or ys i no_flow ∷ []) = rw add-one (take-suc ys i no_flow l) in
     left ∙ rw more (simp append_assoc)
-
-pub over_next : (i : ℕ) (fs ys : List Flow) → i < length fs → i < length ys
-    → set (over_first i fs ys) i (get_or fs i no_flow) ≡ over_first (i + 1) fs ys
-over_next i fs ys l r =
-    let left : set (over_first i fs ys) i (get_or fs i no_flow) ≡ take i fs ++ get_or fs i no_flow ∷ drop (suc i) ys =
-    rw (drop-cons ys i no_flow r)
-    (set_at (take i fs) (get_or ys i no_flow) (drop (suc i) ys) (get_or fs i no_flow) i (length-take-le i fs (omega arith))) in
-    let more : take (i + 1) fs ≡ take i fs ++ (get_or fs i no_flow ∷ []) = rw add-one (take-suc fs i no_flow l) in
-    left ∙ rw (more, add-one) (simp append_assoc)
-
-pub length_over : (i : ℕ) (fs ys : List Flow) → i ≤ length fs → i ≤ length ys → length (over_first i fs ys) ≡ length ys
-length_over i fs ys l r = simp (length-append, length-drop, length-take-le i fs l) (omega arith)
 
 -- ---- a table by value that is full, and its words
 

@@ -61,13 +61,9 @@ pub fn load(table: &mut [Flow]) -> Flows
 {
     let n = table.len();
     let m = taken(n);
-    let mut fs = no_flows(n);
-    let mut i = 0;
-    while i < m {
-        fs = with_record(fs, i, table[i]);
-        i += 1;
-    }
-    fs
+    let mut at = no_flows(n).at;
+    at[..m].copy_from_slice(&table[..m]);
+    Flows { n, at }
 }
 
 // The table by value is stored in the lent one.
@@ -75,11 +71,7 @@ pub fn save(table: &mut [Flow], fs: Flows)
     ensures { table.new ≡ saved fs table.old }
 {
     let m = taken(table.len());
-    let mut i = 0;
-    while i < m {
-        table[i] = nth(fs, i);
-        i += 1;
-    }
+    table[..m].copy_from_slice(&fs.at[..m]);
 }
 
 // The words of all eight records. Low and next of each are PSNs, as in the record.
@@ -87,11 +79,8 @@ pub fn to_words(fs: Flows) -> [u64; WORDS_MOST]
     ensures { (result ≡ value_words fs) × AllFit flows_most result }
 {
     let mut words = [0u64; WORDS_MOST];
-    let mut k = 0;
-    while k < FLOWS_MOST {
-        let f = nth(fs, k);
-        crate::put(&mut words, k, f);
-        k += 1;
+    for k in 0..FLOWS_MOST {
+        crate::put(&mut words, k, nth(fs, k));
     }
     words
 }
@@ -104,11 +93,9 @@ pub fn from_words(n: usize, words: &[u64]) -> Flows
     ensures { result ≡ value_from n words.now }
 {
     let mut fs = no_flows(n);
-    let mut k = 0;
-    while k < n {
+    for k in 0..n {
         let f = crate::flow_at(words, k);
         fs = with_record(fs, k, f);
-        k += 1;
     }
     fs
 }

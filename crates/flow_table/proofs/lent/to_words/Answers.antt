@@ -16,9 +16,9 @@ put-requires c =
 pub loop-k-preserved : goal.loop-k-preserved
 loop-k-preserved c =
     let fs = c.args.fs in
-    let f = c.nth-f.result in
+    let f = c.nth.result in
     spelt_next fs.at (eight fs _ c.well_formed.0) c.loop-k.k c.loop-k.words c.loop-k.invariant f (omega arith)
-    c.nth-f.ensures (low_fits f _ c.nth-f.type_inv) (next_fits f _ c.nth-f.type_inv) _ c.put.ensures
+    c.nth.ensures (low_fits f _ c.nth.type_inv) (next_fits f _ c.nth.type_inv) _ c.put.ensures
 
 pub returns : goal.returns
 returns c =
