@@ -92,13 +92,11 @@ fn first_ready<'a>(
     ensures { choice_of result ≡ offered_by (context_before c flows.now outstanding.now marked.now sizes.now sent.now evs.now)
         (first_ready (is_ready (context_before c flows.now outstanding.now marked.now sizes.now sent.now evs.now)) (numbers from (end - from))) }
 {
-    let mut k = from;
-    while k < end {
+    for k in from..end {
         let offered = offer(c, flows, outstanding, marked, sizes, sent, evs, k);
         if let Choice::Named(turn) = offered {
             return Choice::Named(turn);
         }
-        k += 1;
     }
     Choice::Nobody
 }

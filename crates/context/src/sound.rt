@@ -86,12 +86,10 @@ fn all_stand<'a>(
     ensures { result ≡ all_to (stands_on mtu clock cap flows.now (memory_before outstanding.now marked.now sizes.now sent.now))
         (count_of flows.now) }
 {
-    let mut k = 0;
-    while k < n {
+    for k in 0..n {
         if !stands_at(cap, k, flows, outstanding, marked, sizes, sent, mtu, clock) {
             return false;
         }
-        k += 1;
     }
     true
 }
@@ -159,11 +157,9 @@ fn tally_all<'a>(
         marked_bytes: 0,
         backlog: 0,
     };
-    let mut k = 0;
-    while k < n {
+    for k in 0..n {
         let one = tally_at(cap, k, flows, outstanding, marked, sizes, sent);
         all = plus(all, one);
-        k += 1;
     }
     all
 }

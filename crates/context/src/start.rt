@@ -44,10 +44,8 @@ fn fresh_flows(flows: &mut [u64], psn: u32)
         held: 0,
         backlog: 0,
     };
-    let mut k = 0;
-    while k < n {
+    for k in 0..n {
         flow_table::put(flows, k, f);
-        k += 1;
     }
 }
 

@@ -8,7 +8,7 @@ use Rattle.context.proofs.Rounds.{named_none, named_here, named_later}
 use Rattle.context.proofs.choice.first_ready.Goals as goal
 
 pub loop-k-init : goal.loop-k-init
-loop-k-init c = (omega arith, refl)
+loop-k-init c = refl
 
 pub offer-offered-requires : goal.offer-offered-requires
 offer-offered-requires c = record {
@@ -23,24 +23,16 @@ returns-in-Named c =
     context a.c a.flows.now (memory a.outstanding.now a.marked.now a.sizes.now a.sent.now) a.evs.now in
     let x = handed in
     named_here x (is_ready x) _ _ c.loop-k-test.true (ap choice_of (sym c.in-Named.is) ∙ c.offer-offered.ensures)
-    ∙ sym (ap (offered_by x) c.loop-k.invariant.1)
-
-pub overflow_add-k : goal.overflow_add-k
-overflow_add-k c = omega arith
-
-pub loop-k-smaller : goal.loop-k-smaller
-loop-k-smaller c = omega arith
+    ∙ sym (ap (offered_by x) c.loop-k.invariant)
 
 pub loop-k-preserved : goal.loop-k-preserved
 unfolding choice_of
 loop-k-preserved c =
     let handed = let a = c.args in
     context a.c a.flows.now (memory a.outstanding.now a.marked.now a.sizes.now a.sent.now) a.evs.now in
-    let x = handed in (
-      omega arith,
-      c.loop-k.invariant.1
-          ∙ named_later x (is_ready x) _ _ c.loop-k-test.true (ap choice_of (sym c.in_default.is) ∙ c.offer-offered.ensures),
-    )
+    let x = handed in
+    c.loop-k.invariant
+    ∙ named_later x (is_ready x) _ _ c.loop-k-test.true (ap choice_of (sym c.in_default.is) ∙ c.offer-offered.ensures)
 
 pub returns : goal.returns
 unfolding choice_of offered_by
@@ -48,4 +40,4 @@ returns c =
     let handed = let a = c.args in
     context a.c a.flows.now (memory a.outstanding.now a.marked.now a.sizes.now a.sent.now) a.evs.now in
     let x = handed in
-    sym (ap (offered_by x) (c.loop-k.invariant.1 ∙ named_none x (is_ready x) _ _ c.loop-k-test.false))
+    sym (ap (offered_by x) (c.loop-k.invariant ∙ named_none x (is_ready x) _ _ c.loop-k-test.false))

@@ -14,7 +14,7 @@ pub loop-k-init : goal.loop-k-init
 loop-k-init c =
     let test = stands_on c.args.mtu c.args.clock c.args.cap c.args.flows.now
     (memory c.args.outstanding.now c.args.marked.now c.args.sizes.now c.args.sent.now) in
-    (omega arith, all_none (test))
+    all_none test
 
 pub stands_at-requires : goal.stands_at-requires
 stands_at-requires c = (omega (arith, c.requires.0), c.requires.1)
@@ -32,15 +32,11 @@ pub loop-k-preserved : goal.loop-k-preserved
 loop-k-preserved c =
     let test = stands_on c.args.mtu c.args.clock c.args.cap c.args.flows.now
     (memory c.args.outstanding.now c.args.marked.now c.args.sizes.now c.args.sent.now) in
-    let f = test in (
-      omega arith,
-      all_more f c.loop-k.k
-          ∙ whole c.loop-k.invariant.1 (sym c.stands_at.ensures ∙ c.if-not-stands_at.false),
-    )
+    all_more test c.loop-k.k ∙ whole c.loop-k.invariant (sym c.stands_at.ensures ∙ c.if-not-stands_at.false)
 
 pub returns : goal.returns
 returns c =
     let test = stands_on c.args.mtu c.args.clock c.args.cap c.args.flows.now
     (memory c.args.outstanding.now c.args.marked.now c.args.sizes.now c.args.sent.now) in
     let e : c.loop-k.k ≡ c.args.n = omega arith in
-    sym (ap (all_to (test)) (sym (e ∙ c.requires.0)) ∙ c.loop-k.invariant.1)
+    sym (ap (all_to test) (sym (e ∙ c.requires.0)) ∙ c.loop-k.invariant)

@@ -1,7 +1,6 @@
 -- `all_stand` walks the flows. The invariant: all before flow k stand.
 use mathlib.Core.Path.{◌≡◌}
 use mathlib.Core.Bool.{true}
-use Prim.Native.Nat.{◌-◌, ◌≤◌}
 use Rattle.ledger.specs.Memory.{memory}
 use Rattle.ledger.specs.Sound.{all_to}
 use Rattle.context.specs.Walk.{stands_on}
@@ -9,7 +8,4 @@ use Rattle.context.proofs.sound.all_stand.Given as goal
 
 abbrev pub invariant-loop-k : goal.invariant-loop-k
 invariant-loop-k l =
-    (l.k ≤ l.n) × (all_to (stands_on l.mtu l.clock l.cap l.flows (memory l.outstanding l.marked l.sizes l.sent)) l.k ≡ true)
-
-abbrev pub decreases-loop-k : goal.decreases-loop-k
-decreases-loop-k l = l.n - l.k
+    all_to (stands_on l.mtu l.clock l.cap l.flows (memory l.outstanding l.marked l.sizes l.sent)) l.k ≡ true

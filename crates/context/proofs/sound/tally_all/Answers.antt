@@ -10,7 +10,6 @@ use Rattle.context.proofs.sound.tally_all.Goals as goal
 pub loop-k-init : goal.loop-k-init
 loop-k-init c =
     let buffer = memory c.args.outstanding.now c.args.marked.now c.args.sizes.now c.args.sent.now in (
-      omega arith,
       tally_none c.args.cap c.args.flows.now (buffer),
       record { outstanding = omega arith; marked = omega arith; bytes = omega arith; backlog = omega arith },
     )
@@ -20,7 +19,7 @@ tally_at-one-requires c = (omega (arith, c.requires.0), c.requires.1)
 
 pub plus-all-requires : goal.plus-all-requires
 plus-all-requires c =
-    let F = c.loop-k.invariant.2 in
+    let F = c.loop-k.invariant.1 in
     let few : c.loop-k.k ≤ 8 = omega (arith, c.requires.0, c.requires.1.parted.few) in
     let q = c.tally_at-one.ensures in
     record {
@@ -31,11 +30,10 @@ plus-all-requires c =
 pub loop-k-preserved : goal.loop-k-preserved
 loop-k-preserved c =
     let buffer = memory c.args.outstanding.now c.args.marked.now c.args.sizes.now c.args.sent.now in
-    let F = c.loop-k.invariant.2 in
+    let F = c.loop-k.invariant.1 in
     let q = c.tally_at-one.ensures in
     let p = c.plus-all.ensures in (
-      omega arith,
-      tally_more c.args.cap c.args.flows.now (buffer) c.loop-k.k c.loop-k.all c.tally_at-one.result c.loop-k.invariant.1
+      tally_more c.args.cap c.args.flows.now (buffer) c.loop-k.k c.loop-k.all c.tally_at-one.result c.loop-k.invariant.0
           q.0 p,
       record {
         outstanding = omega (arith, p.0, F, q.1);
@@ -49,4 +47,4 @@ pub returns : goal.returns
 returns c =
     let buffer = memory c.args.outstanding.now c.args.marked.now c.args.sizes.now c.args.sent.now in
     let e : c.loop-k.k ≡ c.args.n = omega arith in
-    c.loop-k.invariant.1 ∙ ap (tally_to c.args.cap c.args.flows.now (buffer)) (e ∙ c.requires.0)
+    c.loop-k.invariant.0 ∙ ap (tally_to c.args.cap c.args.flows.now (buffer)) (e ∙ c.requires.0)
