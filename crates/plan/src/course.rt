@@ -62,12 +62,10 @@ fn all_waiting<'a>(
 {
     let n = flow_table::count(flows);
     let mut fs = no_flows(n);
-    let mut k = 0;
-    while k < n {
+    for k in 0..n {
         let f = flow_table::flow_at(flows, k);
         let w = waiting_from(c, flows, outstanding, marked, sizes, sent, evs, k, f.low);
         fs = with_record(fs, k, w);
-        k += 1;
     }
     fs
 }
@@ -111,12 +109,10 @@ fn first_ready(s: Course, cap: usize, from: usize, end: usize) -> usize
     requires { (from ≤ end) × (end ≤ flows_most) }
     ensures { result ≡ first_from (ready_by cap s) from (end - from) }
 {
-    let mut k = from;
-    while k < end {
+    for k in from..end {
         if is_ready(s, cap, k) {
             return k;
         }
-        k += 1;
     }
     end
 }

@@ -53,8 +53,7 @@ fn judge_each<'a>(
 {
     let n = count(plan);
     let mut s = ahead::start(c, flows, outstanding, marked, sizes, sent, evs);
-    let mut i = 0;
-    while i < n {
+    for i in 0..n {
         let p = send_at(plan, i);
         let verdict = ahead::judge_next(
             c,
@@ -73,7 +72,6 @@ fn judge_each<'a>(
             return Judgement { verdict, send: i };
         }
         s = ahead::after(s, p);
-        i += 1;
     }
     no_send(Verdict::Accepted)
 }

@@ -55,8 +55,7 @@ fn plan_each<'a, 'b>(
     let cap = sizes.len() / n;
     let most = room(plan);
     let mut s = course::start(c, flows, outstanding, marked, sizes, sent, evs);
-    let mut i = 0;
-    while i < most {
+    for i in 0..most {
         let k = course::named(c, cap, n, s);
         if n <= k {
             return i;
@@ -80,9 +79,8 @@ fn plan_each<'a, 'b>(
         }
         put_send(plan, i, p);
         s = course::after(c, flows, outstanding, marked, sizes, sent, evs, s, p);
-        i += 1;
     }
-    i
+    most
 }
 
 // The planner: 2, 3, which give no plan. Only the plan's sends are written.

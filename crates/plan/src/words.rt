@@ -48,14 +48,12 @@ pub fn sent_again(plan: &[u32], n: usize, flow: usize, psn: u32) -> bool
     requires { n ≤ send_count plan.now }
     ensures { result ≡ again_to plan.now n flow psn }
 {
-    let mut i = 0;
-    while i < n {
+    for i in 0..n {
         let p = send_at(plan, i);
         let a = p.send;
         if a.resend & (p.flow == flow) & (a.psn == psn) {
             return true;
         }
-        i += 1;
     }
     false
 }

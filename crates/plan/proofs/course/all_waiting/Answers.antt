@@ -31,7 +31,7 @@ pub loop-k-init : goal.loop-k-init
 loop-k-init c =
     let handed = let a = c.args in
     context a.c a.flows.now (memory a.outstanding.now a.marked.now a.sizes.now a.sent.now) a.evs.now in
-    (omega arith, waits_none handed c.no_flows-fs.ensures c.count-n.ensures)
+    waits_none handed c.no_flows-fs.ensures c.count-n.ensures
 
 pub flow_at-f-requires : goal.flow_at-f-requires
 flow_at-f-requires c =
@@ -56,20 +56,11 @@ with_record-fs-requires c =
     let g = goal.at.with_record-fs-requires c in
     omega (arith, inside g.In-loop-k, (facts g.Start).table.few)
 
-pub overflow_add-k : goal.overflow_add-k
-overflow_add-k c = omega arith
-
-pub loop-k-smaller : goal.loop-k-smaller
-loop-k-smaller c = omega arith
-
 pub loop-k-preserved : goal.loop-k-preserved
 loop-k-preserved c =
     let handed = let a = c.args in
-    context a.c a.flows.now (memory a.outstanding.now a.marked.now a.sizes.now a.sent.now) a.evs.now in (
-      omega arith,
-      waits_next handed c.loop-k.k c.loop-k.invariant.1 c.flow_at-f.ensures c.waiting_from-w.ensures
-          c.with_record-fs.ensures,
-    )
+    context a.c a.flows.now (memory a.outstanding.now a.marked.now a.sizes.now a.sent.now) a.evs.now in
+    waits_next handed c.loop-k.k c.loop-k.invariant c.flow_at-f.ensures c.waiting_from-w.ensures c.with_record-fs.ensures
 
 pub returns : goal.returns
 returns c =
@@ -77,4 +68,4 @@ returns c =
     context a.c a.flows.now (memory a.outstanding.now a.marked.now a.sizes.now a.sent.now) a.evs.now in
     let x = handed in
     let end : c.loop-k.k ≡ flow_count x = omega (arith, c.count-n.ensures) in
-    c.loop-k.invariant.1 ∙ ap (waits_to x) end
+    c.loop-k.invariant ∙ ap (waits_to x) end

@@ -6,7 +6,7 @@ use Rattle.plan.proofs.Coursing.{first_none, first_here, first_later}
 use Rattle.plan.proofs.course.first_ready.Goals as goal
 
 pub loop-k-init : goal.loop-k-init
-loop-k-init c = (omega arith, refl)
+loop-k-init c = refl
 
 pub is_ready-requires : goal.is_ready-requires
 is_ready-requires c = omega arith
@@ -15,24 +15,15 @@ pub returns-then-is_ready : goal.returns-then-is_ready
 returns-then-is_ready c =
     let a = c.args in
     first_here (ready_by a.cap a.s) c.loop-k.k a.end c.loop-k-test.true (sym c.is_ready.ensures ∙ c.if-is_ready.true)
-    ∙ sym c.loop-k.invariant.1
-
-pub overflow_add-k : goal.overflow_add-k
-overflow_add-k c = omega arith
-
-pub loop-k-smaller : goal.loop-k-smaller
-loop-k-smaller c = omega arith
+    ∙ sym c.loop-k.invariant
 
 pub loop-k-preserved : goal.loop-k-preserved
 loop-k-preserved c =
-    let a = c.args in (
-      omega arith,
-      c.loop-k.invariant.1
-          ∙ first_later (ready_by a.cap a.s) c.loop-k.k a.end c.loop-k-test.true
-          (sym c.is_ready.ensures ∙ c.if-is_ready.false),
-    )
+    let a = c.args in
+    c.loop-k.invariant
+    ∙ first_later (ready_by a.cap a.s) c.loop-k.k a.end c.loop-k-test.true (sym c.is_ready.ensures ∙ c.if-is_ready.false)
 
 pub returns : goal.returns
 returns c =
     let a = c.args in
-    sym (c.loop-k.invariant.1 ∙ first_none (ready_by a.cap a.s) c.loop-k.k a.end c.loop-k.invariant.0 c.loop-k-test.false)
+    sym (c.loop-k.invariant ∙ first_none (ready_by a.cap a.s) c.loop-k.k a.end (omega arith) c.loop-k-test.false)

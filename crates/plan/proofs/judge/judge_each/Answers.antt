@@ -71,12 +71,6 @@ after-s-requires c =
     let p = c.send_at-p.ensures in
     record { flow_lt_flows_most = rw p asks.0; size_bound = rw p asks.1 }
 
-pub overflow_add-i : goal.overflow_add-i
-overflow_add-i c = omega arith
-
-pub loop-i-smaller : goal.loop-i-smaller
-loop-i-smaller c = omega arith
-
 pub loop-i-preserved : goal.loop-i-preserved
 loop-i-preserved c =
     let g = goal.at.loop-i-preserved c in

@@ -1,5 +1,4 @@
 -- `judge_each` judges send by send (proofs/Made).
-use Prim.Native.Nat.{◌-◌}
 use Rattle.ledger.specs.Memory.{memory}
 use Rattle.context.specs.Context.{context}
 use Rattle.plan.proofs.Made.{Reached}
@@ -8,6 +7,3 @@ use Rattle.plan.proofs.judge.judge_each.Given as goal
 abbrev pub invariant-loop-i : goal.invariant-loop-i
 invariant-loop-i l =
     Reached l.time (context l.c l.flows (memory l.outstanding l.marked l.sizes l.sent) l.evs) l.plan l.n l.i l.s
-
-abbrev pub decreases-loop-i : goal.decreases-loop-i
-decreases-loop-i l = l.n - l.i

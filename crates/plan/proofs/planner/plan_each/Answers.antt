@@ -1,5 +1,5 @@
 -- `plan_each` plans turn by turn (proofs/Proposals).
-use mathlib.Core.Path.{◌≡◌, ap, ◌∙◌}
+use mathlib.Core.Path.{◌≡◌, sym, ap, ◌∙◌}
 use mathlib.Core.Bool.{false}
 use Prim.Native.Nat.{ℕ, ◌/◌, ◌^◌, ◌<◌, ◌≤◌}
 use native.Mathlib.Omega.{arith}
@@ -165,14 +165,6 @@ after-s-requires c =
     let told = asks g.Else-not-is_accepted in
     record { evs_value = c.requires.evs_value; flow_bound = told.0; size_bound = told.1 }
 
-pub overflow_add-i : goal.overflow_add-i
-overflow_add-i c =
-    let h = c.loop-i-test.true in
-    omega (arith, h)
-
-pub loop-i-smaller : goal.loop-i-smaller
-loop-i-smaller c = omega arith
-
 pub loop-i-preserved : goal.loop-i-preserved
 loop-i-preserved c =
     let g = goal.at.loop-i-preserved c in
@@ -191,4 +183,6 @@ shape_of-plan c = c.loop-i.invariant.long
 pub returns : goal.returns
 returns c =
     let g = goal.at.returns c in
-    rw (← c.room-most.ensures) (planning_full (facts g.Start) c.loop-i.invariant c.loop-i-test.false)
+    let full = planning_full (facts g.Start) c.loop-i.invariant c.loop-i-test.false in
+    let end : c.loop-i.i ≡ c.room-most.result = omega arith in
+    rw (← c.room-most.ensures) (sym end ∙ full.0, full.1)

@@ -6,7 +6,7 @@ use Rattle.plan.proofs.Judging.{again_none, again_not, again_some}
 use Rattle.plan.proofs.words.sent_again.Goals as goal
 
 pub loop-i-init : goal.loop-i-init
-loop-i-init c = (omega arith, again_none _ _ _)
+loop-i-init c = again_none _ _ _
 
 pub send_at-p-requires : goal.send_at-p-requires
 send_at-p-requires c = omega (arith, c.requires)
@@ -19,22 +19,13 @@ returns-then-a-p c =
     (again_some a.plan.now a.flow a.psn a.n c.loop-i.i c.send_at-p.result c.send_at-p.ensures
     c.loop-i-test.true c.if-a-p.true)
 
-pub overflow_add-i : goal.overflow_add-i
-overflow_add-i c = omega arith
-
-pub loop-i-smaller : goal.loop-i-smaller
-loop-i-smaller c = omega arith
-
 pub loop-i-preserved : goal.loop-i-preserved
 unfolding is_again
-loop-i-preserved c = (
-  omega arith,
-  again_not _ _ _ c.loop-i.i c.send_at-p.result c.send_at-p.ensures c.loop-i.invariant.1 c.if-a-p.false,
-)
+loop-i-preserved c = again_not _ _ _ c.loop-i.i c.send_at-p.result c.send_at-p.ensures c.loop-i.invariant c.if-a-p.false
 
 pub returns : goal.returns
 returns c =
     let a = c.args in
     let l = c.loop-i in
     let end : l.i ≡ a.n = omega arith in
-    sym (rw end at l.invariant.1)
+    sym (rw end at l.invariant)
