@@ -7,7 +7,7 @@ ghost use Rattle.c_api.specs.Batch.{place_count, place_words, place_from, lent_o
 
 use c_state::WORDS;
 use replay::{Batch, Place, Source};
-use rules::verdict::{Verdict, number_of};
+use rules::verdict::{Refusal, Verdict, number_of};
 
 // The place's words: the offset of the next record, the records done, whether replay has stopped, and how many answers the last call gave.
 pub const PLACE_WORDS: usize = 4;
@@ -94,7 +94,7 @@ pub extern "C" fn nscc_replay(
         flows.old (memory_before outstanding.old marked.old sizes.old sent.old) evs.old answers.old }
 {
     if !is_lent(place, state) {
-        return number_of(Verdict::Unsound);
+        return number_of(Err(Refusal::Unsound));
     }
     let from = place_of(place);
     let given = c_state::unpack(state);

@@ -24,7 +24,7 @@ use c_state::WORDS;
 use context::Controller;
 use replay::ABOVE;
 use replay::records::Event;
-use rules::verdict::{Verdict, number_of};
+use rules::verdict::{Refusal, number_of};
 use sender::{Ack, Loss, Nack, Send};
 
 // Stores the state's words where the event was accepted.
@@ -53,7 +53,7 @@ fn take<'a, 'b, 'c, 'd, 'e, 'f, 'g>(
 {
     let given = c_state::unpack(state);
     if !given.good {
-        return number_of(Verdict::Unsound) as u64;
+        return number_of(Err(Refusal::Unsound)) as u64;
     }
     let before = given.state;
     let said = replay::once(event, before, flows, outstanding, marked, sizes, sent, evs);
@@ -83,15 +83,15 @@ pub extern "C" fn nscc_set_up(
         flows.old (memory_before outstanding.old marked.old sizes.old sent.old) evs.old }
 {
     if settings.len() != c_state::SETTINGS {
-        return number_of(Verdict::Unsound);
+        return number_of(Err(Refusal::Unsound));
     }
     let off = rules::mode_of(quick_adapt_off);
     let given = c_state::settings_of(settings, first_psn, off, ev_count as u64);
     if !window::bounds::in_range(given) {
-        return number_of(Verdict::Setting);
+        return number_of(Err(Refusal::Setting));
     }
     if state.len() != WORDS {
-        return number_of(Verdict::Unsound);
+        return number_of(Err(Refusal::Unsound));
     }
     let answer = context::start::set_up(given, flows, outstanding, marked, sizes, sent, evs);
     let verdict = answer.verdict;

@@ -7,7 +7,7 @@ ghost use Rattle.context.specs.Look.{on_status, on_next_marked};
 ghost use Rattle.c_api.specs.Looks.{on_look_words};
 
 use replay::ABOVE;
-use rules::verdict::{Verdict, number_of};
+use rules::verdict::{Refusal, Verdict, number_of};
 use sender::look::Look;
 
 // The number, and above its 32 bits what was found.
@@ -38,7 +38,7 @@ pub extern "C" fn nscc_status<'a>(
 {
     let given = c_state::unpack(state);
     if !given.good {
-        return number_of(Verdict::Unsound) as u64;
+        return number_of(Err(Refusal::Unsound)) as u64;
     }
     let c = given.state;
     word_of(context::look::status(c, flows, outstanding, marked, sizes, sent, evs, flow, psn))
@@ -63,7 +63,7 @@ pub extern "C" fn nscc_next_marked<'a>(
 {
     let given = c_state::unpack(state);
     if !given.good {
-        return number_of(Verdict::Unsound) as u64;
+        return number_of(Err(Refusal::Unsound)) as u64;
     }
     let c = given.state;
     word_of(context::look::next_marked(c, flows, outstanding, marked, sizes, sent, evs, flow, psn))

@@ -9,7 +9,7 @@ ghost use Rattle.c_api.specs.Parts.{part_count, part_words, carry_from, part_ok,
 use c_state::WORDS;
 use replay::Place;
 use replay_chunks::{Carry, Took};
-use rules::verdict::{Verdict, number_of};
+use rules::verdict::{Refusal, Verdict, number_of};
 
 // What is carried between chunks: the offset of the next record, the records done, whether replay has stopped, the piece's length, how many
 // answers the last call gave, and how many bytes of its chunk it took.
@@ -109,7 +109,7 @@ pub extern "C" fn nscc_chunk(
         flows.old (memory_before outstanding.old marked.old sizes.old sent.old) evs.old answers.old }
 {
     if !is_lent(part, state) {
-        return number_of(Verdict::Unsound);
+        return number_of(Err(Refusal::Unsound));
     }
     let carry = carry_of(part);
     let given = c_state::unpack(state);

@@ -5,7 +5,7 @@ ghost use Rattle.c_api.specs.Plans.{on_judge_words, plan_called, on_plan_words};
 
 use plan::SEND_WORDS;
 use replay::ABOVE;
-use rules::verdict::{Verdict, number_of};
+use rules::verdict::{Refusal, number_of};
 
 // The judge: the number, and above its 32 bits the first send that fails. A plan that is not of whole sends is 2.
 #[unsafe(no_mangle)]
@@ -25,11 +25,11 @@ pub extern "C" fn nscc_judge<'a>(
         (memory_before outstanding.now marked.now sizes.now sent.now) evs.now }
 {
     if plan.len() % SEND_WORDS != 0 {
-        return number_of(Verdict::Unsound) as u64;
+        return number_of(Err(Refusal::Unsound)) as u64;
     }
     let given = c_state::unpack(state);
     if !given.good {
-        return number_of(Verdict::Unsound) as u64;
+        return number_of(Err(Refusal::Unsound)) as u64;
     }
     let c = given.state;
     let judged = plan::judge::judge(c, flows, outstanding, marked, sizes, sent, evs, time, plan);
@@ -58,7 +58,7 @@ pub extern "C" fn nscc_plan<'a, 'b>(
 {
     let given = c_state::unpack(state);
     if !given.good {
-        return number_of(Verdict::Unsound) as u64;
+        return number_of(Err(Refusal::Unsound)) as u64;
     }
     let c = given.state;
     let made = plan::planner::plan(

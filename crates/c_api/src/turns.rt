@@ -6,7 +6,7 @@ ghost use Rattle.c_api.specs.Turns.{turn_count, turn_words, turn_after, choosing
 
 use crate::keep;
 use context::choice::Choice;
-use rules::verdict::{Verdict, number_of};
+use rules::verdict::{Refusal, number_of};
 
 // The words of an answer: whether somebody is named, the flow, whether it sends a marked packet, and the PSN.
 pub const TURN_WORDS: usize = 4;
@@ -50,11 +50,11 @@ pub extern "C" fn nscc_choose<'a, 'b, 'c>(
         turn.old }
 {
     if turn.len() != TURN_WORDS {
-        return number_of(Verdict::Unsound);
+        return number_of(Err(Refusal::Unsound));
     }
     let given = c_state::unpack(state);
     if !given.good {
-        return number_of(Verdict::Unsound);
+        return number_of(Err(Refusal::Unsound));
     }
     let before = given.state;
     let chosen = context::choice::choose(before, flows, outstanding, marked, sizes, sent, evs);

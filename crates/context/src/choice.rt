@@ -13,7 +13,7 @@ use crate::Controller;
 use crate::join::share;
 use crate::look::marked_from;
 use crate::sound::is_sound;
-use rules::verdict::Verdict;
+use rules::verdict::{Refusal, Verdict};
 
 // What the flow that is named sends: its marked packet nearest to low, or else a new packet, whose PSN is next.
 #[derive(Clone, Copy)]
@@ -176,7 +176,7 @@ pub fn choose<'a>(
     if !is_sound(c, flows, outstanding, marked, sizes, sent, evs) {
         return Chosen {
             state: c,
-            verdict: Verdict::Unsound,
+            verdict: Err(Refusal::Unsound),
             choice: Choice::Nobody,
         };
     }
@@ -184,14 +184,14 @@ pub fn choose<'a>(
     let Choice::Named(turn) = choice else {
         return Chosen {
             state: c,
-            verdict: Verdict::Accepted,
+            verdict: Ok(()),
             choice: Choice::Nobody,
         };
     };
     let state = with_turn(c, after(turn.flow, flow_table::count(flows)));
     Chosen {
         state,
-        verdict: Verdict::Accepted,
+        verdict: Ok(()),
         choice: Choice::Named(turn),
     }
 }

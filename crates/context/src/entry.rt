@@ -8,7 +8,7 @@ ghost use Rattle.context.specs.Events.{on_new_data, on_send, on_ack, ack_says, o
 
 use crate::sound::is_sound;
 use crate::{Answer, Controller, Heard, Routed, rely};
-use rules::verdict::Verdict;
+use rules::verdict::{Refusal, Verdict};
 use sender::{Ack, Feedback, Loss, Nack, Send};
 
 // There is more to send on a flow. 2, 3, 25, 20; else the backlogs rise.
@@ -30,7 +30,7 @@ pub fn new_data<'a, 'b>(
     if !is_sound(c, flows, outstanding, marked, sizes, sent, evs) {
         return Answer {
             state: c,
-            verdict: Verdict::Unsound,
+            verdict: Err(Refusal::Unsound),
         };
     }
     rely::new_data(
@@ -66,7 +66,7 @@ pub fn send<'a, 'b, 'c, 'd, 'e, 'f>(
     if !is_sound(c, flows, outstanding, marked, sizes, sent, evs) {
         return Answer {
             state: c,
-            verdict: Verdict::Unsound,
+            verdict: Err(Refusal::Unsound),
         };
     }
     rely::send(
@@ -104,7 +104,7 @@ pub fn ack<'a, 'b, 'c, 'd, 'e, 'f>(
     if !is_sound(c, flows, outstanding, marked, sizes, sent, evs) {
         return Heard {
             state: c,
-            verdict: Verdict::Unsound,
+            verdict: Err(Refusal::Unsound),
             feedback: Feedback::Nothing,
         };
     }
@@ -143,7 +143,7 @@ pub fn nack<'a, 'b, 'c>(
     if !is_sound(c, flows, outstanding, marked, sizes, sent, evs) {
         return Heard {
             state: c,
-            verdict: Verdict::Unsound,
+            verdict: Err(Refusal::Unsound),
             feedback: Feedback::Nothing,
         };
     }
@@ -181,7 +181,7 @@ pub fn loss<'a, 'b, 'c>(
     if !is_sound(c, flows, outstanding, marked, sizes, sent, evs) {
         return Answer {
             state: c,
-            verdict: Verdict::Unsound,
+            verdict: Err(Refusal::Unsound),
         };
     }
     rely::loss(
@@ -217,7 +217,7 @@ pub fn path<'a>(
     if !is_sound(c, flows, outstanding, marked, sizes, sent, evs) {
         return Routed {
             state: c,
-            verdict: Verdict::Unsound,
+            verdict: Err(Refusal::Unsound),
             ev: 0,
         };
     }

@@ -11,7 +11,7 @@ ghost use Rattle.context.specs.Context.{joined_of, shared_of, Leaves};
 
 use crate::Controller;
 use ledger::Flow;
-use rules::verdict::{Verdict, is_accepted};
+use rules::verdict::{Refusal, Verdict};
 
 // What is shared, with a flow's record: what the step of one flow works on.
 pub(crate) fn joined(c: Controller, flow: Flow) -> sender::Controller
@@ -112,9 +112,9 @@ pub(crate) fn no_flow(time: u64, clock: u64) -> Verdict
     ensures { number_of result ≡ if_so (ltb time clock || leb time_end time) 3 25 }
 {
     if (time < clock) | (sender::TIME_END <= time) {
-        return Verdict::Time;
+        return Err(Refusal::Time);
     }
-    Verdict::Flow
+    Err(Refusal::Flow)
 }
 
 // The record of flow k becomes f where its event was accepted; a refused one leaves it as it was. Behind a store that both make, the
@@ -127,7 +127,7 @@ pub(crate) fn keep_backlog(flows: &mut [u64], k: usize, f: Flow, verdict: Verdic
     requires leaves { Leaves with_backlog (number_of verdict) (flow_at flows.old k) f }
     ensures { flows.new ≡ with_flow flows.old k f }
 {
-    if is_accepted(verdict) {
+    if verdict.is_ok() {
         flow_table::put_backlog(flows, k, f);
     }
 }
@@ -138,7 +138,7 @@ pub(crate) fn keep_sent(flows: &mut [u64], k: usize, f: Flow, verdict: Verdict)
     requires leaves { Leaves with_sent (number_of verdict) (flow_at flows.old k) f }
     ensures { flows.new ≡ with_flow flows.old k f }
 {
-    if is_accepted(verdict) {
+    if verdict.is_ok() {
         flow_table::put_sent(flows, k, f);
     }
 }
@@ -149,7 +149,7 @@ pub(crate) fn keep_acked(flows: &mut [u64], k: usize, f: Flow, verdict: Verdict)
     requires leaves { Leaves with_acked (number_of verdict) (flow_at flows.old k) f }
     ensures { flows.new ≡ with_flow flows.old k f }
 {
-    if is_accepted(verdict) {
+    if verdict.is_ok() {
         flow_table::put_acked(flows, k, f);
     }
 }

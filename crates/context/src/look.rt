@@ -12,7 +12,7 @@ use crate::Controller;
 use crate::join::cut_of;
 use crate::sound::is_sound;
 use ledger::{Books, Packet};
-use rules::verdict::Verdict;
+use rules::verdict::{Refusal, Verdict};
 use sender::look::Look;
 
 fn look(verdict: Verdict, found: u32) -> Look
@@ -70,13 +70,13 @@ pub fn status<'a>(
         ≡ on_status flow psn (context_before c flows.now outstanding.now marked.now sizes.now sent.now evs.now) }
 {
     if !is_sound(c, flows, outstanding, marked, sizes, sent, evs) {
-        return look(Verdict::Unsound, 0);
+        return look(Err(Refusal::Unsound), 0);
     }
     if flow_table::count(flows) <= flow {
-        return look(Verdict::Flow, 0);
+        return look(Err(Refusal::Flow), 0);
     }
     let x = packet_at(c, flows, outstanding, marked, sizes, sent, evs, flow, psn);
-    look(Verdict::Accepted, x.status as u32)
+    look(Ok(()), x.status as u32)
 }
 
 // Flow k's first marked PSN from psn on, past both tests.
@@ -129,11 +129,11 @@ pub fn next_marked<'a>(
         ≡ on_next_marked flow psn (context_before c flows.now outstanding.now marked.now sizes.now sent.now evs.now) }
 {
     if !is_sound(c, flows, outstanding, marked, sizes, sent, evs) {
-        return look(Verdict::Unsound, 0);
+        return look(Err(Refusal::Unsound), 0);
     }
     if flow_table::count(flows) <= flow {
-        return look(Verdict::Flow, 0);
+        return look(Err(Refusal::Flow), 0);
     }
     let found = marked_from(c, flows, outstanding, marked, sizes, sent, evs, flow, psn);
-    look(Verdict::Accepted, found)
+    look(Ok(()), found)
 }

@@ -11,7 +11,7 @@ use crate::Answer;
 use crate::join::{share, shared};
 use crate::sound::is_cut;
 use ledger::Flow;
-use rules::verdict::Verdict;
+use rules::verdict::{Refusal, Verdict};
 use window::Settings;
 
 // Whether the lengths are those of a context: one to eight whole flows, and as many equal rings.
@@ -80,17 +80,17 @@ pub fn set_up<'a, 'b, 'c, 'd, 'e, 'f>(
         ≡ on_set_up settings flows.old (memory_before outstanding.old marked.old sizes.old sent.old) evs.old }
 {
     if !window::bounds::in_range(settings) {
-        return not_set_up(Verdict::Setting);
+        return not_set_up(Err(Refusal::Setting));
     }
     if !(lengths_ok(flows, outstanding, marked, sizes, sent)
         & (evs.len() as u64 == settings.ev_count))
     {
-        return not_set_up(Verdict::Unsound);
+        return not_set_up(Err(Refusal::Unsound));
     }
     fresh_flows(flows, settings.first_psn);
     sender::start::clear(outstanding, marked, sizes, sent, evs);
     Answer {
         state: fresh(settings),
-        verdict: Verdict::Accepted,
+        verdict: Ok(()),
     }
 }

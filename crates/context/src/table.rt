@@ -11,7 +11,7 @@ ghost use Rattle.context.specs.Table.{front_before, stepped_after, unless_many, 
 
 use crate::{Answer, Controller, Heard, Routed, entry};
 use flow_table::lent::Flows;
-use rules::verdict::Verdict;
+use rules::verdict::{Refusal, Verdict};
 use sender::{Ack, Feedback, Loss, Nack, Send};
 
 // What a step leaves: the answer, and the table by value.
@@ -53,7 +53,7 @@ pub(crate) fn new_data<'a, 'b, 'c, 'd, 'e>(
     if flow_table::FLOWS_MOST < n {
         let answer = Answer {
             state: c,
-            verdict: Verdict::Unsound,
+            verdict: Err(Refusal::Unsound),
         };
         return StepAnswer { answer, flows: fs };
     }
@@ -95,7 +95,7 @@ pub(crate) fn send<'a, 'b, 'c, 'd, 'e>(
     if flow_table::FLOWS_MOST < n {
         let answer = Answer {
             state: c,
-            verdict: Verdict::Unsound,
+            verdict: Err(Refusal::Unsound),
         };
         return StepAnswer { answer, flows: fs };
     }
@@ -139,7 +139,7 @@ pub(crate) fn ack<'a, 'b, 'c, 'd, 'e>(
     if flow_table::FLOWS_MOST < n {
         let answer = Heard {
             state: c,
-            verdict: Verdict::Unsound,
+            verdict: Err(Refusal::Unsound),
             feedback: Feedback::Nothing,
         };
         return StepHeard { answer, flows: fs };
@@ -184,7 +184,7 @@ pub(crate) fn nack<'a, 'b, 'c, 'd, 'e>(
     if flow_table::FLOWS_MOST < n {
         let answer = Heard {
             state: c,
-            verdict: Verdict::Unsound,
+            verdict: Err(Refusal::Unsound),
             feedback: Feedback::Nothing,
         };
         return StepHeard { answer, flows: fs };
@@ -227,7 +227,7 @@ pub(crate) fn loss<'a, 'b, 'c, 'd, 'e>(
     if flow_table::FLOWS_MOST < n {
         let answer = Answer {
             state: c,
-            verdict: Verdict::Unsound,
+            verdict: Err(Refusal::Unsound),
         };
         return StepAnswer { answer, flows: fs };
     }
@@ -269,7 +269,7 @@ pub(crate) fn path<'a, 'b, 'c, 'd, 'e>(
     if flow_table::FLOWS_MOST < n {
         let answer = Routed {
             state: c,
-            verdict: Verdict::Unsound,
+            verdict: Err(Refusal::Unsound),
             ev: 0,
         };
         return StepRouted { answer, flows: fs };

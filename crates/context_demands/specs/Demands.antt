@@ -5,7 +5,7 @@
 use Rattle.std.specs.Prelude.{◌≡◌, ◌↔◌, ◌⊎◌, true, List, ℕ, ◌≤◌, min, pos, ◌-ℤ◌}
 use Rattle.window.specs.Limits.{max_wnd_of}
 use Rattle.window.specs.declared.Settings.{Settings}
-use Rattle.window.specs.declared.Sample.TheVariants.{Ticks}
+use Rattle.std.specs.Prelude.{Some}
 use Rattle.ledger.specs.Memory.{Memory}
 use Rattle.sender.specs.World.{view_of, world_of, ledger_of}
 use Rattle.sender.specs.Statements.{Exact}
@@ -86,12 +86,12 @@ History = (s : Settings) (flows : List ℕ) (m : Memory) (times : List ℕ) (x :
 -- DEMAND 2. "A round-trip sample is taken exactly when 01 says one exists", over the ring of the event's flow: on an ACK, of its trigger
 -- packet ..
 abbrev pub AckSampled : Type 0
-AckSampled = (time k ticks : ℕ) (a : Ack) (x : Context) → (ack_sample time a (view_of (world_at k x)) ≡ Ticks ticks)
+AckSampled = (time k ticks : ℕ) (a : Ack) (x : Context) → (ack_sample time a (view_of (world_at k x)) ≡ Some ticks)
     ↔ SampleIs (world_at k x) a.trigger a.retx time a.service ticks
 
 -- .. on a NACK, of its own packet, with service 0 ..
 abbrev pub NackSampled : Type 0
-NackSampled = (time k ticks : ℕ) (a : Nack) (x : Context) → (nack_sample time a (view_of (world_at k x)) ≡ Ticks ticks)
+NackSampled = (time k ticks : ℕ) (a : Nack) (x : Context) → (nack_sample time a (view_of (world_at k x)) ≡ Some ticks)
     ↔ SampleIs (world_at k x) a.psn a.retx time 0 ticks
 
 -- .. an accepted ACK with a sample takes it: "base = min(base, sample)" ..

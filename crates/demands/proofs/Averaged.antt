@@ -13,8 +13,8 @@ use Rattle.window.specs.Delays.{update_delay_of, feed_of, update_base_rtt_of, me
 use Rattle.window.specs.Events.{feed_trimmed_of, is_trimmed}
 use Rattle.window.specs.declared.Settings.{Settings}
 use Rattle.window.specs.declared.Window.{Window}
-use Rattle.window.specs.declared.Sample.{Sample}
-use Rattle.window.specs.declared.Sample.TheVariants.{Ticks, Absent}
+use Rattle.window.specs.Sample.{Sample}
+use Rattle.std.specs.Prelude.{Some, None}
 use Rattle.sender.specs.World.{World, view_of}
 use Rattle.sender.specs.Steps.{state_of, settled, new_data_state, new_data_step, send_step, ack_sample, ack_step, nack_sample, nack_step, loss_step}
 use Rattle.sender.specs.Steps.{path_state, path_step}
@@ -38,11 +38,11 @@ feeds_same target base marked delay = refl
 measure_average : World → Bool → Sample → ℕ
 measure_average w marked sample = (measure_of w.state.settings marked sample w.state.window).window.avg
 
-measure_ticks : (w : World) (marked : Bool) (ticks : ℕ) → measure_average w marked (Ticks ticks) ≡ fed_sample w marked ticks
+measure_ticks : (w : World) (marked : Bool) (ticks : ℕ) → measure_average w marked (Some ticks) ≡ fed_sample w marked ticks
 unfolding measure_average measure_of update_base_rtt_of update_delay_of
 measure_ticks w marked ticks = ap (fed w.state.window.avg) (feeds_same w.state.settings.target_qdelay _ marked _)
 
-measure_none : (w : World) (marked : Bool) → measure_average w marked Absent ≡ w.state.window.avg
+measure_none : (w : World) (marked : Bool) → measure_average w marked None ≡ w.state.window.avg
 unfolding measure_average measure_of
 measure_none w marked = refl
 
@@ -58,8 +58,8 @@ module _ (time : ℕ) (a : Ack) (w : World) where
 
 update_base_rtt_average : (s : Settings) (sample : Sample) (w : Window) → (update_base_rtt_of s sample w).avg ≡ w.avg
 unfolding update_base_rtt_of
-update_base_rtt_average s (Ticks t) w = refl
-update_base_rtt_average s Absent w = refl
+update_base_rtt_average s (Some t) w = refl
+update_base_rtt_average s None w = refl
 
 module _ (time : ℕ) (a : Nack) (w : World) where
   abbrev lowered : Window

@@ -13,8 +13,8 @@ use Rattle.window.specs.Delays.{sample_of, update_base_rtt_of, measure_of}
 use Rattle.window.specs.Events.{feed_trimmed_of, is_trimmed}
 use Rattle.window.specs.declared.Settings.{Settings}
 use Rattle.window.specs.declared.Window.{Window}
-use Rattle.window.specs.declared.Sample.{Sample}
-use Rattle.window.specs.declared.Sample.TheVariants.{Ticks, Absent}
+use Rattle.window.specs.Sample.{Sample}
+use Rattle.std.specs.Prelude.{Some, None}
 use Rattle.window.proofs.Tests.{sample_exists, exists_sample}
 use Rattle.ledger.specs.Packets.{flying_status, marked_status, is_flying, is_marked, is_out}
 use Rattle.ledger.specs.Ring.{packet_of}
@@ -53,10 +53,10 @@ unfolding is_out is_flying is_marked
 is_out_lem x (inl e) = rw (eq-eqb x.status flying_status e)
 is_out_lem x (inr e) = rw (eq-eqb x.status marked_status e, or_true)
 
--- of any packet, by the window's laws: the sample is `Ticks ticks` exactly under 01's conditions
+-- of any packet, by the window's laws: the sample is `Some ticks` exactly under 01's conditions
 sampled : (w : World) (psn : ℕ) (retx : Bool) (time service ticks : ℕ) →
     let x = packet_of w.state.flow (ring_of w) psn in
-    (sample_of (is_out x) x.resent retx time x.sent service ≡ Ticks ticks) ↔ SampleIs w psn retx time service ticks
+    (sample_of (is_out x) x.resent retx time x.sent service ≡ Some ticks) ↔ SampleIs w psn retx time service ticks
 sampled w psn retx time service ticks =
     let x = packet_of w.state.flow (ring_of w) psn in (
       λ e.
@@ -65,7 +65,7 @@ sampled w psn retx time service ticks =
       λ s.
           sample_exists (is_out x) x.resent retx time x.sent service
           (record { known = is_out_lem x s.outstanding; copy = s.copy; late = s.positive })
-          ∙ ap Ticks (sym s.ticks_is),
+          ∙ ap Some (sym s.ticks_is),
     )
 
 pub ack_sampled : AckSampled
@@ -77,14 +77,14 @@ unfolding nack_sample
 nack_sampled time ticks a w = sampled w a.psn a.retx time 0 ticks
 
 -- where 01 has no sample there is none
-absent : (sample : Sample) → ((ticks : ℕ) → sample ≡ Ticks ticks → ⊥) → sample ≡ Absent
-absent (Ticks t) none = absurd (none t refl)
-absent Absent none = refl
+absent : (sample : Sample) → ((ticks : ℕ) → sample ≡ Some ticks → ⊥) → sample ≡ None
+absent (Some t) none = absurd (none t refl)
+absent None none = refl
 
-pub ack_absent : (time : ℕ) (a : Ack) (w : World) → NoSample (ack time a) w → ack_sample time a (view_of w) ≡ Absent
+pub ack_absent : (time : ℕ) (a : Ack) (w : World) → NoSample (ack time a) w → ack_sample time a (view_of w) ≡ None
 ack_absent time a w none = absent (ack_sample time a (view_of w)) (λ t e. none t ((ack_sampled time t a w).0 e))
 
-pub nack_absent : (time : ℕ) (a : Nack) (w : World) → NoSample (nack time a) w → nack_sample time a (view_of w) ≡ Absent
+pub nack_absent : (time : ℕ) (a : Nack) (w : World) → NoSample (nack time a) w → nack_sample time a (view_of w) ≡ None
 nack_absent time a w none = absent (nack_sample time a (view_of w)) (λ t e. none t ((nack_sampled time t a w).0 e))
 
 -- ---- the base round trip: a sample lowers it
@@ -97,8 +97,8 @@ measure_base :
     (s : Settings) (marked : Bool) (sample : Sample) (w : Window) →
     (measure_of s marked sample w).window.base ≡ (update_base_rtt_of s sample w).base
 unfolding update_base_rtt_of measure_of
-measure_base s marked (Ticks t) w = refl
-measure_base s marked Absent w = refl
+measure_base s marked (Some t) w = refl
+measure_base s marked None w = refl
 
 module _ (w : World) (time : ℕ) where
   pub ack_lowers : (a : Ack) → Lowers (ack_sample time a (view_of w)) w (world_of (ack_step time a (view_of w)))
@@ -117,7 +117,7 @@ module _ (w : World) (time : ℕ) where
 -- ---- .. without a sample
 
 -- the step of an event for which 01 has no sample
-pub step_stays : (e : Event) (w : World) → NoSample e w → Lowers Absent w (step_of e w)
+pub step_stays : (e : Event) (w : World) → NoSample e w → Lowers None w (step_of e w)
 unfolding new_data_step new_data_state send_step loss_step path_step path_state settled state_of update_base_rtt_of
 step_stays (new_data time bytes) w none = refl
 step_stays (send time a) w none = refl
@@ -127,9 +127,9 @@ step_stays (loss time a) w none = ap (λ (d : Delays). d.base) (loss_delays w.st
 step_stays (path time) w none = refl
 
 -- an answer's world is the given one or the one after the step
-decided_base : (n : ℕ) (w after : World) → Lowers Absent w after → Lowers Absent w (decided n w after).after
+decided_base : (n : ℕ) (w after : World) → Lowers None w after → Lowers None w (decided n w after).after
 unfolding decided update_base_rtt_of
-decided_base n w after e = eq_both (λ (x : Answered). Lowers Absent w x.after) n 0 _ _ (λ _. e) (λ _. refl)
+decided_base n w after e = eq_both (λ (x : Answered). Lowers None w x.after) n 0 _ _ (λ _. e) (λ _. refl)
 
 pub base_stays : BaseStays
 unfolding on_new_data on_send on_ack on_nack on_loss on_path new_data_step new_data_state send_step loss_step path_step path_state settled state_of
@@ -140,12 +140,12 @@ base_stays (ack time a) w of-ack of-nack = decided_base _ w _ (rw (of-ack time a
 base_stays (nack time a) w of-ack of-nack = decided_base _ w _ (rw (of-nack time a refl) at (nack_lowers w time a))
 base_stays (loss time a) w of-ack of-nack = decided_base _ w _
     (ap (λ (d : Delays). d.base) (loss_delays w.state.settings time _ _ w.state.window))
-base_stays (path time) w of-ack of-nack = eq_both (λ (x : Routing). Lowers Absent w x.after) _ 0 _ _ (λ _. refl) (λ _. refl)
+base_stays (path time) w of-ack of-nack = eq_both (λ (x : Routing). Lowers None w x.after) _ 0 _ _ (λ _. refl) (λ _. refl)
 
 -- ---- .. and falls by one: "base = min(base, sample)"
 
 -- an accepted event's world is the one after the step
-decided_lowered : (n : ℕ) (w after : World) (ticks : ℕ) → Lowers (Ticks ticks) w after → (decided n w after).number ≡ 0
+decided_lowered : (n : ℕ) (w after : World) (ticks : ℕ) → Lowers (Some ticks) w after → (decided n w after).number ≡ 0
     → (decided n w after).after.state.window.base ≡ min w.state.window.base ticks
 unfolding decided update_base_rtt_of
 decided_lowered n w after ticks e =

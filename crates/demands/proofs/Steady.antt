@@ -19,8 +19,8 @@ use Rattle.window.specs.Events.{go_on_of, react_of, ack_of, shrink_of, loss_of, 
 use Rattle.window.specs.declared.Settings.{Settings}
 use Rattle.window.specs.declared.Window.{Window}
 use Rattle.window.specs.declared.Adapted.{Adapted}
-use Rattle.window.specs.declared.Sample.{Sample}
-use Rattle.window.specs.declared.Sample.TheVariants.{Ticks, Absent}
+use Rattle.window.specs.Sample.{Sample}
+use Rattle.std.specs.Prelude.{Some, None}
 
 -- what a window holds of delays
 pub record Delays : Type 0 where
@@ -83,8 +83,8 @@ module _ (s : Settings) (time : ℕ) where
   count_newly_delays : (newly : ℕ) (marked : Bool) (sample : Sample) (w : Window)
       → delays_of (measure_of s marked sample (count_newly_of newly w)).window ≡ delays_of (measure_of s marked sample w).window
   unfolding measure_of update_base_rtt_of count_newly_of
-  count_newly_delays newly marked (Ticks t) w = refl
-  count_newly_delays newly marked Absent w = refl
+  count_newly_delays newly marked (Some t) w = refl
+  count_newly_delays newly marked None w = refl
 
   -- an ACK
   pub ack_delays : (newly : ℕ) (marked : Bool) (sample : Sample) (in_flight : ℤ) (w : Window)

@@ -9,7 +9,7 @@ use Prim.Native.Nat.{ℕ}
 use Rattle.rules.specs.Unique.{OneOutcome, Tells, unique}
 use Rattle.rules.specs.Verdict.{number_of}
 use Rattle.rules.proofs.Verdicts.{number_tells}
-use Rattle.rules.specs.declared.verdict.Verdict.{Verdict}
+use Rattle.rules.specs.declared.verdict.Refusal.{Refusal}
 use Rattle.window.specs.declared.Sampling.{Sampling}
 use Rattle.ledger.specs.Memory.{Memory}
 use Rattle.sender.specs.World.{World, Answered, answered, Routing, routed}

@@ -13,8 +13,8 @@ use Rattle.window.specs.Adjust.{adjust_of}
 use Rattle.window.specs.declared.Settings.{Settings}
 use Rattle.window.specs.declared.Window.{Window}
 use Rattle.window.specs.declared.Delayed.{Delayed}
-use Rattle.window.specs.declared.Sample.{Sample}
-use Rattle.window.specs.declared.Sample.TheVariants.{Ticks, Absent}
+use Rattle.window.specs.Sample.{Sample}
+use Rattle.std.specs.Prelude.{Some, None}
 use Rattle.ledger.specs.Steps.{held_of, newly_of}
 
 -- what was got, and what is wanted
@@ -63,8 +63,8 @@ window_of cwnd avg inc = with_cwnd cwnd (with_avg avg (with_inc_bytes inc (fresh
 
 -- a sample as numbers: none where there is none
 unfoldable pub ticks_of : Sample → List ℕ
-ticks_of (Ticks t) = t ∷ []
-ticks_of Absent = []
+ticks_of (Some t) = t ∷ []
+ticks_of None = []
 
 -- what a measured delay comes to: the delay, and the average afterwards
 unfoldable pub measured_by : Delayed → List ℕ
@@ -89,7 +89,7 @@ cases =
     -- .. "Difference 8,388,608: old" (no bytes, and what was held stays)
     ∷ case (newly_of (7 + 8388608) 7 ∷ held_of (7 + 8388608) 7 ∷ []) (0 ∷ 7 ∷ [])
     -- P5 "avg 73,728, unmarked delay 100, base 96: 73,113" (a sample of 96 + 100)
-    ∷ case (measured_by (measure_of settings_e false (Ticks 196) (window_of 614400 73728 0))) (100 ∷ 73113 ∷ [])
+    ∷ case (measured_by (measure_of settings_e false (Some 196) (window_of 614400 73728 0))) (100 ∷ 73113 ∷ [])
     -- P6 "sent 1,000, now 1,150, service 30, not resent: sample 120 ..
     ∷ case (ticks_of (sample_of true 0 false 1150 1000 30)) (120 ∷ [])
     -- .. Resent once, flag clear: none ..

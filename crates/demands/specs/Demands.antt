@@ -5,7 +5,7 @@
 use Rattle.std.specs.Prelude.{◌≡◌, ◌↔◌, ◌⊎◌, true, List, ℕ, ◌≤◌, min, pos, ◌-ℤ◌}
 use Rattle.window.specs.Limits.{max_wnd_of}
 use Rattle.window.specs.declared.Settings.{Settings}
-use Rattle.window.specs.declared.Sample.TheVariants.{Ticks, Absent}
+use Rattle.std.specs.Prelude.{Some, None}
 use Rattle.ledger.specs.Memory.{Memory}
 use Rattle.sender.specs.World.{World, world, view_of, world_of, ledger_of}
 use Rattle.sender.specs.Sound.{sound}
@@ -76,12 +76,12 @@ History = (s : Settings) (m : Memory) (times : List ℕ) (w : World) (es : List 
 
 -- DEMAND 2. "A round-trip sample is taken exactly when 01 says one exists": on an ACK, of its trigger packet ..
 abbrev pub AckSampled : Type 0
-AckSampled = (time ticks : ℕ) (a : Ack) (w : World) → (ack_sample time a (view_of w) ≡ Ticks ticks)
+AckSampled = (time ticks : ℕ) (a : Ack) (w : World) → (ack_sample time a (view_of w) ≡ Some ticks)
     ↔ SampleIs w a.trigger a.retx time a.service ticks
 
 -- .. on a NACK, of its own packet, with service 0 ..
 abbrev pub NackSampled : Type 0
-NackSampled = (time ticks : ℕ) (a : Nack) (w : World) → (nack_sample time a (view_of w) ≡ Ticks ticks)
+NackSampled = (time ticks : ℕ) (a : Nack) (w : World) → (nack_sample time a (view_of w) ≡ Some ticks)
     ↔ SampleIs w a.psn a.retx time 0 ticks
 
 -- .. an accepted ACK with a sample takes it: "base = min(base, sample)" ..
@@ -96,8 +96,8 @@ NackTakes = (time ticks : ℕ) (a : Nack) (w : World) → SampleIs w a.psn a.ret
 
 -- .. and no event changes the base round trip without one
 abbrev pub BaseStays : Type 0
-BaseStays = (e : Event) (w : World) → ((time : ℕ) (a : Ack) → e ≡ ack time a → ack_sample time a (view_of w) ≡ Absent)
-    → ((time : ℕ) (a : Nack) → e ≡ nack time a → nack_sample time a (view_of w) ≡ Absent)
+BaseStays = (e : Event) (w : World) → ((time : ℕ) (a : Ack) → e ≡ ack time a → ack_sample time a (view_of w) ≡ None)
+    → ((time : ℕ) (a : Nack) → e ≡ nack time a → nack_sample time a (view_of w) ≡ None)
     → (answer e w).after.state.window.base ≡ w.state.window.base
 
 -- DEMAND 2. ".. delay average .. are those of the NSCC rules as 01 fixes them": after an accepted event the average is the one held before,

@@ -12,7 +12,7 @@ ghost use Rattle.ledger.specs.Rows.{new_rows, resend_rows, ack_rows, mark_rows};
 
 use crate::slots::{find, long};
 use crate::{Books, Flow};
-use rules::verdict::Verdict;
+use rules::verdict::{Refusal, Verdict};
 
 // Bytes that an ACK newly reports.
 pub fn newly(count: u32, held: u64) -> u64
@@ -46,15 +46,15 @@ pub fn judge_new(flow: Flow, cap: usize, psn: u32, size: u32) -> Verdict
     let next = flow.next;
     let backlog = flow.backlog;
     if psn != next {
-        return Verdict::WrongPsn;
+        return Err(Refusal::WrongPsn);
     }
     if backlog < size as u64 {
-        return Verdict::Backlog;
+        return Err(Refusal::Backlog);
     }
     if long(flow) as usize == cap {
-        return Verdict::RingFull;
+        return Err(Refusal::RingFull);
     }
-    Verdict::Accepted
+    Ok(())
 }
 
 // A resend: 8.
@@ -73,9 +73,9 @@ pub fn judge_resend<'a>(
 {
     let x = find(flow, outstanding, marked, sizes, sent, psn);
     if (x.status != crate::MARKED) | (bytes != x.size) {
-        return Verdict::WrongPsn;
+        return Err(Refusal::WrongPsn);
     }
-    Verdict::Accepted
+    Ok(())
 }
 
 // An ACK: 9, 11.
@@ -86,12 +86,12 @@ pub fn judge_ack(books: Books, cum: u32, map: u64, count: u32) -> Verdict
     let flow = books.flow;
     let totals = books.totals;
     if serial::unsent_or_old(flow.next, cum, map) {
-        return Verdict::UnsentOrOld;
+        return Err(Refusal::UnsentOrOld);
     }
     if would_sink(totals.in_flight, newly(count, flow.held)) {
-        return Verdict::Sinks;
+        return Err(Refusal::Sinks);
     }
-    Verdict::Accepted
+    Ok(())
 }
 
 // A NACK or a loss: 10, 11.
@@ -112,10 +112,10 @@ pub fn judge_mark<'a>(
     let totals = books.totals;
     let x = find(flow, outstanding, marked, sizes, sent, psn);
     if x.status != crate::FLYING {
-        return Verdict::NotFlying;
+        return Err(Refusal::NotFlying);
     }
     if would_sink(totals.in_flight, x.size as u64) {
-        return Verdict::Sinks;
+        return Err(Refusal::Sinks);
     }
-    Verdict::Accepted
+    Ok(())
 }

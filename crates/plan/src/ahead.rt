@@ -13,7 +13,7 @@ use crate::Planned;
 use crate::words::sent_again;
 use context::Controller;
 use flow_table::lent::{Flows, from_words, nth, with_record};
-use rules::verdict::{Verdict, is_accepted};
+use rules::verdict::{Refusal, Verdict};
 use sender::Send;
 
 // The flows' records and in-flight, as a plan's first sends leave them.
@@ -64,12 +64,12 @@ fn judge_again<'a>(
 {
     let x = context::look::packet_at(c, flows, outstanding, marked, sizes, sent, evs, k, a.psn);
     if (x.status != ledger::MARKED) | (a.size != x.size) {
-        return Verdict::WrongPsn;
+        return Err(Refusal::WrongPsn);
     }
     if sent_again(plan, i, k, a.psn) {
-        return Verdict::WrongPsn;
+        return Err(Refusal::WrongPsn);
     }
-    Verdict::Accepted
+    Ok(())
 }
 
 // What was refused stays so; what was not is 6 where there is no room.
@@ -80,13 +80,13 @@ fn judge_room(c: Controller, in_flight: i64, verdict: Verdict) -> Verdict
 {
     let settings = c.settings;
     let window = c.window;
-    if !is_accepted(verdict) {
+    if verdict.is_err() {
         return verdict;
     }
     if sender::naming::has_room(settings.mtu, window.cwnd, in_flight) {
-        return Verdict::Accepted;
+        return Ok(());
     }
-    Verdict::WindowFull
+    Err(Refusal::WindowFull)
 }
 
 // Send i of the plan, past 2, 3 and 27: 25, 4, 8, 5, 7, 6.
@@ -113,10 +113,10 @@ pub(crate) fn judge_next<'a>(
     let k = p.flow;
     let n = flow_table::count(flows);
     if n <= k {
-        return Verdict::Flow;
+        return Err(Refusal::Flow);
     }
     if !rules::within(ledger::SIZE_LEAST as u64, a.size as u64, settings.mtu) {
-        return Verdict::Size;
+        return Err(Refusal::Size);
     }
     if a.resend {
         return judge_room(

@@ -11,7 +11,7 @@ use crate::words::{count, send_at};
 use crate::{SENDS_MOST, ahead};
 use context::Controller;
 use context::sound::is_sound;
-use rules::verdict::{Verdict, is_accepted};
+use rules::verdict::{Refusal, Verdict};
 
 // The verdict on a plan, and the first send that fails, from 0; 0 where none is named.
 #[derive(Clone, Copy)]
@@ -68,12 +68,12 @@ fn judge_each<'a>(
             s,
             p,
         );
-        if !is_accepted(verdict) {
+        if verdict.is_err() {
             return Judgement { verdict, send: i };
         }
         s = ahead::after(s, p);
     }
-    no_send(Verdict::Accepted)
+    no_send(Ok(()))
 }
 
 // The judge: 2, 3, 27, then the first send that fails. Nothing is changed.
@@ -92,13 +92,13 @@ pub fn judge<'a>(
         ≡ on_judge time (plan_of plan.now) (context_before c flows.now outstanding.now marked.now sizes.now sent.now evs.now) }
 {
     if !is_sound(c, flows, outstanding, marked, sizes, sent, evs) {
-        return no_send(Verdict::Unsound);
+        return no_send(Err(Refusal::Unsound));
     }
     if is_late(time, c.clock) {
-        return no_send(Verdict::Time);
+        return no_send(Err(Refusal::Time));
     }
     if SENDS_MOST < count(plan) {
-        return no_send(Verdict::PlanTooLong);
+        return no_send(Err(Refusal::PlanTooLong));
     }
     judge_each(c, flows, outstanding, marked, sizes, sent, evs, time, plan)
 }

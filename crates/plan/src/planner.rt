@@ -13,7 +13,7 @@ use crate::words::{count, put_send};
 use crate::{SENDS_MOST, course};
 use context::Controller;
 use context::sound::is_sound;
-use rules::verdict::{Verdict, is_accepted};
+use rules::verdict::{Refusal, Verdict};
 
 // The verdict, and how many sends the plan has: none where it is refused.
 #[derive(Clone, Copy)]
@@ -74,7 +74,7 @@ fn plan_each<'a, 'b>(
             s.ahead,
             p,
         );
-        if !is_accepted(verdict) {
+        if verdict.is_err() {
             return i;
         }
         put_send(plan, i, p);
@@ -102,13 +102,13 @@ pub fn plan<'a, 'b>(
 {
     if !is_sound(c, flows, outstanding, marked, sizes, sent, evs) {
         return Proposal {
-            verdict: Verdict::Unsound,
+            verdict: Err(Refusal::Unsound),
             count: 0,
         };
     }
     if is_late(time, c.clock) {
         return Proposal {
-            verdict: Verdict::Time,
+            verdict: Err(Refusal::Time),
             count: 0,
         };
     }
@@ -125,7 +125,7 @@ pub fn plan<'a, 'b>(
         plan,
     );
     Proposal {
-        verdict: Verdict::Accepted,
+        verdict: Ok(()),
         count,
     }
 }

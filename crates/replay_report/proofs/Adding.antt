@@ -7,8 +7,8 @@ use lib.ListN.{get_or, set}
 use native.Mathlib.Omega.{arith}
 use Rattle.rules.specs.Branch.{so_both, eq_yes, eq_no, lt_yes, lt_no}
 use Rattle.window.specs.Delays.{sample_in}
-use Rattle.window.specs.declared.Sample.{Sample}
-use Rattle.window.specs.declared.Sample.TheVariants.{Ticks, Absent}
+use Rattle.window.specs.Sample.{Sample}
+use Rattle.std.specs.Prelude.{Some, None}
 use Rattle.window.specs.declared.Sampling.{Sampling}
 use Rattle.sender.specs.declared.Send.{Send}
 use Rattle.replay.specs.Batches.{kind_of}
@@ -40,11 +40,11 @@ pub kind_inside : (q : Sampling) {at : ℕ} → at ≡ kinds_at + kind_of q → 
 kind_inside q e = omega (arith, kind_most q refl)
 
 module _ (figures : List ℕ) where
-  pub ticks_none : (p : Sample) → p ≡ Absent → figures ≡ ticks_counted p figures
+  pub ticks_none : (p : Sample) → p ≡ None → figures ≡ ticks_counted p figures
   unfolding ticks_counted
   ticks_none p e = rw e
 
-  pub ticks_one : (p : Sample) (t : ℕ) → p ≡ Ticks t → (least greatest k : ℕ) (r : List ℕ) → least ≡ lesser (get_or figures least_at 0) t
+  pub ticks_one : (p : Sample) (t : ℕ) → p ≡ Some t → (least greatest k : ℕ) (r : List ℕ) → least ≡ lesser (get_or figures least_at 0) t
       → greatest ≡ max (get_or (set figures least_at least) greatest_at 0) t → k ≡ bucket_of t
       → r ≡ raised (buckets_at + k) 1 (set (set figures least_at least) greatest_at greatest) → r ≡ ticks_counted p figures
   unfolding ticks_counted least_kept greatest_kept

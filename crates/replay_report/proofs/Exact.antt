@@ -10,8 +10,8 @@ use lib.ListN.{length, get_or}
 use borrow.Author.Tests.{eqb-true, eqb-false}
 use native.Mathlib.Omega.{arith}
 use Rattle.rules.specs.Branch.{eq_yes, eq_no}
-use Rattle.window.specs.declared.Sample.{Sample}
-use Rattle.window.specs.declared.Sample.TheVariants.{Ticks, Absent}
+use Rattle.window.specs.Sample.{Sample}
+use Rattle.std.specs.Prelude.{Some, None}
 use Rattle.replay.specs.Places.{Feed, found_at, Turning}
 use Rattle.replay.specs.declared.Place.{Place}
 use Rattle.replay.specs.declared.Shown.{Shown}
@@ -127,8 +127,8 @@ bytes_count again f p (t ∷ ts) fs l w =
 
 greatest_on : (q : Sample) (a b : ℕ) → max (with_greatest q a) b ≡ max a (with_greatest q b)
 unfolding with_greatest
-greatest_on (Ticks t) a b = omega arith
-greatest_on Absent a b = refl
+greatest_on (Some t) a b = omega arith
+greatest_on None a b = refl
 
 turn_greatest : (x : Found) (t : Turning) (fs : List ℕ) → length fs ≡ figure_count
     → get_or (counted x t.number t.shown fs) greatest_at 0 ≡ with_greatest (sample_shown t.shown) (get_or fs greatest_at 0)
@@ -227,10 +227,10 @@ least_order t a b h = by (eqb a 0) (eqb b 0) refl refl
           lesser_some a (lesser b t) (eqb-false a 0 e),
         )
 
-least_on : (q : Sample) (a b : ℕ) → ((t : ℕ) → q ≡ Ticks t → 1 ≤ t) → least_of_both (with_least q a) b ≡ least_of_both a (with_least q b)
+least_on : (q : Sample) (a b : ℕ) → ((t : ℕ) → q ≡ Some t → 1 ≤ t) → least_of_both (with_least q a) b ≡ least_of_both a (with_least q b)
 unfolding with_least
-least_on (Ticks t) a b h = least_order t a b (h t refl)
-least_on Absent a b h = refl
+least_on (Some t) a b h = least_order t a b (h t refl)
+least_on None a b h = refl
 
 -- THE LEAST: of what was there and of the turns' samples, of which none is 0
 pub least_is : (f : Feed) (p : Place) (ts : List Turning) (fs : List ℕ) → Positive ts → length fs ≡ figure_count

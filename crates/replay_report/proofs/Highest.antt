@@ -9,7 +9,7 @@ use native.Mathlib.Nat.{pow-suc}
 use native.Mathlib.Omega.{arith}
 use Rattle.rules.specs.Branch.{so_both, lt_both, eq_both}
 use Rattle.window.specs.Delays.{sampling_of, sample_in, Sampled}
-use Rattle.window.specs.declared.Sample.TheVariants.{Ticks, Absent}
+use Rattle.std.specs.Prelude.{Some, None}
 use Rattle.window.specs.declared.Sampling.{Sampling}
 use Rattle.window.proofs.Tests.{sample_bounds, same_sample}
 use Rattle.sender.specs.World.{World, view_of}
@@ -65,7 +65,7 @@ bare (Showing q) = 1
 not_shown : {s : Shown} → bare s ≡ 0 → Held s
 not_shown {s} b q e = absurd (let no : ⊥ = omega (arith, b, ap bare e) in no)
 
-not_absent : {ticks : ℕ} → Absent ≡ Ticks ticks → ⊥
+not_absent : {ticks : ℕ} → None ≡ Some ticks → ⊥
 not_absent e = let z : ◌≡◌ {A = ℕ} 0 1 = cc in omega arith
 
 held_says : (n : ℕ) (q : Sampling) → Sampled (sample_in q) → Held (shown_says (says n q))
@@ -124,7 +124,7 @@ turn_held : (f : Feed) (p : Place) (w : Context) → Held (turn_of f p w).shown
 turn_held f p w =
     turn_cases f p w (λ (t : Turning). Held t.shown) (not_shown refl) (λ e next _ _. on_event_lem p.done e w) (λ _ _. not_shown refl)
 
-positive : (s : Shown) → Held s → (ticks : ℕ) → sample_shown s ≡ Ticks ticks → 1 ≤ ticks
+positive : (s : Shown) → Held s → (ticks : ℕ) → sample_shown s ≡ Some ticks → 1 ≤ ticks
 unfolding sample_shown
 positive Nothing h ticks e = absurd (not_absent e)
 positive State h ticks e = absurd (not_absent e)
@@ -144,7 +144,7 @@ turns_positive f p w = turns_held (end_of f - p.at) f p w
 
 -- A SAMPLE'S BUCKET IS ITS HIGHEST SET BIT, whatever is replayed
 pub highest_bit : (f : Feed) (p : Place) (w : Context) (q : Sampling) (ticks : ℕ) → (turn_of f p w).shown ≡ Showing q
-    → sample_in q ≡ Ticks ticks → (2 ^ bucket_of ticks ≤ ticks) × (ticks < 2 ^ suc (bucket_of ticks))
+    → sample_in q ≡ Some ticks → (2 ^ bucket_of ticks ≤ ticks) × (ticks < 2 ^ suc (bucket_of ticks))
 highest_bit f p w q ticks shows is =
     let held = turn_held f p w q shows in
     bucket_bit ticks (held.low ticks is) (omega (arith, held.high ticks is))

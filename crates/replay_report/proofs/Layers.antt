@@ -10,8 +10,8 @@ use borrow.Author.Tests.{eqb-true, eqb-false, ne_eqb}
 use native.Mathlib.Omega.{arith}
 use Rattle.rules.specs.Branch.{if_so, if_eq, so_both, lt_both, eq_both, eq_yes, eq_no}
 use Rattle.window.specs.Delays.{sample_in}
-use Rattle.window.specs.declared.Sample.{Sample}
-use Rattle.window.specs.declared.Sample.TheVariants.{Ticks, Absent}
+use Rattle.window.specs.Sample.{Sample}
+use Rattle.std.specs.Prelude.{Some, None}
 use Rattle.window.specs.declared.Sampling.{Sampling}
 use Rattle.window.specs.declared.Sampling.TheVariants.{Taken, Cut, Gone, Ambiguous, NotPositive}
 use Rattle.sender.specs.declared.Send.{Send}
@@ -107,8 +107,8 @@ ends_long t fs = simp length-set
 
 ticks_long : (p : Sample) (fs : List ℕ) → length (ticks_counted p fs) ≡ length fs
 unfolding ticks_counted
-ticks_long (Ticks t) fs = raised_long (buckets_at + bucket_of t) 1 (greatest_kept t (least_kept t fs)) ∙ ends_long t fs
-ticks_long Absent fs = refl
+ticks_long (Some t) fs = raised_long (buckets_at + bucket_of t) 1 (greatest_kept t (least_kept t fs)) ∙ ends_long t fs
+ticks_long None fs = refl
 
 -- the least and the greatest are figures of their own
 pub least_other : (t : ℕ) (fs : List ℕ) (i : ℕ) → (i ≡ least_at → ⊥) → get_or (least_kept t fs) i 0 ≡ get_or fs i 0
@@ -125,10 +125,10 @@ ticks_kept t fs i l g = greatest_other t (least_kept t fs) i g ∙ least_other t
 
 ticks_other : (p : Sample) (fs : List ℕ) (i : ℕ) → i < least_at → get_or (ticks_counted p fs) i 0 ≡ get_or fs i 0
 unfolding ticks_counted
-ticks_other (Ticks t) fs i h =
+ticks_other (Some t) fs i h =
     raised_other _ 1 _ i (λ e. let no : ⊥ = omega arith in no)
     ∙ ticks_kept t fs i (λ e. let no : ⊥ = omega arith in no) (λ e. let no : ⊥ = omega arith in no)
-ticks_other Absent fs i h = refl
+ticks_other None fs i h = refl
 
 pub kind_other : (q : Sampling) (fs : List ℕ) (i : ℕ) → (i ≡ kinds_at + kind_of q → ⊥) → get_or (kind_counted q fs) i 0 ≡ get_or fs i 0
 unfolding kind_counted
@@ -170,7 +170,7 @@ kind_at (Sampled q) fs k a b l w =
 ticks_at : (p : Sample) (fs : List ℕ) (k : ℕ) → k < buckets → length fs ≡ figure_count → get_or fs (buckets_at + k) 0 ≤ word_most
     → get_or (ticks_counted p fs) (buckets_at + k) 0 ≡ added (get_or fs (buckets_at + k) 0) (one (ticks_test k p))
 unfolding ticks_counted ticks_test
-ticks_at (Ticks t) fs k h l w =
+ticks_at (Some t) fs k h l w =
     let gs = greatest_kept t (least_kept t fs) in
     let long : length gs ≡ length fs = ends_long t fs in
     let same : get_or gs (buckets_at + k) 0 ≡ get_or fs (buckets_at + k) 0
@@ -181,7 +181,7 @@ ticks_at (Ticks t) fs k h l w =
     (omega arith)
     (omega arith)
     ∙ ap (λ (a : ℕ). added a (one (eqb (bucket_of t) k))) same
-ticks_at Absent fs k h l w = none_added w
+ticks_at None fs k h l w = none_added w
 
 pub bucket_at : (s : Shown) (fs : List ℕ) (k : ℕ) → k < buckets → length fs ≡ figure_count → get_or fs (buckets_at + k) 0 ≤ word_most
     → get_or (sample_counted s fs) (buckets_at + k) 0 ≡ added (get_or fs (buckets_at + k) 0) (one (ticks_test k (sample_shown s)))
@@ -198,10 +198,10 @@ bucket_at (Sampled q) fs k h l w =
 -- the least and the greatest
 ticks_least : (p : Sample) (fs : List ℕ) → length fs ≡ figure_count → get_or (ticks_counted p fs) least_at 0 ≡ with_least p (get_or fs least_at 0)
 unfolding ticks_counted with_least least_kept
-ticks_least (Ticks t) fs l =
+ticks_least (Some t) fs l =
     raised_other (buckets_at + bucket_of t) 1 _ least_at (λ e. let no : ⊥ = omega arith in no)
     ∙ (greatest_other t (least_kept t fs) least_at (λ e. let no : ⊥ = omega (arith, e) in no) ∙ get_or-set_same fs least_at _ 0 (omega arith))
-ticks_least Absent fs l = refl
+ticks_least None fs l = refl
 
 pub least_at_lem : (s : Shown) (fs : List ℕ) → length fs ≡ figure_count
     → get_or (sample_counted s fs) least_at 0 ≡ with_least (sample_shown s) (get_or fs least_at 0)
@@ -216,12 +216,12 @@ least_at_lem (Sampled q) fs l =
 ticks_greatest : (p : Sample) (fs : List ℕ) → length fs ≡ figure_count
     → get_or (ticks_counted p fs) greatest_at 0 ≡ with_greatest p (get_or fs greatest_at 0)
 unfolding ticks_counted with_greatest greatest_kept
-ticks_greatest (Ticks t) fs l =
+ticks_greatest (Some t) fs l =
     let long : greatest_at < length (least_kept t fs) = omega (arith, least_long t fs) in
     raised_other (buckets_at + bucket_of t) 1 _ greatest_at (λ e. let no : ⊥ = omega arith in no)
     ∙ (get_or-set_same (least_kept t fs) greatest_at _ 0 long
     ∙ ap (λ (m : ℕ). max m t) (least_other t fs greatest_at (λ e. let no : ⊥ = omega (arith, e) in no)))
-ticks_greatest Absent fs l = refl
+ticks_greatest None fs l = refl
 
 pub greatest_at_lem : (s : Shown) (fs : List ℕ) → length fs ≡ figure_count
     → get_or (sample_counted s fs) greatest_at 0 ≡ with_greatest (sample_shown s) (get_or fs greatest_at 0)
@@ -236,10 +236,10 @@ greatest_at_lem (Sampled q) fs l =
 -- samples leave the bytes alone
 ticks_late : (p : Sample) (fs : List ℕ) (i : ℕ) → new_at ≤ i → get_or (ticks_counted p fs) i 0 ≡ get_or fs i 0
 unfolding ticks_counted
-ticks_late (Ticks t) fs i h =
+ticks_late (Some t) fs i h =
     raised_other (buckets_at + bucket_of t) 1 _ i (λ e. let no : ⊥ = omega (arith, bucket_most t) in no)
     ∙ ticks_kept t fs i (λ e. let no : ⊥ = omega arith in no) (λ e. let no : ⊥ = omega arith in no)
-ticks_late Absent fs i h = refl
+ticks_late None fs i h = refl
 
 pub sample_late : (s : Shown) (fs : List ℕ) (i : ℕ) → new_at ≤ i → get_or (sample_counted s fs) i 0 ≡ get_or fs i 0
 unfolding sample_counted

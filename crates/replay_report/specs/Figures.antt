@@ -4,8 +4,8 @@ use Rattle.std.specs.Prelude.{Bool, List, ℕ, zero, suc, ◌+◌, ◌-◌, ◌/
 use Rattle.rules.specs.Branch.{if_so, if_lt, if_eq}
 use Rattle.report_text.specs.Places.{answers, kinds_at, least_at, greatest_at, buckets_at, buckets, new_at, again_at}
 use Rattle.window.specs.Delays.{sample_in}
-use Rattle.window.specs.declared.Sample.{Sample}
-use Rattle.window.specs.declared.Sample.TheVariants.{Ticks, Absent}
+use Rattle.window.specs.Sample.{Sample}
+use Rattle.std.specs.Prelude.{Some, None}
 use Rattle.window.specs.declared.Sampling.{Sampling}
 use Rattle.sender.specs.declared.Send.{Send}
 use Rattle.replay.specs.Batches.{kind_of}
@@ -62,8 +62,8 @@ greatest_kept ticks figures = set figures greatest_at (max (get_or figures great
 
 -- a sample of so many ticks; one that is cut is a sample of 2^20 (`sample_in`)
 unfoldable pub ticks_counted : Sample → List ℕ → List ℕ
-ticks_counted (Ticks ticks) figures = raised (buckets_at + bucket_of ticks) 1 (greatest_kept ticks (least_kept ticks figures))
-ticks_counted Absent figures = figures
+ticks_counted (Some ticks) figures = raised (buckets_at + bucket_of ticks) 1 (greatest_kept ticks (least_kept ticks figures))
+ticks_counted None figures = figures
 
 -- what the sample step of an accepted ACK or NACK said
 unfoldable pub sample_counted : Shown → List ℕ → List ℕ

@@ -5,8 +5,8 @@
 use Rattle.std.specs.Prelude.{◌≡◌, Bool, false, List, [], ◌∷◌, ℕ, zero, suc, ◌+◌, ◌^◌, ◌≤◌, ◌<◌, max, eqb, replicate}
 use Rattle.rules.specs.Branch.{if_so, if_eq}
 use Rattle.window.specs.Delays.{sample_in}
-use Rattle.window.specs.declared.Sample.{Sample}
-use Rattle.window.specs.declared.Sample.TheVariants.{Ticks, Absent}
+use Rattle.window.specs.Sample.{Sample}
+use Rattle.std.specs.Prelude.{Some, None}
 use Rattle.context.specs.Context.{Context}
 use Rattle.sender.specs.declared.Send.{Send}
 use Rattle.replay.specs.Batches.{kind_of}
@@ -46,15 +46,15 @@ of_kind k t = kind_test k t.shown
 
 -- the sample that a turn's line tells of
 unfoldable pub sample_shown : Shown → Sample
-sample_shown Nothing = Absent
-sample_shown State = Absent
-sample_shown (Path ev) = Absent
+sample_shown Nothing = None
+sample_shown State = None
+sample_shown (Path ev) = None
 sample_shown (Sampled sampling) = sample_in sampling
 
 -- "bucket k holds those whose highest set bit is k"
 unfoldable pub ticks_test : ℕ → Sample → Bool
-ticks_test k (Ticks ticks) = eqb (bucket_of ticks) k
-ticks_test k Absent = false
+ticks_test k (Some ticks) = eqb (bucket_of ticks) k
+ticks_test k None = false
 
 abbrev pub in_bucket : ℕ → Turning → Bool
 in_bucket k t = ticks_test k (sample_shown t.shown)
@@ -72,8 +72,8 @@ pub data Counts : ℕ → (Turning → Bool) → Type 0 where
 
 -- "least and greatest sample (0 if none)", over turns
 unfoldable pub with_least : Sample → ℕ → ℕ
-with_least (Ticks ticks) least = lesser least ticks
-with_least Absent least = least
+with_least (Some ticks) least = lesser least ticks
+with_least None least = least
 
 unfoldable pub least_of : List Turning → ℕ
 least_of [] = 0
@@ -86,11 +86,11 @@ least_of_both a b = if_eq b 0 a (lesser a b)
 -- no sample is 0
 abbrev pub Positive : List Turning → Type 0
 Positive [] = Unit {0}
-Positive (t ∷ ts) = ((ticks : ℕ) → sample_shown t.shown ≡ Ticks ticks → 1 ≤ ticks) × Positive ts
+Positive (t ∷ ts) = ((ticks : ℕ) → sample_shown t.shown ≡ Some ticks → 1 ≤ ticks) × Positive ts
 
 unfoldable pub with_greatest : Sample → ℕ → ℕ
-with_greatest (Ticks ticks) greatest = max greatest ticks
-with_greatest Absent greatest = greatest
+with_greatest (Some ticks) greatest = max greatest ticks
+with_greatest None greatest = greatest
 
 unfoldable pub greatest_of : List Turning → ℕ
 greatest_of [] = 0

@@ -13,10 +13,10 @@ use report_text::places::{
     AGAIN_AT, AMBIGUOUS_AT, ANSWERS, BUCKETS, BUCKETS_AT, CUT_AT, GONE_AT, GREATEST_AT, LEAST_AT,
     NEW_AT, NOT_POSITIVE_AT, TAKEN_AT,
 };
-use rules::verdict::{Verdict, is_accepted, number_of};
+use rules::verdict::{Verdict, number_of};
 use sender::Send;
 use window::delay::sample_in;
-use window::{Sample, Sampling};
+use window::Sampling;
 
 // A sum that stops at the greatest word.
 fn sum(a: u64, b: u64) -> u64
@@ -84,11 +84,11 @@ fn lesser_of(least: u64, ticks: u64) -> u64
 }
 
 // One more sample of so many ticks.
-fn count_ticks(figures: &mut [u64], sample: Sample)
+fn count_ticks(figures: &mut [u64], sample: Option<u64>)
     requires { length figures.old ≡ figure_count }
     ensures { figures.new ≡ ticks_counted sample figures.old }
 {
-    let Sample::Ticks(ticks) = sample else {
+    let Some(ticks) = sample else {
         return;
     };
     figures[LEAST_AT] = lesser_of(figures[LEAST_AT], ticks);
@@ -126,7 +126,7 @@ fn count_event(figures: &mut [u64], verdict: Verdict, event: Event)
     let Event::Send(_, _, a) = event else {
         return;
     };
-    if is_accepted(verdict) {
+    if verdict.is_ok() {
         add(figures, sent_at(a.resend), a.size as u64);
     }
 }

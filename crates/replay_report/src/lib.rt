@@ -17,7 +17,7 @@ use context::Controller;
 use replay::turns::{is_sound, stands_at, turn};
 use replay::{Place, Source};
 use report_text::places::FIGURES;
-use rules::verdict::Verdict;
+use rules::verdict::{Refusal, Verdict};
 
 // What a call answers: 2, or accepted. The figures are lent.
 #[derive(Clone, Copy)]
@@ -68,7 +68,7 @@ fn tally_turns<'a, 'b, 'c, 'd, 'e, 'f, 'g, 'h>(
         state = t.state;
         if t.ended {
             return Tallied {
-                verdict: Verdict::Accepted,
+                verdict: Ok(()),
                 place,
                 state,
             };
@@ -102,7 +102,7 @@ pub fn tally<'a, 'b, 'c, 'd, 'e, 'f, 'g, 'h>(
     let whole = is_sound(place, state, flows, outstanding, marked, sizes, sent, evs);
     if (figures.len() != FIGURES) | !whole {
         return Tallied {
-            verdict: Verdict::Unsound,
+            verdict: Err(Refusal::Unsound),
             place,
             state,
         };

@@ -1,42 +1,44 @@
--- The number that document 01's table, as the requests amend it, gives each verdict. "Accepted is 0."
+-- The number that document 01's table, as the requests amend it, gives each refusal. "Accepted is 0."
 -- Assumes nothing.
-use Rattle.std.specs.Prelude.{◌≡◌, refl, Bool, true, false, cond, ℕ, ◌≤◌, eqb}
-use Rattle.std.proofs.Common.{sym, ◌∙◌, arith, eqb-true}
-use Rattle.std.proofs.lemmas.Bool.{eqb-false}
-use Rattle.rules.specs.declared.verdict.Verdict.{Verdict}
-use Rattle.rules.specs.declared.verdict.Verdict.TheVariants.{Accepted, Setting, Unsound, Time, Size, Backlog, WindowFull, RingFull}
-use Rattle.rules.specs.declared.verdict.Verdict.TheVariants.{WrongPsn, UnsentOrOld, NotFlying, Sinks, Malformed, NoRoom}
-use Rattle.rules.specs.declared.verdict.Verdict.TheVariants.{Bytes, Count, Reason, Ev, Trigger, Flow, PlanTooLong, LogTooLong}
+use Rattle.std.specs.Prelude.{◌≡◌, refl, Bool, true, false, cond, ℕ, ◌≤◌, eqb, ⊤, Result, Ok, Err, is_ok, is_err}
+use Rattle.std.proofs.Common.{sym, ◌∙◌, arith, subst}
+use Rattle.rules.specs.declared.verdict.Refusal.{Refusal}
+use Rattle.rules.specs.declared.verdict.Refusal.TheVariants.{Setting, Unsound, Time, Size, Backlog, WindowFull, RingFull}
+use Rattle.rules.specs.declared.verdict.Refusal.TheVariants.{WrongPsn, UnsentOrOld, NotFlying, Sinks, Malformed, NoRoom}
+use Rattle.rules.specs.declared.verdict.Refusal.TheVariants.{Bytes, Count, Reason, Ev, Trigger, Flow, PlanTooLong, LogTooLong}
 
-unfoldable pub number_of : Verdict → ℕ
-number_of Accepted = 0
-number_of Setting = 1
-number_of Unsound = 2
-number_of Time = 3
-number_of Size = 4
-number_of Backlog = 5
-number_of WindowFull = 6
-number_of RingFull = 7
-number_of WrongPsn = 8
-number_of UnsentOrOld = 9
-number_of NotFlying = 10
-number_of Sinks = 11
-number_of Malformed = 12
-number_of NoRoom = 13
-number_of Bytes = 20
-number_of Count = 21
-number_of Reason = 22
-number_of Ev = 23
-number_of Trigger = 24
-number_of Flow = 25
-number_of PlanTooLong = 27
-number_of LogTooLong = 28
+unfoldable pub number_of : {T : Type 0} → Result T Refusal → ℕ
+number_of (Ok x) = 0
+number_of (Err Setting) = 1
+number_of (Err Unsound) = 2
+number_of (Err Time) = 3
+number_of (Err Size) = 4
+number_of (Err Backlog) = 5
+number_of (Err WindowFull) = 6
+number_of (Err RingFull) = 7
+number_of (Err WrongPsn) = 8
+number_of (Err UnsentOrOld) = 9
+number_of (Err NotFlying) = 10
+number_of (Err Sinks) = 11
+number_of (Err Malformed) = 12
+number_of (Err NoRoom) = 13
+number_of (Err Bytes) = 20
+number_of (Err Count) = 21
+number_of (Err Reason) = 22
+number_of (Err Ev) = 23
+number_of (Err Trigger) = 24
+number_of (Err Flow) = 25
+number_of (Err PlanTooLong) = 27
+number_of (Err LogTooLong) = 28
 
--- the verdict of a number: for the laws that read an outcome back, no code does
-unfoldable pub verdict_of : ℕ → Verdict
-verdict_of n =
-    cond (eqb n 0) Accepted
-    (cond (eqb n 1) Setting
+-- accepted, or refused: what a judge answers
+abbrev pub Verdict : Type 0
+Verdict = Result ⊤ Refusal
+
+-- the refusal and the verdict of a number: for the laws that read an outcome back, no code does
+unfoldable pub refusal_of : ℕ → Refusal
+refusal_of n =
+    cond (eqb n 1) Setting
     (cond (eqb n 2) Unsound
     (cond (eqb n 3) Time
     (cond (eqb n 4) Size
@@ -55,63 +57,104 @@ verdict_of n =
     (cond (eqb n 23) Ev
     (cond (eqb n 24) Trigger
     (cond (eqb n 25) Flow
-    (cond (eqb n 27) PlanTooLong LogTooLong))))))))))))))))))))
+    (cond (eqb n 27) PlanTooLong LogTooLong)))))))))))))))))))
+
+unfoldable pub verdict_of : ℕ → Verdict
+verdict_of n = cond (eqb n 0) (Ok tt) (Err (refusal_of n))
 
 pub number_back : (v : Verdict) → verdict_of (number_of v) ≡ v
-unfolding number_of verdict_of
-number_back Accepted = refl
-number_back Setting = refl
-number_back Unsound = refl
-number_back Time = refl
-number_back Size = refl
-number_back Backlog = refl
-number_back WindowFull = refl
-number_back RingFull = refl
-number_back WrongPsn = refl
-number_back UnsentOrOld = refl
-number_back NotFlying = refl
-number_back Sinks = refl
-number_back Malformed = refl
-number_back NoRoom = refl
-number_back Bytes = refl
-number_back Count = refl
-number_back Reason = refl
-number_back Ev = refl
-number_back Trigger = refl
-number_back Flow = refl
-number_back PlanTooLong = refl
-number_back LogTooLong = refl
+unfolding number_of verdict_of refusal_of
+number_back (Ok x) = refl
+number_back (Err Setting) = refl
+number_back (Err Unsound) = refl
+number_back (Err Time) = refl
+number_back (Err Size) = refl
+number_back (Err Backlog) = refl
+number_back (Err WindowFull) = refl
+number_back (Err RingFull) = refl
+number_back (Err WrongPsn) = refl
+number_back (Err UnsentOrOld) = refl
+number_back (Err NotFlying) = refl
+number_back (Err Sinks) = refl
+number_back (Err Malformed) = refl
+number_back (Err NoRoom) = refl
+number_back (Err Bytes) = refl
+number_back (Err Count) = refl
+number_back (Err Reason) = refl
+number_back (Err Ev) = refl
+number_back (Err Trigger) = refl
+number_back (Err Flow) = refl
+number_back (Err PlanTooLong) = refl
+number_back (Err LogTooLong) = refl
 
--- no number is past the table's last
-pub number_most : (v : Verdict) → number_of v ≤ 28
+not_both : true ≡ false → ⊥
+not_both e = subst (λ (t : Bool). cond t (Unit {0}) ⊥) e tt
+
+refused_least : (T : Type 0) (r : Refusal) → 1 ≤ number_of {T = T} (Err r)
 unfolding number_of
-number_most Accepted = omega arith
-number_most Setting = omega arith
-number_most Unsound = omega arith
-number_most Time = omega arith
-number_most Size = omega arith
-number_most Backlog = omega arith
-number_most WindowFull = omega arith
-number_most RingFull = omega arith
-number_most WrongPsn = omega arith
-number_most UnsentOrOld = omega arith
-number_most NotFlying = omega arith
-number_most Sinks = omega arith
-number_most Malformed = omega arith
-number_most NoRoom = omega arith
-number_most Bytes = omega arith
-number_most Count = omega arith
-number_most Reason = omega arith
-number_most Ev = omega arith
-number_most Trigger = omega arith
-number_most Flow = omega arith
-number_most PlanTooLong = omega arith
-number_most LogTooLong = omega arith
+refused_least T Setting = omega arith
+refused_least T Unsound = omega arith
+refused_least T Time = omega arith
+refused_least T Size = omega arith
+refused_least T Backlog = omega arith
+refused_least T WindowFull = omega arith
+refused_least T RingFull = omega arith
+refused_least T WrongPsn = omega arith
+refused_least T UnsentOrOld = omega arith
+refused_least T NotFlying = omega arith
+refused_least T Sinks = omega arith
+refused_least T Malformed = omega arith
+refused_least T NoRoom = omega arith
+refused_least T Bytes = omega arith
+refused_least T Count = omega arith
+refused_least T Reason = omega arith
+refused_least T Ev = omega arith
+refused_least T Trigger = omega arith
+refused_least T Flow = omega arith
+refused_least T PlanTooLong = omega arith
+refused_least T LogTooLong = omega arith
 
--- what a test of a verdict tells: `is_accepted` answers b
-module _ (v : Verdict) (b : Bool) (e : b ≡ eqb (number_of v) 0) where
-  pub accepted_zero : b ≡ true → number_of v ≡ 0
-  accepted_zero t = eqb-true (number_of v) 0 (sym e ∙ t)
+-- a row's number is not 0 and not past the table's last; what a test of an answer tells: `is_ok` or `is_err` answers b
+module _ {T : Type 0} where
+  pub number_most : (v : Result T Refusal) → number_of v ≤ 28
+  unfolding number_of
+  number_most (Ok x) = omega arith
+  number_most (Err Setting) = omega arith
+  number_most (Err Unsound) = omega arith
+  number_most (Err Time) = omega arith
+  number_most (Err Size) = omega arith
+  number_most (Err Backlog) = omega arith
+  number_most (Err WindowFull) = omega arith
+  number_most (Err RingFull) = omega arith
+  number_most (Err WrongPsn) = omega arith
+  number_most (Err UnsentOrOld) = omega arith
+  number_most (Err NotFlying) = omega arith
+  number_most (Err Sinks) = omega arith
+  number_most (Err Malformed) = omega arith
+  number_most (Err NoRoom) = omega arith
+  number_most (Err Bytes) = omega arith
+  number_most (Err Count) = omega arith
+  number_most (Err Reason) = omega arith
+  number_most (Err Ev) = omega arith
+  number_most (Err Trigger) = omega arith
+  number_most (Err Flow) = omega arith
+  number_most (Err PlanTooLong) = omega arith
+  number_most (Err LogTooLong) = omega arith
 
-  pub refused_not : b ≡ false → number_of v ≡ 0 → ⊥
-  refused_not f = eqb-false (number_of v) 0 (sym e ∙ f)
+  pub accepted_zero : (v : Result T Refusal) (b : Bool) → b ≡ is_ok v → b ≡ true → number_of v ≡ 0
+  unfolding number_of
+  accepted_zero (Ok x) b e t = refl
+  accepted_zero (Err r) b e t = absurd (not_both (sym t ∙ e))
+
+  pub refused_not : (v : Result T Refusal) (b : Bool) → b ≡ is_ok v → b ≡ false → number_of v ≡ 0 → ⊥
+  refused_not (Ok x) b e f z = not_both (sym e ∙ f)
+  refused_not (Err r) b e f z = omega (arith, refused_least T r, z)
+
+  pub unrefused_zero : (v : Result T Refusal) (b : Bool) → b ≡ is_err v → b ≡ false → number_of v ≡ 0
+  unfolding number_of
+  unrefused_zero (Ok x) b e f = refl
+  unrefused_zero (Err r) b e f = absurd (not_both (sym e ∙ f))
+
+  pub unaccepted_not : (v : Result T Refusal) (b : Bool) → b ≡ is_err v → b ≡ true → number_of v ≡ 0 → ⊥
+  unaccepted_not (Ok x) b e t z = not_both (sym t ∙ e)
+  unaccepted_not (Err r) b e t z = omega (arith, refused_least T r, z)

@@ -33,7 +33,7 @@ use Rattle.sender.specs.declared.Send.{Send}
 use Rattle.sender.specs.declared.Ack.{Ack}
 use Rattle.sender.specs.declared.Nack.{Nack}
 use Rattle.sender.specs.declared.Loss.{Loss}
-use Rattle.rules.specs.declared.verdict.Verdict.TheVariants.{Accepted}
+use Rattle.rules.specs.declared.verdict.Refusal.TheVariants.{Accepted}
 use Rattle.rules.specs.Verdict.{number_of}
 
 -- an accepted event has number 0

@@ -24,7 +24,7 @@ use Rattle.window.specs.Quick.{above_zero}
 use Rattle.window.specs.Events.{ack_of, nack_of, loss_of}
 use Rattle.window.specs.declared.Settings.{Settings}
 use Rattle.window.specs.declared.Window.{Window}
-use Rattle.window.specs.declared.Sample.{Sample}
+use Rattle.window.specs.Sample.{Sample}
 use Rattle.window.specs.declared.Sampling.{Sampling}
 use Rattle.window.proofs.Tests.{window_later, sample_bounds, same_sample}
 use Rattle.window.proofs.Keeps.{cwnd_most}

@@ -7,7 +7,7 @@ use Rattle.window.specs.Delays.{sample_of, sampling_of}
 use Rattle.window.specs.Events.{ack_of, nack_of, loss_of}
 use Rattle.window.specs.declared.Settings.{Settings}
 use Rattle.window.specs.declared.Window.{Window}
-use Rattle.window.specs.declared.Sample.{Sample}
+use Rattle.window.specs.Sample.{Sample}
 use Rattle.window.specs.declared.Sampling.{Sampling}
 use Rattle.paths.specs.Path.{with_time, choice}
 use Rattle.paths.specs.declared.Choice.{Choice}

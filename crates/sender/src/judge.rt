@@ -13,7 +13,7 @@ ghost use Rattle.sender.specs.Rows.{new_data_rows, send_all_rows, ack_all_rows, 
 use crate::naming::has_room;
 use crate::{Ack, Controller, Loss, Nack, Send};
 use ledger::Books;
-use rules::verdict::{Verdict, is_accepted};
+use rules::verdict::{Refusal, Verdict};
 
 // Refusal 3: a time before the held clock, or 2^48 or more.
 fn bad_time(time: u64, clock: u64) -> bool
@@ -30,12 +30,12 @@ pub(crate) fn judge_new_data(c: Controller, time: u64, bytes: u64) -> Verdict
     let flow = c.flow;
     let backlog = flow.backlog;
     if bad_time(time, c.clock) {
-        return Verdict::Time;
+        return Err(Refusal::Time);
     }
     if (bytes == 0) | (ledger::BACKLOG_MOST - backlog < bytes) {
-        return Verdict::Bytes;
+        return Err(Refusal::Bytes);
     }
-    Verdict::Accepted
+    Ok(())
 }
 
 // A send, past 3 and 4: what the ledger refuses, then 6.
@@ -46,13 +46,13 @@ fn judge_room(c: Controller, verdict: Verdict) -> Verdict
     let settings = c.settings;
     let window = c.window;
     let totals = c.totals;
-    if !is_accepted(verdict) {
+    if verdict.is_err() {
         return verdict;
     }
     if has_room(settings.mtu, window.cwnd, totals.in_flight) {
-        return Verdict::Accepted;
+        return Ok(());
     }
-    Verdict::WindowFull
+    Err(Refusal::WindowFull)
 }
 
 // A send: 3, 4, 8, 5, 7, 6.
@@ -73,10 +73,10 @@ pub(crate) fn judge_send<'a>(
     let settings = c.settings;
     let flow = c.flow;
     if bad_time(time, c.clock) {
-        return Verdict::Time;
+        return Err(Refusal::Time);
     }
     if !rules::within(ledger::SIZE_LEAST as u64, a.size as u64, settings.mtu) {
-        return Verdict::Size;
+        return Err(Refusal::Size);
     }
     if a.resend {
         return judge_room(
@@ -96,16 +96,16 @@ pub(crate) fn judge_ack(c: Controller, time: u64, a: Ack) -> Verdict
     let flow = c.flow;
     let totals = c.totals;
     if bad_time(time, c.clock) {
-        return Verdict::Time;
+        return Err(Refusal::Time);
     }
     if serial::COUNTS <= a.count as u64 {
-        return Verdict::Count;
+        return Err(Refusal::Count);
     }
     if settings.ev_count <= a.ev as u64 {
-        return Verdict::Ev;
+        return Err(Refusal::Ev);
     }
     if !serial::covers(a.cum, a.map, a.trigger) {
-        return Verdict::Trigger;
+        return Err(Refusal::Trigger);
     }
     ledger::judge::judge_ack(Books { flow, totals }, a.cum, a.map, a.count)
 }
@@ -129,13 +129,13 @@ pub(crate) fn judge_nack<'a>(
     let flow = c.flow;
     let totals = c.totals;
     if bad_time(time, c.clock) {
-        return Verdict::Time;
+        return Err(Refusal::Time);
     }
     if crate::REASON_MOST < a.reason {
-        return Verdict::Reason;
+        return Err(Refusal::Reason);
     }
     if settings.ev_count <= a.ev as u64 {
-        return Verdict::Ev;
+        return Err(Refusal::Ev);
     }
     ledger::judge::judge_mark(
         Books { flow, totals },
@@ -166,10 +166,10 @@ pub(crate) fn judge_loss<'a>(
     let flow = c.flow;
     let totals = c.totals;
     if bad_time(time, c.clock) {
-        return Verdict::Time;
+        return Err(Refusal::Time);
     }
     if settings.ev_count <= a.ev as u64 {
-        return Verdict::Ev;
+        return Err(Refusal::Ev);
     }
     ledger::judge::judge_mark(
         Books { flow, totals },
@@ -186,7 +186,7 @@ pub(crate) fn judge_path(c: Controller, time: u64) -> Verdict
     ensures { number_of result ≡ first_of (path_rows time c) }
 {
     if bad_time(time, c.clock) {
-        return Verdict::Time;
+        return Err(Refusal::Time);
     }
-    Verdict::Accepted
+    Ok(())
 }

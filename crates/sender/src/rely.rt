@@ -12,7 +12,7 @@ ghost use Rattle.sender.specs.Events.{past_loss, past_path};
 use crate::{
     Ack, Answer, Controller, Feedback, Heard, Loss, Nack, Routed, Send, judge, steps, unheard,
 };
-use rules::verdict::{Verdict, is_accepted};
+use rules::verdict::Verdict;
 
 // New data in the backlog. The ring and the EV times are lent for what is required of them.
 pub fn new_data<'a>(
@@ -30,13 +30,13 @@ pub fn new_data<'a>(
         ≡ past_new_data time bytes (world_before c outstanding.now marked.now sizes.now sent.now evs.now) }
 {
     let verdict = judge::judge_new_data(c, time, bytes);
-    if !is_accepted(verdict) {
+    if verdict.is_err() {
         return Answer { state: c, verdict };
     }
     let state = steps::new_data(c, time, bytes);
     Answer {
         state,
-        verdict: Verdict::Accepted,
+        verdict: Ok(()),
     }
 }
 
@@ -56,13 +56,13 @@ pub fn send<'a, 'b, 'c, 'd, 'e>(
         ≡ past_send time a (world_before c outstanding.old marked.old sizes.old sent.old evs.now) }
 {
     let verdict = judge::judge_send(c, outstanding, marked, sizes, sent, time, a);
-    if !is_accepted(verdict) {
+    if verdict.is_err() {
         return Answer { state: c, verdict };
     }
     let state = steps::send(c, outstanding, marked, sizes, sent, evs, time, a);
     Answer {
         state,
-        verdict: Verdict::Accepted,
+        verdict: Ok(()),
     }
 }
 
@@ -83,7 +83,7 @@ pub fn ack<'a, 'b, 'c, 'd, 'e>(
     ensures feedback_value { says_of result.feedback ≡ past_ack_says time a (world_before c outstanding.old marked.old sizes.old sent.old evs.old) }
 {
     let verdict = judge::judge_ack(c, time, a);
-    if !is_accepted(verdict) {
+    if verdict.is_err() {
         return unheard(c, verdict);
     }
     let sensed = steps::ack(c, outstanding, marked, sizes, sent, evs, time, a);
@@ -91,7 +91,7 @@ pub fn ack<'a, 'b, 'c, 'd, 'e>(
     let sampling = sensed.sampling;
     Heard {
         state,
-        verdict: Verdict::Accepted,
+        verdict: Ok(()),
         feedback: Feedback::Sampled(sampling),
     }
 }
@@ -115,7 +115,7 @@ pub fn nack<'a, 'b, 'c>(
     let verdict = judge::judge_nack(c, outstanding, marked, sizes, sent, time, a);
     let mut state = c;
     let mut feedback = Feedback::Nothing;
-    if is_accepted(verdict) {
+    if verdict.is_ok() {
         let sensed = steps::nack(c, outstanding, marked, sizes, sent, evs, time, a);
         state = sensed.state;
         let sampling = sensed.sampling;
@@ -145,7 +145,7 @@ pub fn loss<'a, 'b, 'c>(
 {
     let verdict = judge::judge_loss(c, outstanding, marked, sizes, sent, time, a);
     let mut state = c;
-    if is_accepted(verdict) {
+    if verdict.is_ok() {
         state = steps::loss(c, outstanding, marked, sizes, sent, evs, time, a);
     }
     Answer { state, verdict }
@@ -166,7 +166,7 @@ pub fn path<'a>(
         ≡ past_path time (world_before c outstanding.now marked.now sizes.now sent.now evs.now) }
 {
     let verdict = judge::judge_path(c, time);
-    if !is_accepted(verdict) {
+    if verdict.is_err() {
         return Routed {
             state: c,
             verdict,
@@ -177,7 +177,7 @@ pub fn path<'a>(
     let state = stepped.state;
     Routed {
         state,
-        verdict: Verdict::Accepted,
+        verdict: Ok(()),
         ev: stepped.ev,
     }
 }

@@ -25,8 +25,8 @@ use Rattle.window.specs.declared.Settings.{Settings}
 use Rattle.window.specs.declared.Window.{Window}
 use Rattle.window.specs.declared.Delayed.{Delayed}
 use Rattle.window.specs.declared.Adapted.{Adapted}
-use Rattle.window.specs.declared.Sample.{Sample}
-use Rattle.window.specs.declared.Sample.TheVariants.{Ticks, Absent}
+use Rattle.window.specs.Sample.{Sample}
+use Rattle.std.specs.Prelude.{Some, None}
 use Rattle.window.proofs.Numbers.{share}
 use Rattle.window.proofs.Steps.{feed_under}
 use Rattle.window.proofs.MaxWnd.{max_wnd_low, max_wnd_high}
@@ -160,20 +160,20 @@ module _ {s : Settings} {time : ℕ} (R : InRange s) where
       {w : Window} (sample : Sample) → Sampled sample → SoundWindow s time w →
       SoundWindow s time (update_base_rtt_of s sample w)
   unfolding update_base_rtt_of
-  sound_update_base_rtt {w} (Ticks t) S H = omega (arith, S.low t refl, max_wnd_low R (min w.base t))
-  sound_update_base_rtt Absent S H = H
+  sound_update_base_rtt {w} (Some t) S H = omega (arith, S.low t refl, max_wnd_low R (min w.base t))
+  sound_update_base_rtt None S H = H
 
   pub sound_measure :
       {w : Window} (marked : Bool) (sample : Sample) → Sampled sample → SoundWindow s time w →
       SoundWindow s time (measure_of s marked sample w).window
   unfolding measure_of update_base_rtt_of
-  sound_measure {w} marked (Ticks t) S H =
+  sound_measure {w} marked (Some t) S H =
       let high = S.high t refl in
       let base = min w.base t in
       let x = feed_under s.target_qdelay base marked (t - base) sample_most (omega arith) (omega arith) in
       let avg = update_delay_high w.avg _ H.avg_high x in
       omega (arith, S.low t refl, max_wnd_low R base)
-  sound_measure marked Absent S H = H
+  sound_measure marked None S H = H
 
   pub step_measure :
       {w : Window} {d : Delayed} (marked : Bool) (sample : Sample) →

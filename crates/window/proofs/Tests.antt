@@ -19,8 +19,8 @@ use Rattle.window.specs.Sound.{sound_window, SoundWindow, fresh_of}
 use Rattle.window.specs.Delays.{one_send, sample_of, take_sample_of, sampling_of, sample_in, Sampled}
 use Rattle.window.specs.declared.Settings.{Settings}
 use Rattle.window.specs.declared.Window.{Window}
-use Rattle.window.specs.declared.Sample.{Sample}
-use Rattle.window.specs.declared.Sample.TheVariants.{Ticks, Absent}
+use Rattle.window.specs.Sample.{Sample}
+use Rattle.std.specs.Prelude.{Some, None}
 use Rattle.window.specs.declared.Sampling.{Sampling}
 use Rattle.window.proofs.MaxWnd.{max_wnd_fresh}
 
@@ -155,22 +155,22 @@ module _ (outstanding : Bool) (resent : ℕ) (retx : Bool) (time sent service : 
   -- where 01's conditions hold the sample is now - sent - service, cut at 2^20 ..
   pub sample_exists :
       Exists outstanding resent retx time sent service →
-      sample_of outstanding resent retx time sent service ≡ Ticks (min (time - sent - service) sample_most)
+      sample_of outstanding resent retx time sent service ≡ Some (min (time - sent - service) sample_most)
   unfolding sample_of
   sample_exists x =
       let cut : min (time - sent - service) sample_most ≡ min (time - (sent + service)) sample_most = omega arith in
       let copy = one_copy resent retx x.copy in
       let late : sent + service < time = omega arith in
-      sym (so_yes _ _ _ _ x.known (so_yes _ _ _ _ copy (lt_yes _ _ _ _ _ late (ap Ticks cut))))
+      sym (so_yes _ _ _ _ x.known (so_yes _ _ _ _ copy (lt_yes _ _ _ _ _ late (ap Some cut))))
 
   -- .. and where there is a sample they hold, and it is that
   pub exists_sample :
-      (t : ℕ) → sample_of outstanding resent retx time sent service ≡ Ticks t →
+      (t : ℕ) → sample_of outstanding resent retx time sent service ≡ Some t →
       Exists outstanding resent retx time sent service × (t ≡ min (time - sent - service) sample_most)
   unfolding sample_of
   exists_sample t =
       let P : Sample → Type 0 =
-      λ p. p ≡ Ticks t → Exists outstanding resent retx time sent service × (t ≡ min (time - sent - service) sample_most) in
+      λ p. p ≡ Some t → Exists outstanding resent retx time sent service × (t ≡ min (time - sent - service) sample_most) in
       so_both P outstanding _ _
       (λ known.
       so_both P (one_send resent retx) _ _
@@ -183,7 +183,7 @@ module _ (outstanding : Bool) (resent : ℕ) (retx : Bool) (time sent service : 
       (λ copy e. never e))
       (λ known e. never e)
     where
-      never : {A : Type 0} {t : ℕ} → Absent ≡ Ticks t → A
+      never : {A : Type 0} {t : ℕ} → None ≡ Some t → A
       never e = let z : ◌≡◌ {A = ℕ} 0 1 = cc in absurd (let k : ⊥ = omega arith in k)
 
   pub sample_bounds : Sampled (sample_of outstanding resent retx time sent service)
@@ -205,8 +205,8 @@ module _ (outstanding : Bool) (resent : ℕ) (retx : Bool) (time sent service : 
       lt_both P (sent + service) time _ _
       (λ late.
       lt_both P sample_most (time - (sent + service)) _ _
-      (λ above. so_yes _ _ _ _ known (so_yes _ _ _ _ copy (lt_yes _ _ _ _ _ late (ap Ticks (omega arith)))))
-      (λ above. so_yes _ _ _ _ known (so_yes _ _ _ _ copy (lt_yes _ _ _ _ _ late (ap Ticks (omega arith))))))
+      (λ above. so_yes _ _ _ _ known (so_yes _ _ _ _ copy (lt_yes _ _ _ _ _ late (ap Some (omega arith)))))
+      (λ above. so_yes _ _ _ _ known (so_yes _ _ _ _ copy (lt_yes _ _ _ _ _ late (ap Some (omega arith))))))
       (λ late. so_yes _ _ _ _ known (so_yes _ _ _ _ copy (lt_no _ _ _ _ _ late refl))))
       (λ copy. so_yes _ _ _ _ known (so_no _ _ _ _ copy refl)))
       (λ known. so_no _ _ _ _ known refl)

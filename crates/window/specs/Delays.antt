@@ -7,8 +7,8 @@ use Rattle.window.specs.Fields.{with_cwnd, with_base, with_avg}
 use Rattle.window.specs.declared.Settings.{Settings}
 use Rattle.window.specs.declared.Window.{Window}
 use Rattle.window.specs.declared.Delayed.{Delayed}
-use Rattle.window.specs.declared.Sample.{Sample}
-use Rattle.window.specs.declared.Sample.TheVariants.{Ticks, Absent}
+use Rattle.window.specs.Sample.{Sample}
+use Rattle.std.specs.Prelude.{Some, None}
 use Rattle.window.specs.declared.Sampling.{Sampling}
 use Rattle.window.specs.declared.Sampling.TheVariants.{Taken, Cut, Gone, Ambiguous, NotPositive}
 
@@ -22,9 +22,9 @@ unfoldable pub sample_of : Bool → ℕ → Bool → ℕ → ℕ → ℕ → Sam
 sample_of outstanding resent retx time sent service =
     if_so outstanding
     (if_so (one_send resent retx)
-    (if_lt (sent + service) time (Ticks (min (time - (sent + service)) sample_most)) Absent)
-    Absent)
-    Absent
+    (if_lt (sent + service) time (Some (min (time - (sent + service)) sample_most)) None)
+    None)
+    None
 
 -- "A sample above 2^20 counts as 2^20", and by request M-103 it is told from one that is not cut
 unfoldable pub take_sample_of : ℕ → Sampling
@@ -42,11 +42,11 @@ sampling_of outstanding resent retx time sent service =
 
 -- what the window's rules use of it: 01's sample (`same_sample`), so "Window rules are unchanged"
 unfoldable pub sample_in : Sampling → Sample
-sample_in (Taken t) = Ticks t
-sample_in Cut = Ticks sample_most
-sample_in Gone = Absent
-sample_in Ambiguous = Absent
-sample_in NotPositive = Absent
+sample_in (Taken t) = Some t
+sample_in Cut = Some sample_most
+sample_in Gone = None
+sample_in Ambiguous = None
+sample_in NotPositive = None
 
 -- get_avg_delay: "held in 1/1,024 tick, read by dividing by 1,024"
 unfoldable pub avg_delay_of : ℕ → ℕ
@@ -64,23 +64,23 @@ feed_of target base marked delay =
 -- "base = min(base, sample)"; request M-101: where base falls max_wnd is worked out anew, "and cwnd is clamped to it at that moment".
 -- Where it does not, cwnd stands under it already
 unfoldable pub update_base_rtt_of : Settings → Sample → Window → Window
-update_base_rtt_of s (Ticks t) w =
+update_base_rtt_of s (Some t) w =
     let base = min w.base t in
     with_cwnd (min w.cwnd (max_wnd_of s base)) (with_base base w)
-update_base_rtt_of s Absent w = w
+update_base_rtt_of s None w = w
 
 -- "delay = sample - base", and the filter is fed. "No sample on an ACK (H): delay is the average, the filter is not fed."
 unfoldable pub measure_of : Settings → Bool → Sample → Window → Delayed
-measure_of s marked (Ticks t) w =
-    let v = update_base_rtt_of s (Ticks t) w in
+measure_of s marked (Some t) w =
+    let v = update_base_rtt_of s (Some t) w in
     let delay = t - v.base in
     record {
       window = with_avg (update_delay_of w.avg (feed_of s.target_qdelay v.base marked delay)) v;
       delay = delay;
     }
-measure_of s marked Absent w = record { window = w; delay = avg_delay_of w.avg }
+measure_of s marked None w = record { window = w; delay = avg_delay_of w.avg }
 
 -- a sample is at least 1 and at most 2^20
 pub record Sampled (p : Sample) : Type 0 where
-  pub low : (t : ℕ) → p ≡ Ticks t → 1 ≤ t
-  pub high : (t : ℕ) → p ≡ Ticks t → t ≤ sample_most
+  pub low : (t : ℕ) → p ≡ Some t → 1 ≤ t
+  pub high : (t : ℕ) → p ≡ Some t → t ≤ sample_most

@@ -13,7 +13,7 @@ use Rattle.window.specs.declared.Settings.{Settings}
 use Rattle.window.specs.declared.Window.{Window}
 use Rattle.window.specs.declared.Delayed.{Delayed}
 use Rattle.window.specs.declared.Adapted.{Adapted}
-use Rattle.window.specs.declared.Sample.{Sample}
+use Rattle.window.specs.Sample.{Sample}
 
 -- "if it fired, stop. Then by M flag and delay" one of the four cases, and the adjustment
 unfoldable pub go_on_of : Settings → ℕ → ℕ → Bool → ℕ → Adapted → Window

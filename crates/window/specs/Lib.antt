@@ -3,6 +3,7 @@ pub mod Limits
 pub mod Range
 pub mod Fields
 pub mod Sound
+pub mod Sample
 pub mod Delays
 pub mod Quick
 pub mod Cases

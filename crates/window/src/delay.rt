@@ -6,7 +6,7 @@ ghost use Rattle.window.specs.Delays.{one_send, take_sample_of, sampling_of, sam
 ghost use Rattle.window.specs.Delays.{avg_delay_of, update_delay_of, feed_of, update_base_rtt_of, measure_of};
 
 use crate::bounds::max_wnd;
-use crate::{Delayed, Sample, Sampling, Settings, Window};
+use crate::{Delayed, Sampling, Settings, Window};
 use rules::least;
 
 // Whether a resend count and a retx flag tell which copy of the packet an answer is to.
@@ -56,16 +56,16 @@ pub fn sampling(
     take_sample(time - sent - service)
 }
 
-// What the window's rules use of it.
-pub fn sample_in(sampling: Sampling) -> Sample
+// The sample that the window's rules use of it: how many ticks, or none.
+pub fn sample_in(sampling: Sampling) -> Option<u64>
     ensures { result ≡ sample_in sampling }
 {
     match sampling {
-        Sampling::Taken(t) => Sample::Ticks(t),
-        Sampling::Cut => Sample::Ticks(crate::SAMPLE_MOST),
-        Sampling::Gone => Sample::Absent,
-        Sampling::Ambiguous => Sample::Absent,
-        Sampling::NotPositive => Sample::Absent,
+        Sampling::Taken(t) => Some(t),
+        Sampling::Cut => Some(crate::SAMPLE_MOST),
+        Sampling::Gone => None,
+        Sampling::Ambiguous => None,
+        Sampling::NotPositive => None,
     }
 }
 
@@ -97,12 +97,12 @@ fn feed(target: u64, base: u64, marked: bool, delay: u64) -> u64
 
 // base = min(base, sample), and cwnd = min(cwnd, max_wnd) at that base. UET 3.6.13.6, update_base_rtt. In a window that holds together cwnd
 // is at most max_wnd at the held base, so a sample that does not lower the base leaves all as it was.
-pub(crate) fn update_base_rtt(s: Settings, sample: Sample, w: Window) -> Window
+pub(crate) fn update_base_rtt(s: Settings, sample: Option<u64>, w: Window) -> Window
     requires in_range { InRange s }
     requires base_bound { (w.base ≤ s.config_base_rtt) × (w.cwnd ≤ max_wnd_of s w.base) }
     ensures { result ≡ update_base_rtt_of s sample w }
 {
-    let Sample::Ticks(t) = sample else {
+    let Some(t) = sample else {
         return w;
     };
     if w.base <= t {
@@ -116,13 +116,13 @@ pub(crate) fn update_base_rtt(s: Settings, sample: Sample, w: Window) -> Window
 
 // Sample and filter of an ACK: delay = sample - base. Without a sample the delay is the average, and the filter is not fed (H).
 // UET 3.6.13.5, OnACK.
-pub(crate) fn measure(s: Settings, marked: bool, sample: Sample, w: Window) -> Delayed
+pub(crate) fn measure(s: Settings, marked: bool, sample: Option<u64>, w: Window) -> Delayed
     requires in_range { InRange s }
     requires sampled { Sampled sample }
     requires base_bound { (w.base ≤ s.config_base_rtt) × (w.cwnd ≤ max_wnd_of s w.base) × (w.avg ≤ avg_most) }
     ensures { result ≡ measure_of s marked sample w }
 {
-    let Sample::Ticks(t) = sample else {
+    let Some(t) = sample else {
         return Delayed {
             window: w,
             delay: avg_delay(w.avg),

@@ -12,7 +12,7 @@ use crate::adjust::adjust;
 use crate::cases::{add_to_tally, count_newly, respond};
 use crate::delay::{measure, update_base_rtt, update_delay};
 use crate::quick::quick_adapt;
-use crate::{Adapted, Sample, Settings, Window};
+use crate::{Adapted, Settings, Window};
 use rules::{ON, most};
 
 // The window after an ACK that brings newly bytes: the tallies, the sample and the filter, quick adapt, and unless it fired the four cases
@@ -22,7 +22,7 @@ pub fn ack(
     time: u64,
     newly: u64,
     marked: bool,
-    sample: Sample,
+    sample: Option<u64>,
     in_flight: i64,
     w: Window,
 ) -> Window
@@ -86,7 +86,7 @@ pub fn nack(
     time: u64,
     size: u64,
     reason: u64,
-    sample: Sample,
+    sample: Option<u64>,
     in_flight: i64,
     w: Window,
 ) -> Window

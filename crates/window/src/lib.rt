@@ -100,13 +100,6 @@ pub struct Window {
     pub last_dec: u64,
 }
 
-// A round-trip sample: how many ticks, or none.
-#[derive(Clone, Copy)]
-pub enum Sample {
-    Ticks(u64),
-    Absent,
-}
-
 // What the sample step says, by request M-103. The last three, in the order in which they are tested, say why there is no sample.
 #[derive(Clone, Copy)]
 pub enum Sampling {

@@ -1,7 +1,7 @@
 -- `judge_room` hands on the verdict that it is given, and where that is accepted tests the room, on in-flight's word.
 use mathlib.Core.Path.{◌≡◌, refl, sym, ap, ◌∙◌}
 use Rattle.rules.specs.Branch.{eq_yes, eq_no, so_yes, so_no}
-use Rattle.rules.specs.Verdict.{number_of, accepted_zero, refused_not}
+use Rattle.rules.specs.Verdict.{number_of, unrefused_zero, unaccepted_not}
 use Rattle.ledger.proofs.Signs.{word}
 use Rattle.sender.specs.Named.{has_room}
 use Rattle.plan.specs.Ahead.{room_then}
@@ -17,11 +17,11 @@ room c =
 
 -- the verdict that was given is accepted
 zero : (c : After-has_room) → number_of c.args.verdict ≡ 0
-zero c = accepted_zero _ _ c.is_accepted.ensures c.if-not-is_accepted.false
+zero c = unrefused_zero _ _ c.is_err.ensures c.if-is_err.false
 
-pub returns-then-not-is_accepted : goal.returns-then-not-is_accepted
+pub returns-then-is_err : goal.returns-then-is_err
 unfolding room_then
-returns-then-not-is_accepted c = eq_no _ 0 _ _ _ (refused_not _ _ c.is_accepted.ensures c.if-not-is_accepted.true) refl
+returns-then-is_err c = eq_no _ 0 _ _ _ (unaccepted_not _ _ c.is_err.ensures c.if-is_err.true) refl
 
 pub returns-then-has_room : goal.returns-then-has_room
 unfolding room_then number_of

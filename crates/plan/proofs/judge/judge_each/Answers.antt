@@ -2,7 +2,7 @@
 use mathlib.Core.Path.{◌≡◌, ap, ◌∙◌}
 use Prim.Native.Nat.{ℕ}
 use native.Mathlib.Omega.{arith}
-use Rattle.rules.specs.Verdict.{number_of, accepted_zero, refused_not}
+use Rattle.rules.specs.Verdict.{number_of, unrefused_zero, unaccepted_not}
 use Rattle.ledger.specs.Memory.{memory}
 use Rattle.context.specs.Context.{context}
 use Rattle.plan.specs.Plan.{planned_at, sends_from, plan_of}
@@ -12,7 +12,7 @@ use Rattle.plan.specs.declared.Planned.{Planned}
 use Rattle.plan.proofs.Agrees.{agrees_flown}
 use Rattle.plan.proofs.Made.{reached_start, reached_end, reached_refused, after_asks, reached_next}
 use Rattle.plan.proofs.judge.judge_each.Goals as goal
-use Rattle.plan.proofs.judge.judge_each.Goals.{After-judge_next-verdict, At-loop-i, Else-not-is_accepted}
+use Rattle.plan.proofs.judge.judge_each.Goals.{After-judge_next-verdict, At-loop-i, Else-is_err}
 
 -- the number that was told is that of the plan's send i
 told : (c : After-judge_next-verdict) →
@@ -38,8 +38,8 @@ whole c =
     ap (λ (m : ℕ). made_from c.args.time 0 (sends_from c.args.plan.now 0 m) handed) c.count-n.ensures
 
 -- send i was accepted
-accepted : (c : Else-not-is_accepted) → number_of c.judge_next-verdict.result ≡ 0
-accepted c = accepted_zero c.judge_next-verdict.result _ c.is_accepted.ensures c.if-not-is_accepted.false
+accepted : (c : Else-is_err) → number_of c.judge_next-verdict.result ≡ 0
+accepted c = unrefused_zero c.judge_next-verdict.result _ c.is_err.ensures c.if-is_err.false
 
 pub loop-i-init : goal.loop-i-init
 loop-i-init c =
@@ -56,25 +56,25 @@ judge_next-verdict-requires c = record {
   i_bound = (omega (arith, c.loop-i-test.true, c.count-n.ensures), agrees_flown c.loop-i.invariant.agrees);
 }
 
-pub returns-then-not-is_accepted : goal.returns-then-not-is_accepted
-returns-then-not-is_accepted c =
-    let g = goal.at.returns-then-not-is_accepted c in
+pub returns-then-is_err : goal.returns-then-is_err
+returns-then-is_err c =
+    let g = goal.at.returns-then-is_err c in
     reached_refused c.loop-i.invariant c.loop-i-test.true (told g.After-judge_next-verdict)
-    (refused_not c.judge_next-verdict.result _ c.is_accepted.ensures c.if-not-is_accepted.true)
+    (unaccepted_not c.judge_next-verdict.result _ c.is_err.ensures c.if-is_err.true)
     ∙ whole g.At-loop-i
 
 pub after-s-requires : goal.after-s-requires
 after-s-requires c =
     let g = goal.at.after-s-requires c in
     let asks = after_asks c.loop-i.invariant c.loop-i-test.true (told g.After-judge_next-verdict)
-    (accepted g.Else-not-is_accepted) in
+    (accepted g.Else-is_err) in
     let p = c.send_at-p.ensures in
     record { flow_lt_flows_most = rw p asks.0; size_bound = rw p asks.1 }
 
 pub loop-i-preserved : goal.loop-i-preserved
 loop-i-preserved c =
     let g = goal.at.loop-i-preserved c in
-    reached_next c.loop-i.invariant c.loop-i-test.true (told g.After-judge_next-verdict) (accepted g.Else-not-is_accepted)
+    reached_next c.loop-i.invariant c.loop-i-test.true (told g.After-judge_next-verdict) (accepted g.Else-is_err)
     (c.after-s.ensures ∙ ap (ahead_after c.loop-i.s) c.send_at-p.ensures) (omega arith)
 
 pub returns : goal.returns

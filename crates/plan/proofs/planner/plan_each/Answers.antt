@@ -4,7 +4,7 @@ use mathlib.Core.Bool.{false}
 use Prim.Native.Nat.{ℕ, ◌/◌, ◌^◌, ◌<◌, ◌≤◌}
 use native.Mathlib.Omega.{arith}
 use lib.ListN.{length}
-use Rattle.rules.specs.Verdict.{number_of, accepted_zero, refused_not}
+use Rattle.rules.specs.Verdict.{number_of, unrefused_zero, unaccepted_not}
 use Rattle.ledger.specs.Bounds.{Flown}
 use Rattle.ledger.specs.Memory.{memory}
 use Rattle.flow_table.specs.Words.{flows_most}
@@ -19,7 +19,7 @@ use Rattle.plan.proofs.Judging.{rooms}
 use Rattle.plan.proofs.Courses.{turn_in}
 use Rattle.plan.proofs.Proposals.{planning_start, planning_full, planning_nobody, planning_refused, next_asks, planning_next}
 use Rattle.plan.proofs.planner.plan_each.Goals as goal
-use Rattle.plan.proofs.planner.plan_each.Goals.{After-judge_next-verdict, After-named-k, At-loop-i, Else-n-k, Else-not-is_accepted, Start}
+use Rattle.plan.proofs.planner.plan_each.Goals.{After-judge_next-verdict, After-named-k, At-loop-i, Else-n-k, Else-is_err, Start}
 
 facts : (c : Start) →
     let handed = let a = c.args in
@@ -69,10 +69,10 @@ told c =
     ∙ ap (λ (p : Planned). ahead_number handed c.loop-i.plan c.loop-i.i c.loop-i.s.ahead p) c.send_of-p.ensures
 
 -- its send is accepted
-accepted : (c : Else-not-is_accepted) → number_of c.judge_next-verdict.result ≡ 0
-accepted c = accepted_zero c.judge_next-verdict.result _ c.is_accepted.ensures c.if-not-is_accepted.false
+accepted : (c : Else-is_err) → number_of c.judge_next-verdict.result ≡ 0
+accepted c = unrefused_zero c.judge_next-verdict.result _ c.is_err.ensures c.if-is_err.false
 
-asks : (c : Else-not-is_accepted) →
+asks : (c : Else-is_err) →
     let handed = let a = c.args in
     context a.c a.flows.now (memory a.outstanding.now a.marked.now a.sizes.now a.sent.now) a.evs.now in
     let p = c.send_of-p.result in
@@ -143,26 +143,26 @@ judge_next-verdict-requires c =
       i_bound = (omega (arith, in_room g.At-loop-i c.loop-i-test.true), agrees_flown c.loop-i.invariant.agrees);
     }
 
-pub shape_of-plan-then-not-is_accepted : goal.shape_of-plan-then-not-is_accepted
-shape_of-plan-then-not-is_accepted c = c.loop-i.invariant.long
+pub shape_of-plan-then-is_err : goal.shape_of-plan-then-is_err
+shape_of-plan-then-is_err c = c.loop-i.invariant.long
 
-pub returns-then-not-is_accepted : goal.returns-then-not-is_accepted
-returns-then-not-is_accepted c =
-    let g = goal.at.returns-then-not-is_accepted c in
+pub returns-then-is_err : goal.returns-then-is_err
+returns-then-is_err c =
+    let g = goal.at.returns-then-is_err c in
     rw (← c.room-most.ensures)
     (planning_refused (facts g.Start) c.loop-i.invariant c.loop-i-test.true _ (who g.After-named-k) (there g.Else-n-k)
     (told g.After-judge_next-verdict)
-    (refused_not c.judge_next-verdict.result _ c.is_accepted.ensures c.if-not-is_accepted.true))
+    (unaccepted_not c.judge_next-verdict.result _ c.is_err.ensures c.if-is_err.true))
 
 pub put_send-requires : goal.put_send-requires
 put_send-requires c =
     let g = goal.at.put_send-requires c in
-    (in_room g.At-loop-i c.loop-i-test.true, (asks g.Else-not-is_accepted).0.1)
+    (in_room g.At-loop-i c.loop-i-test.true, (asks g.Else-is_err).0.1)
 
 pub after-s-requires : goal.after-s-requires
 after-s-requires c =
     let g = goal.at.after-s-requires c in
-    let told = asks g.Else-not-is_accepted in
+    let told = asks g.Else-is_err in
     record { evs_value = c.requires.evs_value; flow_bound = told.0; size_bound = told.1 }
 
 pub loop-i-preserved : goal.loop-i-preserved
@@ -172,7 +172,7 @@ loop-i-preserved c =
     context a.c a.flows.now (memory a.outstanding.now a.marked.now a.sizes.now a.sent.now) a.evs.now in
     let p = c.send_of-p.ensures in
     planning_next (facts g.Start) c.loop-i.invariant c.loop-i-test.true _ (who g.After-named-k) (there g.Else-n-k)
-    (told g.After-judge_next-verdict) (accepted g.Else-not-is_accepted)
+    (told g.After-judge_next-verdict) (accepted g.Else-is_err)
     (in_room g.At-loop-i c.loop-i-test.true)
     (c.after-s.ensures ∙ ap (course_after handed c.loop-i.s) p) (omega arith)
     (c.put_send.ensures ∙ ap (with_send c.loop-i.plan c.loop-i.i) p)

@@ -11,12 +11,12 @@ pub add-requires : goal.add-requires
 add-requires c =
     omega (arith, sent_inside _ c.sent_at.ensures, c.requires)
 
-pub returns-then-is_accepted : goal.returns-then-is_accepted
-returns-then-is_accepted c =
-    send_one _ _ _ _ _ _ c.in-Send.is (accepted_zero _ _ c.is_accepted.ensures c.if-is_accepted.true)
+pub returns-then-is_ok : goal.returns-then-is_ok
+returns-then-is_ok c =
+    send_one _ _ _ _ _ _ c.in-Send.is (accepted_zero _ _ c.is_ok.ensures c.if-is_ok.true)
     (rw c.sent_at.ensures at c.add.ensures)
 
-pub returns-else-is_accepted : goal.returns-else-is_accepted
-returns-else-is_accepted c =
+pub returns-else-is_ok : goal.returns-else-is_ok
+returns-else-is_ok c =
     send_refused _ _ _ _ _ _ c.in-Send.is
-    (refused_not _ _ c.is_accepted.ensures c.if-is_accepted.false)
+    (refused_not _ _ c.is_ok.ensures c.if-is_ok.false)

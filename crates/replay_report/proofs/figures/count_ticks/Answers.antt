@@ -10,7 +10,7 @@ pub returns-in_default : goal.returns-in_default
 returns-in_default c = ticks_none _ _ c.in_default.is
 
 pub overflow_add-bucket : goal.overflow_add-bucket
-overflow_add-bucket c = omega (arith, c.bucket.ensures, bucket_most c.in-Ticks.ticks)
+overflow_add-bucket c = omega (arith, c.bucket.ensures, bucket_most c.in-Some.ticks)
 
 pub add-requires : goal.add-requires
 add-requires c =
@@ -18,7 +18,7 @@ add-requires c =
     (omega (
       arith,
       c.bucket.ensures,
-      bucket_most c.in-Ticks.ticks,
+      bucket_most c.in-Some.ticks,
       c.requires,
     ))
 
@@ -27,6 +27,6 @@ shape_of-figures c = c.add.auto.figures ∙ simp length-set
 
 pub returns : goal.returns
 returns c =
-    ticks_one _ _ _ c.in-Ticks.is _ _ _ _
+    ticks_one _ _ _ c.in-Some.is _ _ _ _
     c.lesser_of.ensures c.most.ensures
     c.bucket.ensures c.add.ensures

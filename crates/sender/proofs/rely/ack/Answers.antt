@@ -1,7 +1,7 @@
 -- `ack` judges the rows past 2, then takes the step: each answer is a case of `past_ack`, by the laws of `Rowing`.
 use mathlib.Core.Path.{refl, sym, ap, ◌∙◌}
 use mathlib.Core.Option.{some}
-use Rattle.rules.specs.Verdict.{number_of, accepted_zero, refused_not}
+use Rattle.rules.specs.Verdict.{number_of, unrefused_zero, unaccepted_not}
 use Rattle.ledger.specs.Memory.{memory}
 use Rattle.sender.specs.World.{world, view_of, world_of}
 use Rattle.sender.specs.Rows.{ack_all_rows}
@@ -17,14 +17,14 @@ judge_ack-verdict-requires c =
     c.args.evs.now in
     holds_bounded (handed) c.requires
 
-pub returns-then-not-is_accepted : goal.returns-then-not-is_accepted
+pub returns-then-is_err : goal.returns-then-is_err
 unfolding past_ack
-returns-then-not-is_accepted c =
+returns-then-is_err c =
     let handed = world c.args.c (memory c.args.outstanding.now c.args.marked.now c.args.sizes.now c.args.sent.now)
     c.args.evs.now in
     let rows = ack_all_rows c.args.time c.args.a c.args.c in
     let stepped = world_of (ack_step c.args.time c.args.a (view_of (handed))) in
-    let refused = refused_not _ _ c.is_accepted.ensures c.if-not-is_accepted.true in
+    let refused = unaccepted_not _ _ c.is_err.ensures c.if-is_err.true in
     let same = ap number_of c.unheard.ensures.1 in
     let answer = answer_refused (handed) (rows) (stepped) _ _ (number_of c.judge_ack-verdict.result)
     c.judge_ack-verdict.ensures refused
@@ -38,7 +38,7 @@ returns-then-not-is_accepted c =
 pub ack-sensed-requires : goal.ack-sensed-requires
 ack-sensed-requires c = record {
   holds = c.requires;
-  c_value = sym c.judge_ack-verdict.ensures ∙ accepted_zero _ _ c.is_accepted.ensures c.if-not-is_accepted.false;
+  c_value = sym c.judge_ack-verdict.ensures ∙ unrefused_zero _ _ c.is_err.ensures c.if-is_err.false;
 }
 
 pub returns : goal.returns
@@ -48,7 +48,7 @@ returns c =
     c.args.evs.now in
     let rows = ack_all_rows c.args.time c.args.a c.args.c in
     let stepped = world_of (ack_step c.args.time c.args.a (view_of (handed))) in
-    let zero = accepted_zero _ _ c.is_accepted.ensures c.if-not-is_accepted.false in
+    let zero = unrefused_zero _ _ c.is_err.ensures c.if-is_err.false in
     let answer = answer_accepted (handed) (rows) (stepped) _ _ (number_of c.judge_ack-verdict.result) c.judge_ack-verdict.ensures zero
     c.ack-sensed.result.state (memory c.ack-sensed.new.outstanding c.ack-sensed.new.marked c.ack-sensed.new.sizes c.ack-sensed.new.sent) c.ack-sensed.new.evs
     c.ack-sensed.ensures.evs_value refl accepted_number in

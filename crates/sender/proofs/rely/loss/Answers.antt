@@ -23,27 +23,27 @@ judge_loss-verdict-requires c =
 pub loss-state-requires : goal.loss-state-requires
 loss-state-requires c = record {
   holds = c.requires;
-  evs_value = sym c.judge_loss-verdict.ensures ∙ accepted_zero _ _ c.is_accepted.ensures c.if-is_accepted.true;
+  evs_value = sym c.judge_loss-verdict.ensures ∙ accepted_zero _ _ c.is_ok.ensures c.if-is_ok.true;
 }
 
-pub returns-then-is_accepted : goal.returns-then-is_accepted
+pub returns-then-is_ok : goal.returns-then-is_ok
 unfolding past_loss
-returns-then-is_accepted c =
+returns-then-is_ok c =
     let handed = world c.args.c (memory c.args.outstanding.now c.args.marked.now c.args.sizes.now c.args.sent.now)
     c.args.evs.now in
     let rows = loss_all_rows c.args.time c.args.a c.args.c (ring_of (handed)) in
     let stepped = world_of (loss_step c.args.time c.args.a (view_of (handed))) in
-    let zero = accepted_zero _ _ c.is_accepted.ensures c.if-is_accepted.true in
+    let zero = accepted_zero _ _ c.is_ok.ensures c.if-is_ok.true in
     answer_accepted (handed) (rows) (stepped) _ _ (number_of c.judge_loss-verdict.result) c.judge_loss-verdict.ensures zero
     c.loss-state.result (memory c.args.outstanding.now c.loss-state.new.marked c.args.sizes.now c.args.sent.now) c.loss-state.new.evs
     c.loss-state.ensures refl zero
 
-pub returns-else-is_accepted : goal.returns-else-is_accepted
+pub returns-else-is_ok : goal.returns-else-is_ok
 unfolding past_loss
-returns-else-is_accepted c =
+returns-else-is_ok c =
     let handed = world c.args.c (memory c.args.outstanding.now c.args.marked.now c.args.sizes.now c.args.sent.now)
     c.args.evs.now in
     let rows = loss_all_rows c.args.time c.args.a c.args.c (ring_of (handed)) in
     let stepped = world_of (loss_step c.args.time c.args.a (view_of (handed))) in
     answer_refused (handed) (rows) (stepped) _ _ (number_of c.judge_loss-verdict.result) c.judge_loss-verdict.ensures
-    (refused_not _ _ c.is_accepted.ensures c.if-is_accepted.false) refl refl
+    (refused_not _ _ c.is_ok.ensures c.if-is_ok.false) refl refl

@@ -24,17 +24,17 @@ judge_nack-verdict-requires c =
 pub nack-sensed-requires : goal.nack-sensed-requires
 nack-sensed-requires c = record {
   holds = c.requires;
-  evs_value = sym c.judge_nack-verdict.ensures ∙ accepted_zero _ _ c.is_accepted.ensures c.if-is_accepted.true;
+  evs_value = sym c.judge_nack-verdict.ensures ∙ accepted_zero _ _ c.is_ok.ensures c.if-is_ok.true;
 }
 
-pub returns-then-is_accepted : goal.returns-then-is_accepted
+pub returns-then-is_ok : goal.returns-then-is_ok
 unfolding says_of past_nack
-returns-then-is_accepted c =
+returns-then-is_ok c =
     let handed = world c.args.c (memory c.args.outstanding.now c.args.marked.now c.args.sizes.now c.args.sent.now)
     c.args.evs.now in
     let rows = nack_all_rows c.args.time c.args.a c.args.c (ring_of (handed)) in
     let stepped = world_of (nack_step c.args.time c.args.a (view_of (handed))) in
-    let zero = accepted_zero _ _ c.is_accepted.ensures c.if-is_accepted.true in
+    let zero = accepted_zero _ _ c.is_ok.ensures c.if-is_ok.true in
     let answer = answer_accepted (handed) (rows) (stepped) _ _ (number_of c.judge_nack-verdict.result)
     c.judge_nack-verdict.ensures zero
     c.nack-sensed.result.state
@@ -45,14 +45,14 @@ returns-then-is_accepted c =
       feedback_value = says_sample answer (nack_sampling c.args.time c.args.a (view_of (handed))) zero (ap some c.nack-sensed.ensures.sampling_value);
     }
 
-pub returns-else-is_accepted : goal.returns-else-is_accepted
+pub returns-else-is_ok : goal.returns-else-is_ok
 unfolding says_of past_nack
-returns-else-is_accepted c =
+returns-else-is_ok c =
     let handed = world c.args.c (memory c.args.outstanding.now c.args.marked.now c.args.sizes.now c.args.sent.now)
     c.args.evs.now in
     let rows = nack_all_rows c.args.time c.args.a c.args.c (ring_of (handed)) in
     let stepped = world_of (nack_step c.args.time c.args.a (view_of (handed))) in
-    let refused = refused_not _ _ c.is_accepted.ensures c.if-is_accepted.false in
+    let refused = refused_not _ _ c.is_ok.ensures c.if-is_ok.false in
     let answer = answer_refused (handed) (rows) (stepped) _ _ (number_of c.judge_nack-verdict.result)
     c.judge_nack-verdict.ensures refused refl refl in
     record {

@@ -2,8 +2,8 @@
 use mathlib.Core.Path.{refl, sym, ap, ap₂, ◌∙◌}
 use mathlib.Core.List.{[]}
 use Prim.Native.Nat.{ℕ}
-use Rattle.rules.specs.Verdict.{number_of, accepted_zero, refused_not}
-use Rattle.rules.specs.declared.verdict.Verdict.TheVariants.{Accepted}
+use Rattle.rules.specs.Verdict.{number_of, unrefused_zero, unaccepted_not}
+use Rattle.rules.specs.declared.verdict.Refusal.TheVariants.{Accepted}
 use Rattle.ledger.specs.Memory.{Memory, memory}
 use Rattle.sender.specs.World.{world, view_of, routed}
 use Rattle.sender.specs.Rows.{path_rows}
@@ -16,16 +16,16 @@ use Rattle.sender.proofs.Stepping.{time_facts}
 use Rattle.sender.proofs.Rowing.{accepted_number, entry_refused, entry_accepted, taken, untaken}
 use Rattle.sender.proofs.rely.path.Goals as goal
 
-pub returns-then-not-is_accepted : goal.returns-then-not-is_accepted
+pub returns-then-is_err : goal.returns-then-is_err
 unfolding past_path
-returns-then-not-is_accepted c =
+returns-then-is_err c =
     let handed = world c.args.c (memory c.args.outstanding.now c.args.marked.now c.args.sizes.now c.args.sent.now)
     c.args.evs.now in
     let j = c.judge_path-verdict in
     let w = handed in
     let time = c.args.time in
     entry_refused (path_rows time w.state) (taken time w) (λ n. untaken n w) (number_of j.result) j.ensures
-    (untaken (number_of j.result) w) (refused_not _ _ c.is_accepted.ensures c.if-not-is_accepted.true) refl
+    (untaken (number_of j.result) w) (unaccepted_not _ _ c.is_err.ensures c.if-is_err.true) refl
 
 pub path-stepped-requires : goal.path-stepped-requires
 path-stepped-requires c =
@@ -33,7 +33,7 @@ path-stepped-requires c =
     c.args.evs.now in
     let f = among_facts _ (view_of (handed)) c.requires.so in
     let j = c.judge_path-verdict in
-    let zero = accepted_zero _ _ c.is_accepted.ensures c.if-not-is_accepted.false in
+    let zero = unrefused_zero _ _ c.is_err.ensures c.if-is_err.false in
     let t = (time_facts c.args.time c.args.c [] (sym j.ensures ∙ zero)).0 in
     record {
       bounded = holds_bounded (handed) c.requires;
@@ -50,7 +50,7 @@ returns c =
     let j = c.judge_path-verdict in
     let w = handed in
     let time = c.args.time in
-    let zero = accepted_zero _ _ c.is_accepted.ensures c.if-not-is_accepted.false in
+    let zero = unrefused_zero _ _ c.is_err.ensures c.if-is_err.false in
     entry_accepted (path_rows time w.state) (taken time w) (λ n. untaken n w) (number_of j.result) j.ensures
     (routed (number_of Accepted) p.result.ev p.result.state w.slots w.times) zero
     (ap (λ (n : ℕ). routed n p.result.ev p.result.state w.slots w.times) accepted_number

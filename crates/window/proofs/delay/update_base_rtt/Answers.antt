@@ -8,8 +8,8 @@ returns-in_default c = update_base_rtt_none _ _ _ c.in_default.is
 
 pub returns-then-w-t : goal.returns-then-w-t
 returns-then-w-t c =
-    update_base_rtt_same _ _ _ _ c.in-Ticks.is c.if-w-t.true c.requires.base_bound.1
+    update_base_rtt_same _ _ _ _ c.in-Some.is c.if-w-t.true c.requires.base_bound.1
 
 pub returns : goal.returns
 returns c =
-    update_base_rtt_by _ _ _ _ _ _ c.in-Ticks.is (omega arith) c.max_wnd.ensures c.least.ensures
+    update_base_rtt_by _ _ _ _ _ _ c.in-Some.is (omega arith) c.max_wnd.ensures c.least.ensures
