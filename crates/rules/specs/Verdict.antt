@@ -1,7 +1,7 @@
 -- The number that document 01's table, as the requests amend it, gives each refusal. "Accepted is 0."
 -- Assumes nothing.
 use Rattle.std.specs.Prelude.{◌≡◌, refl, Bool, true, false, cond, ℕ, ◌≤◌, eqb, ⊤, Result, Ok, Err, is_ok, is_err}
-use Rattle.std.proofs.Common.{sym, ◌∙◌, arith, subst}
+use Rattle.std.proofs.Common.{sym, ap, ◌∙◌, arith, subst}
 use Rattle.rules.specs.declared.verdict.Refusal.{Refusal}
 use Rattle.rules.specs.declared.verdict.Refusal.TheVariants.{Setting, Unsound, Time, Size, Backlog, WindowFull, RingFull}
 use Rattle.rules.specs.declared.verdict.Refusal.TheVariants.{WrongPsn, UnsentOrOld, NotFlying, Sinks, Malformed, NoRoom}
@@ -87,6 +87,34 @@ number_back (Err Flow) = refl
 number_back (Err PlanTooLong) = refl
 number_back (Err LogTooLong) = refl
 
+-- a refusal has one number, whatever would have been given
+number_err : (T U : Type 0) (r : Refusal) → number_of {T = T} (Err r) ≡ number_of {T = U} (Err r)
+unfolding number_of
+number_err T U Setting = refl
+number_err T U Unsound = refl
+number_err T U Time = refl
+number_err T U Size = refl
+number_err T U Backlog = refl
+number_err T U WindowFull = refl
+number_err T U RingFull = refl
+number_err T U WrongPsn = refl
+number_err T U UnsentOrOld = refl
+number_err T U NotFlying = refl
+number_err T U Sinks = refl
+number_err T U Malformed = refl
+number_err T U NoRoom = refl
+number_err T U Bytes = refl
+number_err T U Count = refl
+number_err T U Reason = refl
+number_err T U Ev = refl
+number_err T U Trigger = refl
+number_err T U Flow = refl
+number_err T U PlanTooLong = refl
+number_err T U LogTooLong = refl
+
+pub err_same : {T : Type 0} (U : Type 0) (v : Result T Refusal) (r : Refusal) → v ≡ Err r → number_of {T = U} (Err r) ≡ number_of v
+err_same {T} U v r e = number_err U T r ∙ ap number_of (sym e)
+
 not_both : true ≡ false → ⊥
 not_both e = subst (λ (t : Bool). cond t (Unit {0}) ⊥) e tt
 
@@ -140,6 +168,14 @@ module _ {T : Type 0} where
   number_most (Err Flow) = omega arith
   number_most (Err PlanTooLong) = omega arith
   number_most (Err LogTooLong) = omega arith
+
+  -- and what its case tells
+  pub ok_zero : (v : Result T Refusal) (x : T) → v ≡ Ok x → number_of v ≡ 0
+  unfolding number_of
+  ok_zero v x e = rw e refl
+
+  pub err_not : (v : Result T Refusal) (r : Refusal) → v ≡ Err r → number_of v ≡ 0 → ⊥
+  err_not v r e z = omega (arith, refused_least T r, ap number_of e, z)
 
   pub accepted_zero : (v : Result T Refusal) (b : Bool) → b ≡ is_ok v → b ≡ true → number_of v ≡ 0
   unfolding number_of

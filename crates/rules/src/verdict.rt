@@ -53,12 +53,20 @@ pub enum Refusal {
 // Accepted, or refused.
 pub type Verdict = Result<(), Refusal>;
 
-// The number of an answer: "Accepted is 0."
+// What an event answers: the whole state, and its outcome, which is what the event gives beside the state or why it is refused. Refused, the
+// state is as it was given.
+#[derive(Clone, Copy)]
+pub struct Answer<S, T> {
+    pub state: S,
+    pub outcome: Result<T, Refusal>,
+}
+
+// The number of an outcome: "Accepted is 0."
 #[tactic(auto, unfolding(crate::specs::Verdict::number_of))]
-pub fn number_of<T: Copy>(answer: Result<T, Refusal>) -> u32
-    ensures { result ≡ number_of answer }
+pub fn number_of<T: Copy>(outcome: Result<T, Refusal>) -> u32
+    ensures { result ≡ number_of outcome }
 {
-    match answer {
+    match outcome {
         Ok(_) => 0,
         Err(refusal) => refusal as u32,
     }

@@ -14,9 +14,8 @@ use borrow.Author.Tests.{le-ltb, lt-leb, eq-eqb, eqb-false, not-true}
 use Rattle.rules.specs.Branch.{if_so, eq_yes, so_yes}
 use Rattle.rules.specs.Test.{inside, both, whole, inside_yes}
 use Rattle.rules.specs.Rows.{Row, row, first_of, first_later}
-use Rattle.rules.specs.Verdict.{number_of}
+use Rattle.rules.specs.Verdict.{Verdict, number_of}
 use Rattle.rules.proofs.Verdicts.{number_tells}
-use Rattle.rules.specs.declared.verdict.Refusal.{Refusal}
 use Rattle.window.specs.declared.Settings.{Settings}
 use Rattle.ledger.specs.Packets.{is_marked}
 use Rattle.ledger.specs.Bounds.{size_least}

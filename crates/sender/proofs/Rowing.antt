@@ -33,13 +33,14 @@ use Rattle.sender.specs.declared.Send.{Send}
 use Rattle.sender.specs.declared.Ack.{Ack}
 use Rattle.sender.specs.declared.Nack.{Nack}
 use Rattle.sender.specs.declared.Loss.{Loss}
-use Rattle.rules.specs.declared.verdict.Refusal.TheVariants.{Accepted}
+use Rattle.rules.specs.declared.verdict.Refusal.{Refusal}
+use Rattle.std.specs.Prelude.{Ok}
 use Rattle.rules.specs.Verdict.{number_of}
 
 -- an accepted event has number 0
-pub accepted_number : number_of Accepted ≡ 0
+pub accepted_number : {T : Type 0} (x : T) → number_of {T = T} (Ok x) ≡ 0
 unfolding number_of
-accepted_number = refl
+accepted_number x = refl
 
 -- ---- any rows
 
@@ -163,20 +164,12 @@ room_row c xs e =
     turned false = refl
 
 -- what the ledger judged, n, and then the room, m
-module _ (c : Controller) (r : Ring) (a : Send) (n m : ℕ) (e : m ≡ room_after c n) where
-  judged_send : n ≡ first_of (send_rows c.flow r a.psn a.size a.resend)
+module _ (c : Controller) (r : Ring) (a : Send) (n m : ℕ) where
+  pub judged_send : m ≡ room_after c n → n ≡ first_of (send_rows c.flow r a.psn a.size a.resend)
       → m ≡ first_of (send_rows c.flow r a.psn a.size a.resend ++ room_rows c)
-  judged_send f =
+  judged_send e f =
       e ∙ ap (room_after c) f
       ∙ room_row c (send_rows c.flow r a.psn a.size a.resend) (send_numbered c.flow r a.psn a.size a.resend)
-
-  pub judged_resend : a.resend ≡ true → n ≡ first_of (resend_rows c.flow r a.psn a.size)
-      → m ≡ first_of (send_rows c.flow r a.psn a.size a.resend ++ room_rows c)
-  judged_resend h f = judged_send (f ∙ rows_resend c.flow r a.psn a.size a.resend h)
-
-  pub judged_new : a.resend ≡ false → n ≡ first_of (new_rows c.flow (cap_of r) a.psn a.size)
-      → m ≡ first_of (send_rows c.flow r a.psn a.size a.resend ++ room_rows c)
-  judged_new h f = judged_send (f ∙ rows_new c.flow r a.psn a.size a.resend h)
 
 -- ---- what an event answers
 

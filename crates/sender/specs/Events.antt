@@ -1,15 +1,14 @@
 -- Each event: the number of the first row that applies and the world as it was, or 0 and the world after the step.
 -- Assumes nothing.
 use Rattle.std.proofs.Math.Option.{Option, none, some}
-use Rattle.std.specs.Prelude.{ℕ}
+use Rattle.std.specs.Prelude.{ℕ, Result, Ok, Err}
 use Rattle.rules.specs.Branch.{if_eq}
 use Rattle.rules.specs.Rows.{first_of}
+use Rattle.rules.specs.declared.verdict.Refusal.{Refusal}
 use Rattle.window.specs.declared.Sampling.{Sampling}
 use Rattle.sender.specs.World.{World, Answered, Routing, ring_of, view_of, world_of}
 use Rattle.sender.specs.Rows.{with_sound, new_data_rows, send_all_rows, ack_all_rows, nack_all_rows, loss_all_rows, path_rows}
 use Rattle.sender.specs.Steps.{new_data_step, send_step, ack_sampling, ack_step, nack_sampling, nack_step, loss_step, path_step, route_of}
-use Rattle.sender.specs.declared.Feedback.{Feedback}
-use Rattle.sender.specs.declared.Feedback.TheVariants.{Sampled, Nothing}
 use Rattle.sender.specs.declared.Send.{Send}
 use Rattle.sender.specs.declared.Ack.{Ack}
 use Rattle.sender.specs.declared.Nack.{Nack}
@@ -32,10 +31,10 @@ on_ack time a w = decided (first_of (with_sound w (ack_all_rows time a w.state))
 unfoldable pub says : ℕ → Sampling → Option Sampling
 says number sampling = if_eq number 0 (some sampling) none
 
--- an ACK's or a NACK's feedback as that
-unfoldable pub says_of : Feedback → Option Sampling
-says_of (Sampled s) = some s
-says_of Nothing = none
+-- an ACK's or a NACK's outcome as that
+unfoldable pub says_of : Result Sampling Refusal → Option Sampling
+says_of (Ok s) = some s
+says_of (Err r) = none
 
 abbrev pub ack_says : ℕ → Ack → World → Option Sampling
 ack_says time a w = says (on_ack time a w).number (ack_sampling time a (view_of w))

@@ -6,13 +6,14 @@ ghost use Rattle.rules.specs.Verdict.{number_of};
 ghost use Rattle.ledger.specs.Lent.{memory_given, memory_before};
 ghost use Rattle.ledger.specs.Memory.{shown};
 ghost use Rattle.ledger.specs.Sound.{Lengths};
+ghost use Rattle.ledger.specs.Rows.{send_rows};
 ghost use Rattle.window.specs.Limits.{time_end};
-ghost use Rattle.sender.specs.Bounds.{Bounded, room_after};
+ghost use Rattle.sender.specs.Bounds.{Bounded};
 ghost use Rattle.sender.specs.Rows.{new_data_rows, send_all_rows, ack_all_rows, nack_all_rows, loss_all_rows, path_rows};
 
 use crate::naming::has_room;
 use crate::{Ack, Controller, Loss, Nack, Send};
-use ledger::Books;
+use ledger::{Books, Flow};
 use rules::verdict::{Refusal, Verdict};
 
 // Refusal 3: a time before the held clock, or 2^48 or more.
@@ -38,21 +39,23 @@ pub(crate) fn judge_new_data(c: Controller, time: u64, bytes: u64) -> Verdict
     Ok(())
 }
 
-// A send, past 3 and 4: what the ledger refuses, then 6.
-fn judge_room(c: Controller, verdict: Verdict) -> Verdict
-    requires { Bounded c }
-    ensures { number_of result ≡ room_after c (number_of verdict) }
+// What the ledger refuses of a send: 8, 5, 7.
+fn judge_packet<'a>(
+    flow: Flow,
+    outstanding: &'a [u64],
+    marked: &'a [u64],
+    sizes: &'a [u32],
+    sent: &'a [u64],
+    a: Send,
+) -> Verdict
+    requires { Lengths (memory_given outstanding.now marked.now sizes.now sent.now) }
+    ensures { number_of result ≡ first_of (send_rows flow
+        (shown flow.low flow.next (memory_before outstanding.now marked.now sizes.now sent.now)) a.psn a.size a.resend) }
 {
-    let settings = c.settings;
-    let window = c.window;
-    let totals = c.totals;
-    if verdict.is_err() {
-        return verdict;
+    if a.resend {
+        return ledger::judge::judge_resend(flow, outstanding, marked, sizes, sent, a.psn, a.size);
     }
-    if has_room(settings.mtu, window.cwnd, totals.in_flight) {
-        return Ok(());
-    }
-    Err(Refusal::WindowFull)
+    ledger::judge::judge_new(flow, sent.len(), a.psn, a.size)
 }
 
 // A send: 3, 4, 8, 5, 7, 6.
@@ -72,19 +75,19 @@ pub(crate) fn judge_send<'a>(
 {
     let settings = c.settings;
     let flow = c.flow;
+    let window = c.window;
+    let totals = c.totals;
     if bad_time(time, c.clock) {
         return Err(Refusal::Time);
     }
     if !rules::within(ledger::SIZE_LEAST as u64, a.size as u64, settings.mtu) {
         return Err(Refusal::Size);
     }
-    if a.resend {
-        return judge_room(
-            c,
-            ledger::judge::judge_resend(flow, outstanding, marked, sizes, sent, a.psn, a.size),
-        );
+    judge_packet(flow, outstanding, marked, sizes, sent, a)?;
+    if has_room(settings.mtu, window.cwnd, totals.in_flight) {
+        return Ok(());
     }
-    judge_room(c, ledger::judge::judge_new(flow, sent.len(), a.psn, a.size))
+    Err(Refusal::WindowFull)
 }
 
 // An ACK: 3, 21, 23, 24, 9, 11.

@@ -3,20 +3,14 @@
 #![tactic(auto)]
 
 mod judge;
-pub mod look;
 pub mod naming;
 pub mod rely;
 pub mod sound;
 pub mod start;
 mod steps;
 
-ghost use Rattle.std.specs.Prelude.{◌≡◌};
-ghost use Rattle.std.proofs.Math.Option.{none};
-ghost use Rattle.sender.specs.Events.{says_of};
-
 use ledger::{Flow, Totals};
-use rules::verdict::Verdict;
-use window::{Sampling, Settings, Window};
+use window::{Settings, Window};
 
 // "Time is in ticks of 128 ns, below 2^48."
 pub const TIME_END: u64 = 1 << 48;
@@ -44,35 +38,6 @@ pub struct Controller {
     pub clock: u64,
     pub cursor: u32,
     pub phase: u32,
-}
-
-// What an event answers: the whole state, and the verdict on it.
-#[derive(Clone, Copy)]
-pub struct Answer {
-    pub state: Controller,
-    pub verdict: Verdict,
-}
-
-// What an ACK or a NACK says of its sample (request M-103): nothing where it is refused.
-#[derive(Clone, Copy)]
-pub enum Feedback {
-    Sampled(Sampling),
-    Nothing,
-}
-
-#[derive(Clone, Copy)]
-pub struct Heard {
-    pub state: Controller,
-    pub verdict: Verdict,
-    pub feedback: Feedback,
-}
-
-// What a path choice answers: the EV, 0 where it is refused.
-#[derive(Clone, Copy)]
-pub struct Routed {
-    pub state: Controller,
-    pub verdict: Verdict,
-    pub ev: u32,
 }
 
 // Events, with fields wide enough for what firmware hands in wrongly. An ACK's map stands behind what a send and a NACK have: an event of
@@ -109,15 +74,4 @@ pub struct Nack {
 pub struct Loss {
     pub psn: u32,
     pub ev: u32,
-}
-
-// An ACK or a NACK that is refused: the state as it was given, and no word on a sample.
-pub(crate) fn unheard(state: Controller, verdict: Verdict) -> Heard
-    ensures { (result.state ≡ state) × (result.verdict ≡ verdict) × (says_of result.feedback ≡ none) }
-{
-    Heard {
-        state,
-        verdict,
-        feedback: Feedback::Nothing,
-    }
 }

@@ -1,18 +1,17 @@
 // Each event for a caller who knows that state and buffers hold together: the entry point without its test of number 2. A replay tests
-// once; what an event leaves holds together again (proofs/Kept), whatever it answers. What is accepted answers `Accepted` itself and not
-// its judge's verdict: so the compiler knows it, and where a replay goes on does not wait for the event. A NACK and a loss, which share
-// their judge, have one answer for both cases instead: with two the compiler copies the state for every event (docs/PERFORMANCE.md).
+// once; what an event leaves holds together again (proofs/Kept), whatever it answers. A NACK and a loss, which share their judge, have one
+// answer for both cases: with two the compiler copies the state for every event (docs/PERFORMANCE.md).
 ghost use Rattle.std.specs.Prelude.{◌≡◌};
+ghost use Rattle.std.specs.Result.{result_unwrap_or};
 ghost use Rattle.rules.specs.Verdict.{number_of};
 ghost use Rattle.sender.specs.Lent.{world_given, world_before, answered_after, routed_after};
 ghost use Rattle.sender.specs.Sound.{Holds};
 ghost use Rattle.sender.specs.Events.{says_of, past_new_data, past_send, past_ack, past_ack_says, past_nack, past_nack_says};
 ghost use Rattle.sender.specs.Events.{past_loss, past_path};
 
-use crate::{
-    Ack, Answer, Controller, Feedback, Heard, Loss, Nack, Routed, Send, judge, steps, unheard,
-};
-use rules::verdict::Verdict;
+use crate::{Ack, Controller, Loss, Nack, Send, judge, steps};
+use rules::verdict::Answer;
+use window::Sampling;
 
 // New data in the backlog. The ring and the EV times are lent for what is required of them.
 pub fn new_data<'a>(
@@ -24,19 +23,20 @@ pub fn new_data<'a>(
     evs: &'a [u64],
     time: u64,
     bytes: u64,
-) -> Answer
+) -> Answer<Controller, ()>
     requires { Holds (world_given c outstanding.now marked.now sizes.now sent.now evs.now) }
-    ensures { answered_after (number_of result.verdict) result.state outstanding.now marked.now sizes.now sent.now evs.now
+    ensures { answered_after (number_of result.outcome) result.state outstanding.now marked.now sizes.now sent.now evs.now
         ≡ past_new_data time bytes (world_before c outstanding.now marked.now sizes.now sent.now evs.now) }
 {
-    let verdict = judge::judge_new_data(c, time, bytes);
-    if verdict.is_err() {
-        return Answer { state: c, verdict };
-    }
-    let state = steps::new_data(c, time, bytes);
-    Answer {
-        state,
-        verdict: Ok(()),
+    match judge::judge_new_data(c, time, bytes) {
+        Ok(()) => Answer {
+            state: steps::new_data(c, time, bytes),
+            outcome: Ok(()),
+        },
+        Err(refusal) => Answer {
+            state: c,
+            outcome: Err(refusal),
+        },
     }
 }
 
@@ -50,19 +50,20 @@ pub fn send<'a, 'b, 'c, 'd, 'e>(
     evs: &'e [u64],
     time: u64,
     a: Send,
-) -> Answer
+) -> Answer<Controller, ()>
     requires { Holds (world_given c outstanding.old marked.old sizes.old sent.old evs.now) }
-    ensures { answered_after (number_of result.verdict) result.state outstanding.new marked.new sizes.new sent.new evs.now
+    ensures { answered_after (number_of result.outcome) result.state outstanding.new marked.new sizes.new sent.new evs.now
         ≡ past_send time a (world_before c outstanding.old marked.old sizes.old sent.old evs.now) }
 {
-    let verdict = judge::judge_send(c, outstanding, marked, sizes, sent, time, a);
-    if verdict.is_err() {
-        return Answer { state: c, verdict };
-    }
-    let state = steps::send(c, outstanding, marked, sizes, sent, evs, time, a);
-    Answer {
-        state,
-        verdict: Ok(()),
+    match judge::judge_send(c, outstanding, marked, sizes, sent, time, a) {
+        Ok(()) => Answer {
+            state: steps::send(c, outstanding, marked, sizes, sent, evs, time, a),
+            outcome: Ok(()),
+        },
+        Err(refusal) => Answer {
+            state: c,
+            outcome: Err(refusal),
+        },
     }
 }
 
@@ -76,23 +77,24 @@ pub fn ack<'a, 'b, 'c, 'd, 'e>(
     evs: &'e mut [u64],
     time: u64,
     a: Ack,
-) -> Heard
+) -> Answer<Controller, Sampling>
     requires { Holds (world_given c outstanding.old marked.old sizes.old sent.old evs.old) }
-    ensures evs_value { answered_after (number_of result.verdict) result.state outstanding.new marked.new sizes.new sent.new evs.new
+    ensures evs_value { answered_after (number_of result.outcome) result.state outstanding.new marked.new sizes.new sent.new evs.new
         ≡ past_ack time a (world_before c outstanding.old marked.old sizes.old sent.old evs.old) }
-    ensures feedback_value { says_of result.feedback ≡ past_ack_says time a (world_before c outstanding.old marked.old sizes.old sent.old evs.old) }
+    ensures feedback_value { says_of result.outcome ≡ past_ack_says time a (world_before c outstanding.old marked.old sizes.old sent.old evs.old) }
 {
-    let verdict = judge::judge_ack(c, time, a);
-    if verdict.is_err() {
-        return unheard(c, verdict);
-    }
-    let sensed = steps::ack(c, outstanding, marked, sizes, sent, evs, time, a);
-    let state = sensed.state;
-    let sampling = sensed.sampling;
-    Heard {
-        state,
-        verdict: Ok(()),
-        feedback: Feedback::Sampled(sampling),
+    match judge::judge_ack(c, time, a) {
+        Ok(()) => {
+            let step = steps::ack(c, outstanding, marked, sizes, sent, evs, time, a);
+            Answer {
+                state: step.state,
+                outcome: Ok(step.gives),
+            }
+        }
+        Err(refusal) => Answer {
+            state: c,
+            outcome: Err(refusal),
+        },
     }
 }
 
@@ -106,26 +108,22 @@ pub fn nack<'a, 'b, 'c>(
     evs: &'c mut [u64],
     time: u64,
     a: Nack,
-) -> Heard
+) -> Answer<Controller, Sampling>
     requires { Holds (world_given c outstanding.now marked.old sizes.now sent.now evs.old) }
-    ensures evs_value { answered_after (number_of result.verdict) result.state outstanding.now marked.new sizes.now sent.now evs.new
+    ensures evs_value { answered_after (number_of result.outcome) result.state outstanding.now marked.new sizes.now sent.now evs.new
         ≡ past_nack time a (world_before c outstanding.now marked.old sizes.now sent.now evs.old) }
-    ensures feedback_value { says_of result.feedback ≡ past_nack_says time a (world_before c outstanding.now marked.old sizes.now sent.now evs.old) }
+    ensures feedback_value { says_of result.outcome ≡ past_nack_says time a (world_before c outstanding.now marked.old sizes.now sent.now evs.old) }
 {
-    let verdict = judge::judge_nack(c, outstanding, marked, sizes, sent, time, a);
     let mut state = c;
-    let mut feedback = Feedback::Nothing;
-    if verdict.is_ok() {
-        let sensed = steps::nack(c, outstanding, marked, sizes, sent, evs, time, a);
-        state = sensed.state;
-        let sampling = sensed.sampling;
-        feedback = Feedback::Sampled(sampling);
-    }
-    Heard {
-        state,
-        verdict,
-        feedback,
-    }
+    let outcome = match judge::judge_nack(c, outstanding, marked, sizes, sent, time, a) {
+        Ok(()) => {
+            let step = steps::nack(c, outstanding, marked, sizes, sent, evs, time, a);
+            state = step.state;
+            Ok(step.gives)
+        }
+        Err(refusal) => Err(refusal),
+    };
+    Answer { state, outcome }
 }
 
 // A loss.
@@ -138,17 +136,17 @@ pub fn loss<'a, 'b, 'c>(
     evs: &'c mut [u64],
     time: u64,
     a: Loss,
-) -> Answer
+) -> Answer<Controller, ()>
     requires { Holds (world_given c outstanding.now marked.old sizes.now sent.now evs.old) }
-    ensures { answered_after (number_of result.verdict) result.state outstanding.now marked.new sizes.now sent.now evs.new
+    ensures { answered_after (number_of result.outcome) result.state outstanding.now marked.new sizes.now sent.now evs.new
         ≡ past_loss time a (world_before c outstanding.now marked.old sizes.now sent.now evs.old) }
 {
-    let verdict = judge::judge_loss(c, outstanding, marked, sizes, sent, time, a);
+    let outcome = judge::judge_loss(c, outstanding, marked, sizes, sent, time, a);
     let mut state = c;
-    if verdict.is_ok() {
+    if outcome.is_ok() {
         state = steps::loss(c, outstanding, marked, sizes, sent, evs, time, a);
     }
-    Answer { state, verdict }
+    Answer { state, outcome }
 }
 
 // The next path. The EV times are only read, the ring is lent for what is required of it.
@@ -160,24 +158,22 @@ pub fn path<'a>(
     sent: &'a [u64],
     evs: &'a [u64],
     time: u64,
-) -> Routed
+) -> Answer<Controller, u32>
     requires { Holds (world_given c outstanding.now marked.now sizes.now sent.now evs.now) }
-    ensures { routed_after (number_of result.verdict) result.ev result.state outstanding.now marked.now sizes.now sent.now evs.now
+    ensures { routed_after (number_of result.outcome) (result_unwrap_or result.outcome 0) result.state outstanding.now marked.now sizes.now sent.now evs.now
         ≡ past_path time (world_before c outstanding.now marked.now sizes.now sent.now evs.now) }
 {
-    let verdict = judge::judge_path(c, time);
-    if verdict.is_err() {
-        return Routed {
+    match judge::judge_path(c, time) {
+        Ok(()) => {
+            let step = steps::path(c, evs, time);
+            Answer {
+                state: step.state,
+                outcome: Ok(step.gives),
+            }
+        }
+        Err(refusal) => Answer {
             state: c,
-            verdict,
-            ev: 0,
-        };
-    }
-    let stepped = steps::path(c, evs, time);
-    let state = stepped.state;
-    Routed {
-        state,
-        verdict: Ok(()),
-        ev: stepped.ev,
+            outcome: Err(refusal),
+        },
     }
 }

@@ -20,18 +20,11 @@ use ledger::{Books, Packet};
 use window::Sampling;
 use window::delay::sample_in;
 
-// A path choice: the state, and the EV.
+// What a step leaves that gives something beside the state: an ACK's or a NACK's sample as the sample step says it, a path choice's EV.
 #[derive(Clone, Copy)]
-pub(crate) struct Stepped {
+pub(crate) struct Step<T> {
     pub state: Controller,
-    pub ev: u32,
-}
-
-// An ACK or a NACK: the state, and what the sample step says.
-#[derive(Clone, Copy)]
-pub(crate) struct Sensed {
-    pub state: Controller,
-    pub sampling: Sampling,
+    pub gives: T,
 }
 
 // What the sample step says of a packet as it stands.
@@ -105,12 +98,12 @@ pub(crate) fn ack<'a, 'b, 'c, 'd, 'e>(
     evs: &'e mut [u64],
     time: u64,
     a: Ack,
-) -> Sensed
+) -> Step<Sampling>
     requires holds { Holds (world_given c outstanding.old marked.old sizes.old sent.old evs.old) }
     requires c_value { first_of (ack_all_rows time a c) ≡ 0 }
     ensures evs_value { world_after result.state outstanding.new marked.new sizes.new sent.new evs.new
         ≡ world_of (ack_step time a (view_of (world_before c outstanding.old marked.old sizes.old sent.old evs.old))) }
-    ensures sampling_value { result.sampling ≡ ack_sampling time a (view_of (world_before c outstanding.old marked.old sizes.old sent.old evs.old)) }
+    ensures sampling_value { result.gives ≡ ack_sampling time a (view_of (world_before c outstanding.old marked.old sizes.old sent.old evs.old)) }
 {
     let settings = c.settings;
     let flow = c.flow;
@@ -136,7 +129,10 @@ pub(crate) fn ack<'a, 'b, 'c, 'd, 'e>(
     let w = window::events::ack(settings, time, newly, a.marked, sample, t.in_flight, window);
     avoid(a.marked, a.ev, time, base, evs);
     let state = state_of(settings, f, t, w, time, c.cursor);
-    Sensed { state, sampling }
+    Step {
+        state,
+        gives: sampling,
+    }
 }
 
 // A NACK.
@@ -149,12 +145,12 @@ pub(crate) fn nack<'a, 'b, 'c>(
     evs: &'c mut [u64],
     time: u64,
     a: Nack,
-) -> Sensed
+) -> Step<Sampling>
     requires holds { Holds (world_given c outstanding.now marked.old sizes.now sent.now evs.old) }
     requires evs_value { first_of (nack_all_rows time a c (ring_of (world_given c outstanding.now marked.old sizes.now sent.now evs.old))) ≡ 0 }
     ensures evs_value_2 { world_after result.state outstanding.now marked.new sizes.now sent.now evs.new
         ≡ world_of (nack_step time a (view_of (world_before c outstanding.now marked.old sizes.now sent.now evs.old))) }
-    ensures sampling_value { result.sampling ≡ nack_sampling time a (view_of (world_before c outstanding.now marked.old sizes.now sent.now evs.old)) }
+    ensures sampling_value { result.gives ≡ nack_sampling time a (view_of (world_before c outstanding.now marked.old sizes.now sent.now evs.old)) }
 {
     let settings = c.settings;
     let flow = c.flow;
@@ -179,7 +175,10 @@ pub(crate) fn nack<'a, 'b, 'c>(
     );
     avoid(a.marked | (a.reason == 0), a.ev, time, base, evs);
     let state = state_of(settings, f, t, w, time, c.cursor);
-    Sensed { state, sampling }
+    Step {
+        state,
+        gives: sampling,
+    }
 }
 
 // A loss.
@@ -214,12 +213,12 @@ pub(crate) fn loss<'a, 'b, 'c>(
 }
 
 // The next path.
-pub(crate) fn path(c: Controller, evs: &[u64], time: u64) -> Stepped
+pub(crate) fn path(c: Controller, evs: &[u64], time: u64) -> Step<u32>
     requires bounded { Bounded c }
     requires evs_len { (length evs.now ≡ c.settings.ev_count) × (c.cursor < c.settings.ev_count) }
     requires evs_value { (times_ok evs.now ≡ true) × (time < time_end) }
     ensures { (result.state ≡ path_state time (choice time c.cursor evs.now).cursor c)
-        × (result.ev ≡ (choice time c.cursor evs.now).ev) }
+        × (result.gives ≡ (choice time c.cursor evs.now).ev) }
 {
     let settings = c.settings;
     let flow = c.flow;
@@ -227,8 +226,8 @@ pub(crate) fn path(c: Controller, evs: &[u64], time: u64) -> Stepped
     let window = c.window;
     let taken = paths::choose(evs, c.cursor as usize, time);
     let state = state_of(settings, flow, totals, window, time, taken.cursor as u32);
-    Stepped {
+    Step {
         state,
-        ev: taken.ev as u32,
+        gives: taken.ev as u32,
     }
 }

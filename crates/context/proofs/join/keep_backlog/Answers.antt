@@ -5,9 +5,9 @@ use Rattle.context.proofs.join.keep_backlog.Goals as goal
 pub returns-then-is_ok : goal.returns-then-is_ok
 returns-then-is_ok c =
     let a = c.args in
-    stored_kept a.flows.now a.k c.requires.leaves c.is_ok.ensures c.if-is_ok.true c.put_backlog.ensures
+    stored_kept a.flows.now a.k c.requires.leaves c.is_ok.ensures.value c.if-is_ok.true c.put_backlog.ensures
 
 pub returns-else-is_ok : goal.returns-else-is_ok
 returns-else-is_ok c =
     let a = c.args in
-    refused_kept a.flows.now a.k c.requires.leaves c.is_ok.ensures c.if-is_ok.false
+    refused_kept a.flows.now a.k c.requires.leaves c.is_ok.ensures.value c.if-is_ok.false

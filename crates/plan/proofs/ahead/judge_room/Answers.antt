@@ -17,11 +17,11 @@ room c =
 
 -- the verdict that was given is accepted
 zero : (c : After-has_room) → number_of c.args.verdict ≡ 0
-zero c = unrefused_zero _ _ c.is_err.ensures c.if-is_err.false
+zero c = unrefused_zero _ _ c.is_err.ensures.value c.if-is_err.false
 
 pub returns-then-is_err : goal.returns-then-is_err
 unfolding room_then
-returns-then-is_err c = eq_no _ 0 _ _ _ (unaccepted_not _ _ c.is_err.ensures c.if-is_err.true) refl
+returns-then-is_err c = eq_no _ 0 _ _ _ (unaccepted_not _ _ c.is_err.ensures.value c.if-is_err.true) refl
 
 pub returns-then-has_room : goal.returns-then-has_room
 unfolding room_then number_of

@@ -39,7 +39,7 @@ whole c =
 
 -- send i was accepted
 accepted : (c : Else-is_err) → number_of c.judge_next-verdict.result ≡ 0
-accepted c = unrefused_zero c.judge_next-verdict.result _ c.is_err.ensures c.if-is_err.false
+accepted c = unrefused_zero c.judge_next-verdict.result _ c.is_err.ensures.value c.if-is_err.false
 
 pub loop-i-init : goal.loop-i-init
 loop-i-init c =
@@ -60,7 +60,7 @@ pub returns-then-is_err : goal.returns-then-is_err
 returns-then-is_err c =
     let g = goal.at.returns-then-is_err c in
     reached_refused c.loop-i.invariant c.loop-i-test.true (told g.After-judge_next-verdict)
-    (unaccepted_not c.judge_next-verdict.result _ c.is_err.ensures c.if-is_err.true)
+    (unaccepted_not c.judge_next-verdict.result _ c.is_err.ensures.value c.if-is_err.true)
     ∙ whole g.At-loop-i
 
 pub after-s-requires : goal.after-s-requires

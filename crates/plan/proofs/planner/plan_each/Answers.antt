@@ -70,7 +70,7 @@ told c =
 
 -- its send is accepted
 accepted : (c : Else-is_err) → number_of c.judge_next-verdict.result ≡ 0
-accepted c = unrefused_zero c.judge_next-verdict.result _ c.is_err.ensures c.if-is_err.false
+accepted c = unrefused_zero c.judge_next-verdict.result _ c.is_err.ensures.value c.if-is_err.false
 
 asks : (c : Else-is_err) →
     let handed = let a = c.args in
@@ -152,7 +152,7 @@ returns-then-is_err c =
     rw (← c.room-most.ensures)
     (planning_refused (facts g.Start) c.loop-i.invariant c.loop-i-test.true _ (who g.After-named-k) (there g.Else-n-k)
     (told g.After-judge_next-verdict)
-    (unaccepted_not c.judge_next-verdict.result _ c.is_err.ensures c.if-is_err.true))
+    (unaccepted_not c.judge_next-verdict.result _ c.is_err.ensures.value c.if-is_err.true))
 
 pub put_send-requires : goal.put_send-requires
 put_send-requires c =

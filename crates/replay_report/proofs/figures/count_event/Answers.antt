@@ -13,10 +13,10 @@ add-requires c =
 
 pub returns-then-is_ok : goal.returns-then-is_ok
 returns-then-is_ok c =
-    send_one _ _ _ _ _ _ c.in-Send.is (accepted_zero _ _ c.is_ok.ensures c.if-is_ok.true)
+    send_one _ _ _ _ _ _ c.in-Send.is (accepted_zero _ _ c.is_ok.ensures.value c.if-is_ok.true)
     (rw c.sent_at.ensures at c.add.ensures)
 
 pub returns-else-is_ok : goal.returns-else-is_ok
 returns-else-is_ok c =
     send_refused _ _ _ _ _ _ c.in-Send.is
-    (refused_not _ _ c.is_ok.ensures c.if-is_ok.false)
+    (refused_not _ _ c.is_ok.ensures.value c.if-is_ok.false)

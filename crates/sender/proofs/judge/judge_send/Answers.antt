@@ -1,14 +1,15 @@
--- `judge_send` walks the rows of a send: each branch opens one; the ledger's and then 6 are the last.
-use mathlib.Core.Path.{sym, ap, ◌∙◌}
+-- `judge_send` walks the rows of a send: each branch opens one; the ledger's, whose refusal goes on as it is, and then 6 are the last.
+use mathlib.Core.Path.{refl, sym, ap, ◌∙◌}
 use mathlib.Core.Bool.{not}
-use mathlib.Core.List.{◌++◌}
-use Prim.Native.Nat.{ℕ}
-use Rattle.rules.specs.Rows.{first_of}
-use Rattle.rules.specs.Verdict.{number_of}
+use Rattle.std.specs.Prelude.{⊤, Err}
+use Rattle.std.proofs.lemmas.Result.{err_from_is_err_and}
+use Rattle.rules.specs.Branch.{eq_yes, eq_no, so_yes, so_no}
+use Rattle.rules.specs.Verdict.{number_of, ok_zero, err_not}
 use Rattle.ledger.specs.Memory.{memory, shown}
-use Rattle.ledger.specs.Rows.{new_rows, send_rows}
-use Rattle.sender.proofs.Views.{sent_cap}
-use Rattle.sender.proofs.Rowing.{judged_3, judged_field, judged_on, room_rows, judged_resend, judged_new}
+use Rattle.ledger.proofs.Signs.{word}
+use Rattle.sender.specs.Named.{has_room}
+use Rattle.sender.specs.Bounds.{room_after}
+use Rattle.sender.proofs.Rowing.{judged_3, judged_field, judged_on, judged_send}
 use Rattle.sender.proofs.judge.judge_send.Goals as goal
 
 pub returns-then-bad_time : goal.returns-then-bad_time
@@ -20,28 +21,34 @@ unfolding number_of
 returns-then-not-within c =
     judged_field _ _ _ _ (sym c.bad_time.ensures ∙ c.if-bad_time.false) (ap not (sym c.within.ensures ∙ c.if-not-within.true))
 
-pub returns-then-a : goal.returns-then-a
-unfolding number_of
-returns-then-a c =
+pub returns-in_err-judge_packet : goal.returns-in_err-judge_packet
+unfolding room_after
+returns-in_err-judge_packet c =
+    let p = err_from_is_err_and c.from_residual.result c.from_residual.ensures.1 in
     let slots = shown c.args.c.flow.low c.args.c.flow.next
     (memory c.args.outstanding.now c.args.marked.now c.args.sizes.now c.args.sent.now) in
-    let a = c.args in
-    judged_on _ _ _ (send_rows a.c.flow (slots) a.a.psn a.a.size a.a.resend ++ room_rows a.c)
-    (sym c.bad_time.ensures ∙ c.if-bad_time.false) (ap not (sym c.within.ensures ∙ c.if-not-within.false))
-    (number_of c.judge_room.result)
-    (judged_resend a.c (slots) a.a (number_of c.judge_resend.result) (number_of c.judge_room.result)
-    c.judge_room.ensures c.if-a.true c.judge_resend.ensures)
+    let n = number_of {T = ⊤} (Err c.in_err-judge_packet.field-0.0) in
+    let known = judged_send c.args.c slots c.args.a n n (eq_no n 0 n _ n (err_not _ _ refl) refl) (c.in_err-judge_packet.ensures) in
+    rw (p.1, p.2) (judged_on _ _ _ _ (sym c.bad_time.ensures ∙ c.if-bad_time.false) (ap not (sym c.within.ensures ∙ c.if-not-within.false)) n known)
+
+pub returns-then-has_room : goal.returns-then-has_room
+unfolding number_of room_after
+returns-then-has_room c =
+    let slots = shown c.args.c.flow.low c.args.c.flow.next
+    (memory c.args.outstanding.now c.args.marked.now c.args.sizes.now c.args.sent.now) in
+    let a = c.args.c in
+    let room = ap (has_room a.settings.mtu a.window.cwnd) (sym (word a.totals.in_flight c.requires.bounded.flown))
+    ∙ sym c.has_room.ensures in
+    judged_on _ _ _ _ (sym c.bad_time.ensures ∙ c.if-bad_time.false) (ap not (sym c.within.ensures ∙ c.if-not-within.false)) 0
+    (judged_send a slots c.args.a 0 0 (eq_yes 0 0 0 _ 0 refl (so_yes _ 0 0 6 (room ∙ c.if-has_room.true) refl)) (c.in_ok-judge_packet.ensures))
 
 pub returns : goal.returns
-unfolding number_of
+unfolding number_of room_after
 returns c =
     let slots = shown c.args.c.flow.low c.args.c.flow.next
     (memory c.args.outstanding.now c.args.marked.now c.args.sizes.now c.args.sent.now) in
-    let a = c.args in
-    judged_on _ _ _ (send_rows a.c.flow (slots) a.a.psn a.a.size a.a.resend ++ room_rows a.c)
-    (sym c.bad_time.ensures ∙ c.if-bad_time.false) (ap not (sym c.within.ensures ∙ c.if-not-within.false))
-    (number_of c.judge_room-2.result)
-    (judged_new a.c (slots) a.a (number_of c.judge_new.result) (number_of c.judge_room-2.result) c.judge_room-2.ensures
-    c.if-a.false
-    (c.judge_new.ensures
-    ∙ ap (λ (c : ℕ). first_of (new_rows a.c.flow c a.a.psn a.a.size)) (sent_cap a.c.flow _ c.requires.lengths)))
+    let a = c.args.c in
+    let room = ap (has_room a.settings.mtu a.window.cwnd) (sym (word a.totals.in_flight c.requires.bounded.flown))
+    ∙ sym c.has_room.ensures in
+    judged_on _ _ _ _ (sym c.bad_time.ensures ∙ c.if-bad_time.false) (ap not (sym c.within.ensures ∙ c.if-not-within.false)) 6
+    (judged_send a slots c.args.a 0 6 (eq_yes 0 0 6 _ 0 refl (so_no _ 6 0 6 (room ∙ c.if-has_room.false) refl)) (c.in_ok-judge_packet.ensures))

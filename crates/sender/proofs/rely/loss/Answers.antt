@@ -11,8 +11,8 @@ use Rattle.sender.proofs.Views.{sound_lengths}
 use Rattle.sender.proofs.Rowing.{answer_refused, answer_accepted}
 use Rattle.sender.proofs.rely.loss.Goals as goal
 
-pub judge_loss-verdict-requires : goal.judge_loss-verdict-requires
-judge_loss-verdict-requires c =
+pub judge_loss-outcome-requires : goal.judge_loss-outcome-requires
+judge_loss-outcome-requires c =
     let handed = world c.args.c (memory c.args.outstanding.now c.args.marked.now c.args.sizes.now c.args.sent.now)
     c.args.evs.now in
     record {
@@ -23,7 +23,7 @@ judge_loss-verdict-requires c =
 pub loss-state-requires : goal.loss-state-requires
 loss-state-requires c = record {
   holds = c.requires;
-  evs_value = sym c.judge_loss-verdict.ensures ∙ accepted_zero _ _ c.is_ok.ensures c.if-is_ok.true;
+  evs_value = sym c.judge_loss-outcome.ensures ∙ accepted_zero _ _ c.is_ok.ensures.value c.if-is_ok.true;
 }
 
 pub returns-then-is_ok : goal.returns-then-is_ok
@@ -33,8 +33,8 @@ returns-then-is_ok c =
     c.args.evs.now in
     let rows = loss_all_rows c.args.time c.args.a c.args.c (ring_of (handed)) in
     let stepped = world_of (loss_step c.args.time c.args.a (view_of (handed))) in
-    let zero = accepted_zero _ _ c.is_ok.ensures c.if-is_ok.true in
-    answer_accepted (handed) (rows) (stepped) _ _ (number_of c.judge_loss-verdict.result) c.judge_loss-verdict.ensures zero
+    let zero = accepted_zero _ _ c.is_ok.ensures.value c.if-is_ok.true in
+    answer_accepted (handed) (rows) (stepped) _ _ (number_of c.judge_loss-outcome.result) c.judge_loss-outcome.ensures zero
     c.loss-state.result (memory c.args.outstanding.now c.loss-state.new.marked c.args.sizes.now c.args.sent.now) c.loss-state.new.evs
     c.loss-state.ensures refl zero
 
@@ -45,5 +45,5 @@ returns-else-is_ok c =
     c.args.evs.now in
     let rows = loss_all_rows c.args.time c.args.a c.args.c (ring_of (handed)) in
     let stepped = world_of (loss_step c.args.time c.args.a (view_of (handed))) in
-    answer_refused (handed) (rows) (stepped) _ _ (number_of c.judge_loss-verdict.result) c.judge_loss-verdict.ensures
-    (refused_not _ _ c.is_ok.ensures c.if-is_ok.false) refl refl
+    answer_refused (handed) (rows) (stepped) _ _ (number_of c.judge_loss-outcome.result) c.judge_loss-outcome.ensures
+    (refused_not _ _ c.is_ok.ensures.value c.if-is_ok.false) refl refl

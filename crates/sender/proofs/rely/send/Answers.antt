@@ -1,6 +1,7 @@
 -- `send` judges the rows past 2, then takes the step: each answer is a case of `past_send`, by the laws of `Rowing`.
 use mathlib.Core.Path.{refl, sym, ◌∙◌}
-use Rattle.rules.specs.Verdict.{number_of, unrefused_zero, unaccepted_not}
+use Rattle.std.specs.Prelude.{⊤, Err}
+use Rattle.rules.specs.Verdict.{number_of, ok_zero, err_not}
 use Rattle.ledger.specs.Memory.{memory}
 use Rattle.sender.specs.World.{world, ring_of, view_of, world_of}
 use Rattle.sender.specs.Rows.{send_all_rows}
@@ -11,8 +12,8 @@ use Rattle.sender.proofs.Views.{sound_lengths}
 use Rattle.sender.proofs.Rowing.{accepted_number, answer_refused, answer_accepted}
 use Rattle.sender.proofs.rely.send.Goals as goal
 
-pub judge_send-verdict-requires : goal.judge_send-verdict-requires
-judge_send-verdict-requires c =
+pub judge_send-requires : goal.judge_send-requires
+judge_send-requires c =
     let handed = world c.args.c (memory c.args.outstanding.now c.args.marked.now c.args.sizes.now c.args.sent.now)
     c.args.evs.now in
     record {
@@ -20,30 +21,30 @@ judge_send-verdict-requires c =
       lengths = sound_lengths _ (handed) c.requires.so;
     }
 
-pub returns-then-is_err : goal.returns-then-is_err
+pub returns-in-Err : goal.returns-in-Err
 unfolding past_send
-returns-then-is_err c =
+returns-in-Err c =
     let handed = world c.args.c (memory c.args.outstanding.now c.args.marked.now c.args.sizes.now c.args.sent.now)
     c.args.evs.now in
     let rows = send_all_rows c.args.time c.args.a c.args.c (ring_of (handed)) in
     let stepped = world_of (send_step c.args.time c.args.a (view_of (handed))) in
-    answer_refused (handed) (rows) (stepped) _ _ (number_of c.judge_send-verdict.result) c.judge_send-verdict.ensures
-    (unaccepted_not _ _ c.is_err.ensures c.if-is_err.true) refl refl
+    answer_refused (handed) (rows) (stepped) _ _ (number_of {T = ⊤} (Err c.in-Err.refusal)) (c.in-Err.ensures)
+    (err_not _ _ refl) refl refl
 
-pub send-state-requires : goal.send-state-requires
-send-state-requires c = record {
+pub send-requires : goal.send-requires
+send-requires c = record {
   holds = c.requires;
-  evs_value = sym c.judge_send-verdict.ensures ∙ unrefused_zero _ _ c.is_err.ensures c.if-is_err.false;
+  evs_value = sym c.judge_send.ensures ∙ ok_zero _ _ c.in-Ok.is;
 }
 
-pub returns : goal.returns
+pub returns-in-Ok : goal.returns-in-Ok
 unfolding past_send
-returns c =
+returns-in-Ok c =
     let handed = world c.args.c (memory c.args.outstanding.now c.args.marked.now c.args.sizes.now c.args.sent.now)
     c.args.evs.now in
     let rows = send_all_rows c.args.time c.args.a c.args.c (ring_of (handed)) in
     let stepped = world_of (send_step c.args.time c.args.a (view_of (handed))) in
-    let zero = unrefused_zero _ _ c.is_err.ensures c.if-is_err.false in
-    answer_accepted (handed) (rows) (stepped) _ _ (number_of c.judge_send-verdict.result) c.judge_send-verdict.ensures zero
-    c.send-state.result (memory c.send-state.new.outstanding c.send-state.new.marked c.send-state.new.sizes c.send-state.new.sent) (handed).times
-    c.send-state.ensures refl accepted_number
+    let zero = ok_zero _ _ c.in-Ok.is in
+    answer_accepted (handed) (rows) (stepped) _ _ (number_of c.judge_send.result) c.judge_send.ensures zero
+    c.send.result (memory c.send.new.outstanding c.send.new.marked c.send.new.sizes c.send.new.sent) (handed).times
+    c.send.ensures refl (accepted_number _)
