@@ -27,7 +27,7 @@ use Rattle.context.specs.Context.{Context, flow_count, flow_in, ring_in}
 use Rattle.context.specs.Look.{marked_from}
 use Rattle.context.specs.Turns.{any_marked, has_marked, ring_full, is_ready, turn_of, offered_by, choice_of}
 use Rattle.context.specs.declared.choice.Turn.{Turn}
-use Rattle.context.specs.declared.choice.Choice.TheVariants.{Nobody, Named}
+use Rattle.std.specs.Prelude.{Some, None}
 use Rattle.context.proofs.Sounds.{SoundContext, flow_facts}
 
 -- ---- a queue of packets
@@ -159,11 +159,11 @@ module _ (x : Context) (S : SoundContext x) (k : ℕ) (h : k < flow_count x) whe
 -- the code's answer, by what its tests say
 module _ (x : Context) (k : ℕ) where
   pub offered_so : (t : Turn) → t ≡ turn_of x k → is_ready x k ≡ true
-      → choice_of (Named t) ≡ offered_by x (if_so (is_ready x k) (some k) none)
+      → choice_of (Some t) ≡ offered_by x (if_so (is_ready x k) (some k) none)
   unfolding choice_of offered_by if_so
   offered_so t e q = rw q (ap some e)
 
-  pub offered_none : is_ready x k ≡ false → choice_of Nobody ≡ offered_by x (if_so (is_ready x k) (some k) none)
+  pub offered_none : is_ready x k ≡ false → choice_of None ≡ offered_by x (if_so (is_ready x k) (some k) none)
   unfolding choice_of offered_by if_so
   offered_none q = rw q
 

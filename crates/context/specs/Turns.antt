@@ -1,7 +1,9 @@
 -- Fair turns, request M-108: which flow sends next, or nobody. A choice has no time and tests number 2 only.
 -- Assumes nothing.
 use Rattle.std.specs.Prelude.{Bool, false, not, ◌&&◌, ◌||◌, List, [], ◌∷◌, ℕ, zero, suc, ◌+◌, ◌%◌, ltb, eqb}
+use Rattle.std.specs.Prelude.{Option as Named, Some, None, Result, Ok, Err}
 use Rattle.std.proofs.Math.Option.{Option, none, some}
+use Rattle.rules.specs.declared.verdict.Refusal.{Refusal}
 use Rattle.rules.specs.Branch.{if_so}
 use Rattle.paths.specs.Path.{from}
 use Rattle.ledger.specs.Packets.{is_marked}
@@ -13,8 +15,6 @@ use Rattle.context.specs.Sound.{sound_context}
 use Rattle.context.specs.Look.{marked_from}
 use Rattle.context.specs.declared.Controller.{Controller}
 use Rattle.context.specs.declared.choice.Turn.{Turn}
-use Rattle.context.specs.declared.choice.Choice.{Choice}
-use Rattle.context.specs.declared.choice.Choice.TheVariants.{Nobody, Named}
 
 -- ---- a flow that is ready
 
@@ -70,10 +70,15 @@ unfoldable pub offered_by : Context → Option ℕ → Option Turn
 offered_by x none = none
 offered_by x (some k) = some (turn_of x k)
 
--- the code's answer, case by case
-unfoldable pub choice_of : Choice → Option Turn
-choice_of Nobody = none
-choice_of (Named turn) = some turn
+-- whom the code names, case by case
+unfoldable pub choice_of : Named Turn → Option Turn
+choice_of None = none
+choice_of (Some turn) = some turn
+
+-- a refused choice names nobody
+unfoldable pub named_in : Result (Named Turn) Refusal → Option Turn
+named_in (Ok named) = choice_of named
+named_in (Err r) = none
 
 -- the state with another turn, and all else as it was
 unfoldable pub with_turn : ℕ → Controller → Controller

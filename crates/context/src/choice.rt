@@ -7,13 +7,13 @@ ghost use Rattle.rules.specs.Verdict.{number_of};
 ghost use Rattle.flow_table.specs.Words.{count_of};
 ghost use Rattle.context.specs.Lent.{context_given, context_before};
 ghost use Rattle.context.specs.Sound.{sound_context};
-ghost use Rattle.context.specs.Turns.{is_ready, numbers, first_ready, named_by, offered_by, choice_of, with_turn, chose, on_choose};
+ghost use Rattle.context.specs.Turns.{is_ready, numbers, first_ready, named_by, offered_by, choice_of, named_in, with_turn, chose, on_choose};
 
 use crate::Controller;
 use crate::join::share;
 use crate::look::marked_from;
 use crate::sound::is_sound;
-use rules::verdict::{Refusal, Verdict};
+use rules::verdict::{Answer, Refusal};
 
 // What the flow that is named sends: its marked packet nearest to low, or else a new packet, whose PSN is next.
 #[derive(Clone, Copy)]
@@ -21,20 +21,6 @@ pub struct Turn {
     pub flow: usize,
     pub psn: u32,
     pub resend: bool,
-}
-
-#[derive(Clone, Copy)]
-pub enum Choice {
-    Nobody,
-    Named(Turn),
-}
-
-// What a choice answers: the shared state with the turn moved, the verdict, and who is named.
-#[derive(Clone, Copy)]
-pub struct Chosen {
-    pub state: Controller,
-    pub verdict: Verdict,
-    pub choice: Choice,
 }
 
 // What flow k sends if it is ready. The words of its marked bits tell whether it has a marked packet. Inner steps, this and the next two:
@@ -48,7 +34,7 @@ fn offer<'a>(
     sent: &'a [u64],
     evs: &'a [u64],
     k: usize,
-) -> Choice
+) -> Option<Turn>
     requires evs_value { sound_context (context_given c flows.now outstanding.now marked.now sizes.now sent.now evs.now) ≡ true }
     requires k_bound { k < count_of flows.now }
     ensures { choice_of result ≡ offered_by (context_before c flows.now outstanding.now marked.now sizes.now sent.now evs.now)
@@ -58,7 +44,7 @@ fn offer<'a>(
     let psn = marked_from(c, flows, outstanding, marked, sizes, sent, evs, k, f.low);
     let resend = psn != f.next;
     if resend {
-        return Choice::Named(Turn {
+        return Some(Turn {
             flow: k,
             psn,
             resend,
@@ -66,13 +52,13 @@ fn offer<'a>(
     }
     let cap = share(sizes.len(), flow_table::count(flows));
     if (0 < f.backlog) & (serial::psn_minus(f.next, f.low) as usize != cap) {
-        return Choice::Named(Turn {
+        return Some(Turn {
             flow: k,
             psn,
             resend,
         });
     }
-    Choice::Nobody
+    None
 }
 
 // What the first ready flow of `from` to end - 1 sends.
@@ -86,7 +72,7 @@ fn first_ready<'a>(
     evs: &'a [u64],
     from: usize,
     end: usize,
-) -> Choice
+) -> Option<Turn>
     requires evs_value { sound_context (context_given c flows.now outstanding.now marked.now sizes.now sent.now evs.now) ≡ true }
     requires from_le_end { (from ≤ end) × (end ≤ count_of flows.now) }
     ensures { choice_of result ≡ offered_by (context_before c flows.now outstanding.now marked.now sizes.now sent.now evs.now)
@@ -94,11 +80,11 @@ fn first_ready<'a>(
 {
     for k in from..end {
         let offered = offer(c, flows, outstanding, marked, sizes, sent, evs, k);
-        if let Choice::Named(turn) = offered {
-            return Choice::Named(turn);
+        if let Some(turn) = offered {
+            return Some(turn);
         }
     }
-    Choice::Nobody
+    None
 }
 
 // Whom the round names: the flows from the held turn on, then those before it.
@@ -110,7 +96,7 @@ fn round<'a>(
     sizes: &'a [u32],
     sent: &'a [u64],
     evs: &'a [u64],
-) -> Choice
+) -> Option<Turn>
     requires { sound_context (context_given c flows.now outstanding.now marked.now sizes.now sent.now evs.now) ≡ true }
     ensures { choice_of result ≡ offered_by (context_before c flows.now outstanding.now marked.now sizes.now sent.now evs.now)
         (named_by (context_before c flows.now outstanding.now marked.now sizes.now sent.now evs.now)) }
@@ -119,13 +105,13 @@ fn round<'a>(
     let window = c.window;
     let totals = c.totals;
     if !sender::naming::has_room(settings.mtu, window.cwnd, totals.in_flight) {
-        return Choice::Nobody;
+        return None;
     }
     let turn = c.turn as usize;
     let n = flow_table::count(flows);
     let first = first_ready(c, flows, outstanding, marked, sizes, sent, evs, turn, n);
-    if let Choice::Named(named) = first {
-        return Choice::Named(named);
+    if let Some(named) = first {
+        return Some(named);
     }
     first_ready(c, flows, outstanding, marked, sizes, sent, evs, 0, turn)
 }
@@ -168,30 +154,26 @@ pub fn choose<'a>(
     sizes: &'a [u32],
     sent: &'a [u64],
     evs: &'a [u64],
-) -> Chosen
-    ensures { chose (number_of result.verdict) (choice_of result.choice)
+) -> Answer<Controller, Option<Turn>>
+    ensures { chose (number_of result.outcome) (named_in result.outcome)
         (context_before result.state flows.now outstanding.now marked.now sizes.now sent.now evs.now)
         ≡ on_choose (context_before c flows.now outstanding.now marked.now sizes.now sent.now evs.now) }
 {
     if !is_sound(c, flows, outstanding, marked, sizes, sent, evs) {
-        return Chosen {
+        return Answer {
             state: c,
-            verdict: Err(Refusal::Unsound),
-            choice: Choice::Nobody,
+            outcome: Err(Refusal::Unsound),
         };
     }
     let choice = round(c, flows, outstanding, marked, sizes, sent, evs);
-    let Choice::Named(turn) = choice else {
-        return Chosen {
+    let Some(turn) = choice else {
+        return Answer {
             state: c,
-            verdict: Ok(()),
-            choice: Choice::Nobody,
+            outcome: Ok(None),
         };
     };
-    let state = with_turn(c, after(turn.flow, flow_table::count(flows)));
-    Chosen {
-        state,
-        verdict: Ok(()),
-        choice: Choice::Named(turn),
+    Answer {
+        state: with_turn(c, after(turn.flow, flow_table::count(flows))),
+        outcome: Ok(Some(turn)),
     }
 }

@@ -1,15 +1,17 @@
 // Each event of a flow with its test of number 2, over the table's words: what C lends. No function has a `requires`: whatever is handed
 // in, it ends, and answers by document 01's table.
 ghost use Rattle.std.specs.Prelude.{◌≡◌};
+ghost use Rattle.std.specs.Result.{result_unwrap_or};
 ghost use Rattle.rules.specs.Verdict.{number_of};
 ghost use Rattle.sender.specs.Events.{says_of};
 ghost use Rattle.context.specs.Lent.{context_before, answered_after, routed_after};
 ghost use Rattle.context.specs.Events.{on_new_data, on_send, on_ack, ack_says, on_nack, nack_says, on_loss, on_path};
 
 use crate::sound::is_sound;
-use crate::{Answer, Controller, Heard, Routed, rely};
-use rules::verdict::{Refusal, Verdict};
-use sender::{Ack, Feedback, Loss, Nack, Send};
+use crate::{Controller, rely};
+use rules::verdict::{Answer, Refusal};
+use sender::{Ack, Loss, Nack, Send};
+use window::Sampling;
 
 // There is more to send on a flow. 2, 3, 25, 20; else the backlogs rise.
 pub fn new_data<'a, 'b>(
@@ -23,14 +25,14 @@ pub fn new_data<'a, 'b>(
     time: u64,
     flow: usize,
     bytes: u64,
-) -> Answer
-    ensures { answered_after (number_of result.verdict) result.state flows.new outstanding.now marked.now sizes.now sent.now evs.now
+) -> Answer<Controller, ()>
+    ensures { answered_after (number_of result.outcome) result.state flows.new outstanding.now marked.now sizes.now sent.now evs.now
         ≡ on_new_data time flow bytes (context_before c flows.old outstanding.now marked.now sizes.now sent.now evs.now) }
 {
     if !is_sound(c, flows, outstanding, marked, sizes, sent, evs) {
         return Answer {
             state: c,
-            verdict: Err(Refusal::Unsound),
+            outcome: Err(Refusal::Unsound),
         };
     }
     rely::new_data(
@@ -59,14 +61,14 @@ pub fn send<'a, 'b, 'c, 'd, 'e, 'f>(
     time: u64,
     flow: usize,
     a: Send,
-) -> Answer
-    ensures { answered_after (number_of result.verdict) result.state flows.new outstanding.new marked.new sizes.new sent.new evs.now
+) -> Answer<Controller, ()>
+    ensures { answered_after (number_of result.outcome) result.state flows.new outstanding.new marked.new sizes.new sent.new evs.now
         ≡ on_send time flow a (context_before c flows.old outstanding.old marked.old sizes.old sent.old evs.now) }
 {
     if !is_sound(c, flows, outstanding, marked, sizes, sent, evs) {
         return Answer {
             state: c,
-            verdict: Err(Refusal::Unsound),
+            outcome: Err(Refusal::Unsound),
         };
     }
     rely::send(
@@ -96,16 +98,15 @@ pub fn ack<'a, 'b, 'c, 'd, 'e, 'f>(
     time: u64,
     flow: usize,
     a: Ack,
-) -> Heard
-    ensures evs_value { answered_after (number_of result.verdict) result.state flows.new outstanding.new marked.new sizes.new sent.new evs.new
+) -> Answer<Controller, Sampling>
+    ensures evs_value { answered_after (number_of result.outcome) result.state flows.new outstanding.new marked.new sizes.new sent.new evs.new
         ≡ on_ack time flow a (context_before c flows.old outstanding.old marked.old sizes.old sent.old evs.old) }
-    ensures feedback_value { says_of result.feedback ≡ ack_says time flow a (context_before c flows.old outstanding.old marked.old sizes.old sent.old evs.old) }
+    ensures feedback_value { says_of result.outcome ≡ ack_says time flow a (context_before c flows.old outstanding.old marked.old sizes.old sent.old evs.old) }
 {
     if !is_sound(c, flows, outstanding, marked, sizes, sent, evs) {
-        return Heard {
+        return Answer {
             state: c,
-            verdict: Err(Refusal::Unsound),
-            feedback: Feedback::Nothing,
+            outcome: Err(Refusal::Unsound),
         };
     }
     rely::ack(
@@ -135,16 +136,15 @@ pub fn nack<'a, 'b, 'c>(
     time: u64,
     flow: usize,
     a: Nack,
-) -> Heard
-    ensures evs_value { answered_after (number_of result.verdict) result.state flows.now outstanding.now marked.new sizes.now sent.now evs.new
+) -> Answer<Controller, Sampling>
+    ensures evs_value { answered_after (number_of result.outcome) result.state flows.now outstanding.now marked.new sizes.now sent.now evs.new
         ≡ on_nack time flow a (context_before c flows.now outstanding.now marked.old sizes.now sent.now evs.old) }
-    ensures feedback_value { says_of result.feedback ≡ nack_says time flow a (context_before c flows.now outstanding.now marked.old sizes.now sent.now evs.old) }
+    ensures feedback_value { says_of result.outcome ≡ nack_says time flow a (context_before c flows.now outstanding.now marked.old sizes.now sent.now evs.old) }
 {
     if !is_sound(c, flows, outstanding, marked, sizes, sent, evs) {
-        return Heard {
+        return Answer {
             state: c,
-            verdict: Err(Refusal::Unsound),
-            feedback: Feedback::Nothing,
+            outcome: Err(Refusal::Unsound),
         };
     }
     rely::nack(
@@ -174,14 +174,14 @@ pub fn loss<'a, 'b, 'c>(
     time: u64,
     flow: usize,
     a: Loss,
-) -> Answer
-    ensures { answered_after (number_of result.verdict) result.state flows.now outstanding.now marked.new sizes.now sent.now evs.new
+) -> Answer<Controller, ()>
+    ensures { answered_after (number_of result.outcome) result.state flows.now outstanding.now marked.new sizes.now sent.now evs.new
         ≡ on_loss time flow a (context_before c flows.now outstanding.now marked.old sizes.now sent.now evs.old) }
 {
     if !is_sound(c, flows, outstanding, marked, sizes, sent, evs) {
         return Answer {
             state: c,
-            verdict: Err(Refusal::Unsound),
+            outcome: Err(Refusal::Unsound),
         };
     }
     rely::loss(
@@ -210,15 +210,14 @@ pub fn path<'a>(
     evs: &'a [u64],
     time: u64,
     flow: usize,
-) -> Routed
-    ensures { routed_after (number_of result.verdict) result.ev result.state flows.now outstanding.now marked.now sizes.now sent.now evs.now
+) -> Answer<Controller, u32>
+    ensures { routed_after (number_of result.outcome) (result_unwrap_or result.outcome 0) result.state flows.now outstanding.now marked.now sizes.now sent.now evs.now
         ≡ on_path time flow (context_before c flows.now outstanding.now marked.now sizes.now sent.now evs.now) }
 {
     if !is_sound(c, flows, outstanding, marked, sizes, sent, evs) {
-        return Routed {
+        return Answer {
             state: c,
-            verdict: Err(Refusal::Unsound),
-            ev: 0,
+            outcome: Err(Refusal::Unsound),
         };
     }
     rely::path(c, flows, outstanding, marked, sizes, sent, evs, time, flow)

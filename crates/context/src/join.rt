@@ -2,7 +2,7 @@
 // each asks for.
 ghost use Rattle.std.specs.Prelude.{◌≡◌, ◌+◌, ◌*◌, ◌/◌, ◌<◌, ◌≤◌, true, ◌||◌, ltb, leb};
 ghost use Rattle.rules.specs.Branch.{if_so};
-ghost use Rattle.rules.specs.Verdict.{number_of};
+ghost use Rattle.rules.specs.Verdict.{number_of, refused_number};
 ghost use Rattle.window.specs.Limits.{time_end};
 ghost use Rattle.ledger.specs.Sound.{is_capacity};
 ghost use Rattle.flow_table.specs.Parts.{words_in};
@@ -11,7 +11,8 @@ ghost use Rattle.context.specs.Context.{joined_of, shared_of, Leaves};
 
 use crate::Controller;
 use ledger::Flow;
-use rules::verdict::{Refusal, Verdict};
+use rules::verdict::Refusal;
+use window::Sampling;
 
 // What is shared, with a flow's record: what the step of one flow works on.
 pub(crate) fn joined(c: Controller, flow: Flow) -> sender::Controller
@@ -108,13 +109,13 @@ pub(crate) fn cut_of(slots: usize, n: usize, k: usize) -> Cut
 }
 
 // A flow out of range: 3, then 25.
-pub(crate) fn no_flow(time: u64, clock: u64) -> Verdict
-    ensures { number_of result ≡ if_so (ltb time clock || leb time_end time) 3 25 }
+pub(crate) fn no_flow(time: u64, clock: u64) -> Refusal
+    ensures { refused_number result ≡ if_so (ltb time clock || leb time_end time) 3 25 }
 {
     if (time < clock) | (sender::TIME_END <= time) {
-        return Err(Refusal::Time);
+        return Refusal::Time;
     }
-    Err(Refusal::Flow)
+    Refusal::Flow
 }
 
 // The record of flow k becomes f where its event was accepted; a refused one leaves it as it was. Behind a store that both make, the
@@ -122,34 +123,34 @@ pub(crate) fn no_flow(time: u64, clock: u64) -> Verdict
 // Inner steps: the caller proves that there is such a flow, and that f is what the event leaves of the record that stands there.
 
 // After new data.
-pub(crate) fn keep_backlog(flows: &mut [u64], k: usize, f: Flow, verdict: Verdict)
+pub(crate) fn keep_backlog(flows: &mut [u64], k: usize, f: Flow, outcome: Result<(), Refusal>)
     requires k_bound { k < count_of flows.old }
-    requires leaves { Leaves with_backlog (number_of verdict) (flow_at flows.old k) f }
+    requires leaves { Leaves with_backlog (number_of outcome) (flow_at flows.old k) f }
     ensures { flows.new ≡ with_flow flows.old k f }
 {
-    if verdict.is_ok() {
+    if outcome.is_ok() {
         flow_table::put_backlog(flows, k, f);
     }
 }
 
 // After a send.
-pub(crate) fn keep_sent(flows: &mut [u64], k: usize, f: Flow, verdict: Verdict)
+pub(crate) fn keep_sent(flows: &mut [u64], k: usize, f: Flow, outcome: Result<(), Refusal>)
     requires k_bound { k < count_of flows.old }
-    requires leaves { Leaves with_sent (number_of verdict) (flow_at flows.old k) f }
+    requires leaves { Leaves with_sent (number_of outcome) (flow_at flows.old k) f }
     ensures { flows.new ≡ with_flow flows.old k f }
 {
-    if verdict.is_ok() {
+    if outcome.is_ok() {
         flow_table::put_sent(flows, k, f);
     }
 }
 
 // After an ACK.
-pub(crate) fn keep_acked(flows: &mut [u64], k: usize, f: Flow, verdict: Verdict)
+pub(crate) fn keep_acked(flows: &mut [u64], k: usize, f: Flow, outcome: Result<Sampling, Refusal>)
     requires k_bound { k < count_of flows.old }
-    requires leaves { Leaves with_acked (number_of verdict) (flow_at flows.old k) f }
+    requires leaves { Leaves with_acked (number_of outcome) (flow_at flows.old k) f }
     ensures { flows.new ≡ with_flow flows.old k f }
 {
-    if verdict.is_ok() {
+    if outcome.is_ok() {
         flow_table::put_acked(flows, k, f);
     }
 }

@@ -13,15 +13,16 @@ pub mod start;
 mod table;
 
 ghost use Rattle.std.specs.Prelude.{◌≡◌};
+ghost use Rattle.std.specs.Result.{result_unwrap_or};
 ghost use Rattle.rules.specs.Verdict.{number_of};
 ghost use Rattle.sender.specs.Events.{says_of};
 ghost use Rattle.context.specs.Events.{on_new_data, on_send, on_ack, ack_says, on_nack, nack_says, on_loss, on_path};
 ghost use Rattle.context.specs.Table.{words_before, tabled_after, in_records, route_answer};
 
 use ledger::{Flow, Totals};
-use rules::verdict::Verdict;
-use sender::{Ack, Feedback, Loss, Nack, Send};
-use window::{Settings, Window};
+use rules::verdict::Answer;
+use sender::{Ack, Loss, Nack, Send};
+use window::{Sampling, Settings, Window};
 
 // What all flows of a context share. Numbers of 32 bits stand in pairs, so that it has no gaps.
 #[derive(Clone, Copy)]
@@ -34,29 +35,6 @@ pub struct Controller {
     pub phase: u32,
     // The flow from which the next round starts (request M-108).
     pub turn: u64,
-}
-
-// What an event answers: the whole shared state, and the verdict on it.
-#[derive(Clone, Copy)]
-pub struct Answer {
-    pub state: Controller,
-    pub verdict: Verdict,
-}
-
-// The same of an ACK or a NACK, with what it says of its sample (request M-103).
-#[derive(Clone, Copy)]
-pub struct Heard {
-    pub state: Controller,
-    pub verdict: Verdict,
-    pub feedback: Feedback,
-}
-
-// The same of a path choice, with the EV: 0 where it is refused.
-#[derive(Clone, Copy)]
-pub struct Routed {
-    pub state: Controller,
-    pub verdict: Verdict,
-    pub ev: u32,
 }
 
 // Each event as a method on the controller by value (document 01, "Form by location": "answers state and outcome"), over a lent table of
@@ -75,8 +53,8 @@ impl Controller {
         time: u64,
         flow: usize,
         bytes: u64,
-    ) -> Answer
-        ensures { tabled_after (number_of result.verdict) result.state table.new outstanding.new marked.new sizes.new sent.new evs.new
+    ) -> Answer<Controller, ()>
+        ensures { tabled_after (number_of result.outcome) result.state table.new outstanding.new marked.new sizes.new sent.new evs.new
             ≡ in_records (on_new_data time flow bytes (words_before self table.old outstanding.old marked.old sizes.old sent.old evs.old)) }
     {
         let fs = flow_table::lent::load(table);
@@ -108,8 +86,8 @@ impl Controller {
         time: u64,
         flow: usize,
         a: Send,
-    ) -> Answer
-        ensures { tabled_after (number_of result.verdict) result.state table.new outstanding.new marked.new sizes.new sent.new evs.new
+    ) -> Answer<Controller, ()>
+        ensures { tabled_after (number_of result.outcome) result.state table.new outstanding.new marked.new sizes.new sent.new evs.new
             ≡ in_records (on_send time flow a (words_before self table.old outstanding.old marked.old sizes.old sent.old evs.old)) }
     {
         let fs = flow_table::lent::load(table);
@@ -141,10 +119,10 @@ impl Controller {
         time: u64,
         flow: usize,
         a: Ack,
-    ) -> Heard
-        ensures { (tabled_after (number_of result.verdict) result.state table.new outstanding.new marked.new sizes.new sent.new evs.new
+    ) -> Answer<Controller, Sampling>
+        ensures { (tabled_after (number_of result.outcome) result.state table.new outstanding.new marked.new sizes.new sent.new evs.new
             ≡ in_records (on_ack time flow a (words_before self table.old outstanding.old marked.old sizes.old sent.old evs.old)))
-            × (says_of result.feedback ≡ ack_says time flow a (words_before self table.old outstanding.old marked.old sizes.old sent.old evs.old)) }
+            × (says_of result.outcome ≡ ack_says time flow a (words_before self table.old outstanding.old marked.old sizes.old sent.old evs.old)) }
     {
         let fs = flow_table::lent::load(table);
         let r = table::ack(
@@ -175,10 +153,10 @@ impl Controller {
         time: u64,
         flow: usize,
         a: Nack,
-    ) -> Heard
-        ensures { (tabled_after (number_of result.verdict) result.state table.new outstanding.new marked.new sizes.new sent.new evs.new
+    ) -> Answer<Controller, Sampling>
+        ensures { (tabled_after (number_of result.outcome) result.state table.new outstanding.new marked.new sizes.new sent.new evs.new
             ≡ in_records (on_nack time flow a (words_before self table.old outstanding.old marked.old sizes.old sent.old evs.old)))
-            × (says_of result.feedback ≡ nack_says time flow a (words_before self table.old outstanding.old marked.old sizes.old sent.old evs.old)) }
+            × (says_of result.outcome ≡ nack_says time flow a (words_before self table.old outstanding.old marked.old sizes.old sent.old evs.old)) }
     {
         let fs = flow_table::lent::load(table);
         let r = table::nack(
@@ -209,8 +187,8 @@ impl Controller {
         time: u64,
         flow: usize,
         a: Loss,
-    ) -> Answer
-        ensures { tabled_after (number_of result.verdict) result.state table.new outstanding.new marked.new sizes.new sent.new evs.new
+    ) -> Answer<Controller, ()>
+        ensures { tabled_after (number_of result.outcome) result.state table.new outstanding.new marked.new sizes.new sent.new evs.new
             ≡ in_records (on_loss time flow a (words_before self table.old outstanding.old marked.old sizes.old sent.old evs.old)) }
     {
         let fs = flow_table::lent::load(table);
@@ -241,10 +219,10 @@ impl Controller {
         evs: &mut [u64],
         time: u64,
         flow: usize,
-    ) -> Routed
-        ensures { (tabled_after (number_of result.verdict) result.state table.new outstanding.new marked.new sizes.new sent.new evs.new
+    ) -> Answer<Controller, u32>
+        ensures { (tabled_after (number_of result.outcome) result.state table.new outstanding.new marked.new sizes.new sent.new evs.new
             ≡ in_records (route_answer (on_path time flow (words_before self table.old outstanding.old marked.old sizes.old sent.old evs.old))))
-            × (result.ev ≡ (on_path time flow (words_before self table.old outstanding.old marked.old sizes.old sent.old evs.old)).ev) }
+            × (result_unwrap_or result.outcome 0 ≡ (on_path time flow (words_before self table.old outstanding.old marked.old sizes.old sent.old evs.old)).ev) }
     {
         let fs = flow_table::lent::load(table);
         let r = table::path(self, fs, outstanding, marked, sizes, sent, evs, time, flow);

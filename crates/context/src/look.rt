@@ -1,6 +1,7 @@
 // What firmware asks of a flow's ring, which it need not read itself (request M-109). The context is tested for number 2, as by every call,
 // then the flow for number 25 (request M-107), and nothing is changed.
 ghost use Rattle.std.specs.Prelude.{◌≡◌, true, ◌<◌};
+ghost use Rattle.std.specs.Result.{result_unwrap_or};
 ghost use Rattle.rules.specs.Verdict.{number_of};
 ghost use Rattle.sender.specs.Look.{looked};
 ghost use Rattle.flow_table.specs.Words.{count_of};
@@ -12,14 +13,7 @@ use crate::Controller;
 use crate::join::cut_of;
 use crate::sound::is_sound;
 use ledger::{Books, Packet};
-use rules::verdict::{Refusal, Verdict};
-use sender::look::Look;
-
-fn look(verdict: Verdict, found: u32) -> Look
-    ensures { looked (number_of result.verdict) result.found ≡ looked (number_of verdict) found }
-{
-    Look { verdict, found }
-}
+use rules::verdict::Refusal;
 
 // The packet of a PSN of flow k, past both tests; all zero where it is none of low..next-1. An inner step, like the next but one: the
 // caller proves that they are passed.
@@ -65,18 +59,18 @@ pub fn status<'a>(
     evs: &'a [u64],
     flow: usize,
     psn: u32,
-) -> Look
-    ensures { looked (number_of result.verdict) result.found
+) -> Result<u32, Refusal>
+    ensures { looked (number_of result) (result_unwrap_or result 0)
         ≡ on_status flow psn (context_before c flows.now outstanding.now marked.now sizes.now sent.now evs.now) }
 {
     if !is_sound(c, flows, outstanding, marked, sizes, sent, evs) {
-        return look(Err(Refusal::Unsound), 0);
+        return Err(Refusal::Unsound);
     }
     if flow_table::count(flows) <= flow {
-        return look(Err(Refusal::Flow), 0);
+        return Err(Refusal::Flow);
     }
     let x = packet_at(c, flows, outstanding, marked, sizes, sent, evs, flow, psn);
-    look(Ok(()), x.status as u32)
+    Ok(x.status as u32)
 }
 
 // Flow k's first marked PSN from psn on, past both tests.
@@ -124,16 +118,15 @@ pub fn next_marked<'a>(
     evs: &'a [u64],
     flow: usize,
     psn: u32,
-) -> Look
-    ensures { looked (number_of result.verdict) result.found
+) -> Result<u32, Refusal>
+    ensures { looked (number_of result) (result_unwrap_or result 0)
         ≡ on_next_marked flow psn (context_before c flows.now outstanding.now marked.now sizes.now sent.now evs.now) }
 {
     if !is_sound(c, flows, outstanding, marked, sizes, sent, evs) {
-        return look(Err(Refusal::Unsound), 0);
+        return Err(Refusal::Unsound);
     }
     if flow_table::count(flows) <= flow {
-        return look(Err(Refusal::Flow), 0);
+        return Err(Refusal::Flow);
     }
-    let found = marked_from(c, flows, outstanding, marked, sizes, sent, evs, flow, psn);
-    look(Ok(()), found)
+    Ok(marked_from(c, flows, outstanding, marked, sizes, sent, evs, flow, psn))
 }

@@ -1,15 +1,18 @@
 // Each event of a flow for a caller who knows that state and buffers hold together: the sender's step on that flow's record and its part of
 // the ring buffer. A replay tests once; what an event leaves holds together again, whatever it answers.
 ghost use Rattle.std.specs.Prelude.{◌≡◌, true};
+ghost use Rattle.std.specs.Result.{result_unwrap_or};
 ghost use Rattle.rules.specs.Verdict.{number_of};
 ghost use Rattle.sender.specs.Events.{says_of};
 ghost use Rattle.context.specs.Lent.{context_given, context_before, answered_after, routed_after};
 ghost use Rattle.context.specs.Sound.{sound_context};
 ghost use Rattle.context.specs.Events.{past_new_data, past_send, past_ack, past_ack_says, past_nack, past_nack_says, past_loss, past_path};
 
+use crate::Controller;
 use crate::join::{cut_of, joined, keep_acked, keep_backlog, keep_sent, no_flow, shared};
-use crate::{Answer, Controller, Heard, Routed};
-use sender::{Ack, Feedback, Loss, Nack, Send};
+use rules::verdict::Answer;
+use sender::{Ack, Loss, Nack, Send};
+use window::Sampling;
 
 // New data of a flow. Its ring and the EV times are lent for what the step requires of them.
 pub fn new_data<'a, 'b>(
@@ -23,16 +26,16 @@ pub fn new_data<'a, 'b>(
     time: u64,
     flow: usize,
     bytes: u64,
-) -> Answer
+) -> Answer<Controller, ()>
     requires { sound_context (context_given c flows.old outstanding.now marked.now sizes.now sent.now evs.now) ≡ true }
-    ensures { answered_after (number_of result.verdict) result.state flows.new outstanding.now marked.now sizes.now sent.now evs.now
+    ensures { answered_after (number_of result.outcome) result.state flows.new outstanding.now marked.now sizes.now sent.now evs.now
         ≡ past_new_data time flow bytes (context_before c flows.old outstanding.now marked.now sizes.now sent.now evs.now) }
 {
     let n = flow_table::count(flows);
     if n <= flow {
         return Answer {
             state: c,
-            verdict: no_flow(time, c.clock),
+            outcome: Err(no_flow(time, c.clock)),
         };
     }
     let p = cut_of(sizes.len(), n, flow);
@@ -52,11 +55,11 @@ pub fn new_data<'a, 'b>(
         bytes,
     );
     let after = told.state;
-    let verdict = told.verdict;
-    keep_backlog(flows, flow, after.flow, verdict);
+    let outcome = told.outcome;
+    keep_backlog(flows, flow, after.flow, outcome);
     Answer {
         state: shared(c.turn, after),
-        verdict,
+        outcome,
     }
 }
 
@@ -72,16 +75,16 @@ pub fn send<'a, 'b, 'c, 'd, 'e, 'f>(
     time: u64,
     flow: usize,
     a: Send,
-) -> Answer
+) -> Answer<Controller, ()>
     requires { sound_context (context_given c flows.old outstanding.old marked.old sizes.old sent.old evs.now) ≡ true }
-    ensures { answered_after (number_of result.verdict) result.state flows.new outstanding.new marked.new sizes.new sent.new evs.now
+    ensures { answered_after (number_of result.outcome) result.state flows.new outstanding.new marked.new sizes.new sent.new evs.now
         ≡ past_send time flow a (context_before c flows.old outstanding.old marked.old sizes.old sent.old evs.now) }
 {
     let n = flow_table::count(flows);
     if n <= flow {
         return Answer {
             state: c,
-            verdict: no_flow(time, c.clock),
+            outcome: Err(no_flow(time, c.clock)),
         };
     }
     let p = cut_of(sizes.len(), n, flow);
@@ -101,11 +104,11 @@ pub fn send<'a, 'b, 'c, 'd, 'e, 'f>(
         a,
     );
     let after = told.state;
-    let verdict = told.verdict;
-    keep_sent(flows, flow, after.flow, verdict);
+    let outcome = told.outcome;
+    keep_sent(flows, flow, after.flow, outcome);
     Answer {
         state: shared(c.turn, after),
-        verdict,
+        outcome,
     }
 }
 
@@ -121,18 +124,17 @@ pub fn ack<'a, 'b, 'c, 'd, 'e, 'f>(
     time: u64,
     flow: usize,
     a: Ack,
-) -> Heard
+) -> Answer<Controller, Sampling>
     requires { sound_context (context_given c flows.old outstanding.old marked.old sizes.old sent.old evs.old) ≡ true }
-    ensures evs_value { answered_after (number_of result.verdict) result.state flows.new outstanding.new marked.new sizes.new sent.new evs.new
+    ensures evs_value { answered_after (number_of result.outcome) result.state flows.new outstanding.new marked.new sizes.new sent.new evs.new
         ≡ past_ack time flow a (context_before c flows.old outstanding.old marked.old sizes.old sent.old evs.old) }
-    ensures feedback_value { says_of result.feedback ≡ past_ack_says time flow a (context_before c flows.old outstanding.old marked.old sizes.old sent.old evs.old) }
+    ensures feedback_value { says_of result.outcome ≡ past_ack_says time flow a (context_before c flows.old outstanding.old marked.old sizes.old sent.old evs.old) }
 {
     let n = flow_table::count(flows);
     if n <= flow {
-        return Heard {
+        return Answer {
             state: c,
-            verdict: no_flow(time, c.clock),
-            feedback: Feedback::Nothing,
+            outcome: Err(no_flow(time, c.clock)),
         };
     }
     let p = cut_of(sizes.len(), n, flow);
@@ -152,13 +154,11 @@ pub fn ack<'a, 'b, 'c, 'd, 'e, 'f>(
         a,
     );
     let after = heard.state;
-    let verdict = heard.verdict;
-    let feedback = heard.feedback;
-    keep_acked(flows, flow, after.flow, verdict);
-    Heard {
+    let outcome = heard.outcome;
+    keep_acked(flows, flow, after.flow, outcome);
+    Answer {
         state: shared(c.turn, after),
-        verdict,
-        feedback,
+        outcome,
     }
 }
 
@@ -174,18 +174,17 @@ pub fn nack<'a, 'b, 'c>(
     time: u64,
     flow: usize,
     a: Nack,
-) -> Heard
+) -> Answer<Controller, Sampling>
     requires { sound_context (context_given c flows.now outstanding.now marked.old sizes.now sent.now evs.old) ≡ true }
-    ensures evs_value { answered_after (number_of result.verdict) result.state flows.now outstanding.now marked.new sizes.now sent.now evs.new
+    ensures evs_value { answered_after (number_of result.outcome) result.state flows.now outstanding.now marked.new sizes.now sent.now evs.new
         ≡ past_nack time flow a (context_before c flows.now outstanding.now marked.old sizes.now sent.now evs.old) }
-    ensures feedback_value { says_of result.feedback ≡ past_nack_says time flow a (context_before c flows.now outstanding.now marked.old sizes.now sent.now evs.old) }
+    ensures feedback_value { says_of result.outcome ≡ past_nack_says time flow a (context_before c flows.now outstanding.now marked.old sizes.now sent.now evs.old) }
 {
     let n = flow_table::count(flows);
     if n <= flow {
-        return Heard {
+        return Answer {
             state: c,
-            verdict: no_flow(time, c.clock),
-            feedback: Feedback::Nothing,
+            outcome: Err(no_flow(time, c.clock)),
         };
     }
     let p = cut_of(sizes.len(), n, flow);
@@ -205,12 +204,10 @@ pub fn nack<'a, 'b, 'c>(
         a,
     );
     let after = heard.state;
-    let verdict = heard.verdict;
-    let feedback = heard.feedback;
-    Heard {
+    let outcome = heard.outcome;
+    Answer {
         state: shared(c.turn, after),
-        verdict,
-        feedback,
+        outcome,
     }
 }
 
@@ -226,16 +223,16 @@ pub fn loss<'a, 'b, 'c>(
     time: u64,
     flow: usize,
     a: Loss,
-) -> Answer
+) -> Answer<Controller, ()>
     requires { sound_context (context_given c flows.now outstanding.now marked.old sizes.now sent.now evs.old) ≡ true }
-    ensures { answered_after (number_of result.verdict) result.state flows.now outstanding.now marked.new sizes.now sent.now evs.new
+    ensures { answered_after (number_of result.outcome) result.state flows.now outstanding.now marked.new sizes.now sent.now evs.new
         ≡ past_loss time flow a (context_before c flows.now outstanding.now marked.old sizes.now sent.now evs.old) }
 {
     let n = flow_table::count(flows);
     if n <= flow {
         return Answer {
             state: c,
-            verdict: no_flow(time, c.clock),
+            outcome: Err(no_flow(time, c.clock)),
         };
     }
     let p = cut_of(sizes.len(), n, flow);
@@ -255,10 +252,10 @@ pub fn loss<'a, 'b, 'c>(
         a,
     );
     let after = told.state;
-    let verdict = told.verdict;
+    let outcome = told.outcome;
     Answer {
         state: shared(c.turn, after),
-        verdict,
+        outcome,
     }
 }
 
@@ -273,17 +270,16 @@ pub fn path<'a>(
     evs: &'a [u64],
     time: u64,
     flow: usize,
-) -> Routed
+) -> Answer<Controller, u32>
     requires { sound_context (context_given c flows.now outstanding.now marked.now sizes.now sent.now evs.now) ≡ true }
-    ensures { routed_after (number_of result.verdict) result.ev result.state flows.now outstanding.now marked.now sizes.now sent.now evs.now
+    ensures { routed_after (number_of result.outcome) (result_unwrap_or result.outcome 0) result.state flows.now outstanding.now marked.now sizes.now sent.now evs.now
         ≡ past_path time flow (context_before c flows.now outstanding.now marked.now sizes.now sent.now evs.now) }
 {
     let n = flow_table::count(flows);
     if n <= flow {
-        return Routed {
+        return Answer {
             state: c,
-            verdict: no_flow(time, c.clock),
-            ev: 0,
+            outcome: Err(no_flow(time, c.clock)),
         };
     }
     let p = cut_of(sizes.len(), n, flow);
@@ -302,10 +298,9 @@ pub fn path<'a>(
         time,
     );
     let after = chosen.state;
-    let verdict = chosen.verdict;
-    Routed {
+    let outcome = chosen.outcome;
+    Answer {
         state: shared(c.turn, after),
-        verdict,
-        ev: chosen.ev,
+        outcome,
     }
 }

@@ -7,11 +7,11 @@ ghost use Rattle.sender.specs.Start.{no_settings};
 ghost use Rattle.context.specs.Lent.{answered_after};
 ghost use Rattle.context.specs.Start.{lengths_ok, fresh_state, fresh_table, on_set_up};
 
-use crate::Answer;
+use crate::Controller;
 use crate::join::{share, shared};
 use crate::sound::is_cut;
 use ledger::Flow;
-use rules::verdict::{Refusal, Verdict};
+use rules::verdict::{Answer, Refusal};
 use window::Settings;
 
 // Whether the lengths are those of a context: one to eight whole flows, and as many equal rings.
@@ -50,19 +50,19 @@ fn fresh_flows(flows: &mut [u64], psn: u32)
 }
 
 // What is shared of the fresh state.
-pub fn fresh(settings: Settings) -> crate::Controller
+pub fn fresh(settings: Settings) -> Controller
     ensures { result ≡ fresh_state settings }
 {
     shared(0, sender::start::fresh(settings))
 }
 
 // A refused setting up: the state of zeros.
-fn not_set_up(verdict: Verdict) -> Answer
-    ensures { (result.state ≡ fresh_state no_settings) × (result.verdict ≡ verdict) }
+fn not_set_up(refusal: Refusal) -> Answer<Controller, ()>
+    ensures { (result.state ≡ fresh_state no_settings) × (result.outcome ≡ Err refusal) }
 {
     Answer {
         state: fresh(sender::start::no_settings()),
-        verdict,
+        outcome: Err(refusal),
     }
 }
 
@@ -75,22 +75,22 @@ pub fn set_up<'a, 'b, 'c, 'd, 'e, 'f>(
     sizes: &'d mut [u32],
     sent: &'e mut [u64],
     evs: &'f mut [u64],
-) -> Answer
-    ensures { answered_after (number_of result.verdict) result.state flows.new outstanding.new marked.new sizes.new sent.new evs.new
+) -> Answer<Controller, ()>
+    ensures { answered_after (number_of result.outcome) result.state flows.new outstanding.new marked.new sizes.new sent.new evs.new
         ≡ on_set_up settings flows.old (memory_before outstanding.old marked.old sizes.old sent.old) evs.old }
 {
     if !window::bounds::in_range(settings) {
-        return not_set_up(Err(Refusal::Setting));
+        return not_set_up(Refusal::Setting);
     }
     if !(lengths_ok(flows, outstanding, marked, sizes, sent)
         & (evs.len() as u64 == settings.ev_count))
     {
-        return not_set_up(Err(Refusal::Unsound));
+        return not_set_up(Refusal::Unsound);
     }
     fresh_flows(flows, settings.first_psn);
     sender::start::clear(outstanding, marked, sizes, sent, evs);
     Answer {
         state: fresh(settings),
-        verdict: Ok(()),
+        outcome: Ok(()),
     }
 }

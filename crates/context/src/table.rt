@@ -3,33 +3,23 @@
 // that there are to the entry point, and reads the records that it leaves. There is room for eight: of more the number of flows alone
 // refuses it (request M-107: "Refusal 2 tests every flow and the number of flows").
 ghost use Rattle.std.specs.Prelude.{◌≡◌};
+ghost use Rattle.std.specs.Result.{result_unwrap_or};
 ghost use Rattle.std.proofs.Math.Option.{none};
 ghost use Rattle.rules.specs.Verdict.{number_of};
 ghost use Rattle.sender.specs.Events.{says_of};
 ghost use Rattle.context.specs.Events.{on_new_data, on_send, on_ack, ack_says, on_nack, nack_says, on_loss, on_path};
 ghost use Rattle.context.specs.Table.{front_before, stepped_after, unless_many, on_flows, route_answer};
 
-use crate::{Answer, Controller, Heard, Routed, entry};
+use crate::{Controller, entry};
 use flow_table::lent::Flows;
-use rules::verdict::{Refusal, Verdict};
-use sender::{Ack, Feedback, Loss, Nack, Send};
+use rules::verdict::{Answer, Refusal};
+use sender::{Ack, Loss, Nack, Send};
+use window::Sampling;
 
 // What a step leaves: the answer, and the table by value.
 #[derive(Clone, Copy)]
-pub(crate) struct StepAnswer {
-    pub answer: Answer,
-    pub flows: Flows,
-}
-
-#[derive(Clone, Copy)]
-pub(crate) struct StepHeard {
-    pub answer: Heard,
-    pub flows: Flows,
-}
-
-#[derive(Clone, Copy)]
-pub(crate) struct StepRouted {
-    pub answer: Routed,
+pub(crate) struct Step<T> {
+    pub answer: Answer<Controller, T>,
     pub flows: Flows,
 }
 
@@ -45,17 +35,17 @@ pub(crate) fn new_data<'a, 'b, 'c, 'd, 'e>(
     time: u64,
     flow: usize,
     bytes: u64,
-) -> StepAnswer
-    ensures { stepped_after (number_of result.answer.verdict) result.answer.state result.flows outstanding.new marked.new sizes.new sent.new evs.new
+) -> Step<()>
+    ensures { stepped_after (number_of result.answer.outcome) result.answer.state result.flows outstanding.new marked.new sizes.new sent.new evs.new
         ≡ on_flows fs (on_new_data time flow bytes) (front_before c fs outstanding.old marked.old sizes.old sent.old evs.old) }
 {
     let n = fs.n;
     if flow_table::FLOWS_MOST < n {
         let answer = Answer {
             state: c,
-            verdict: Err(Refusal::Unsound),
+            outcome: Err(Refusal::Unsound),
         };
-        return StepAnswer { answer, flows: fs };
+        return Step { answer, flows: fs };
     }
     let mut words = flow_table::lent::to_words(fs);
     let end = flow_table::FLOW_WORDS * n;
@@ -72,7 +62,7 @@ pub(crate) fn new_data<'a, 'b, 'c, 'd, 'e>(
         bytes,
     );
     let flows = flow_table::lent::from_words(n, &words);
-    StepAnswer { answer, flows }
+    Step { answer, flows }
 }
 
 // A new packet or a resend.
@@ -87,17 +77,17 @@ pub(crate) fn send<'a, 'b, 'c, 'd, 'e>(
     time: u64,
     flow: usize,
     a: Send,
-) -> StepAnswer
-    ensures { stepped_after (number_of result.answer.verdict) result.answer.state result.flows outstanding.new marked.new sizes.new sent.new evs.new
+) -> Step<()>
+    ensures { stepped_after (number_of result.answer.outcome) result.answer.state result.flows outstanding.new marked.new sizes.new sent.new evs.new
         ≡ on_flows fs (on_send time flow a) (front_before c fs outstanding.old marked.old sizes.old sent.old evs.old) }
 {
     let n = fs.n;
     if flow_table::FLOWS_MOST < n {
         let answer = Answer {
             state: c,
-            verdict: Err(Refusal::Unsound),
+            outcome: Err(Refusal::Unsound),
         };
-        return StepAnswer { answer, flows: fs };
+        return Step { answer, flows: fs };
     }
     let mut words = flow_table::lent::to_words(fs);
     let end = flow_table::FLOW_WORDS * n;
@@ -114,7 +104,7 @@ pub(crate) fn send<'a, 'b, 'c, 'd, 'e>(
         a,
     );
     let flows = flow_table::lent::from_words(n, &words);
-    StepAnswer { answer, flows }
+    Step { answer, flows }
 }
 
 // An ACK.
@@ -129,20 +119,19 @@ pub(crate) fn ack<'a, 'b, 'c, 'd, 'e>(
     time: u64,
     flow: usize,
     a: Ack,
-) -> StepHeard
-    ensures { (stepped_after (number_of result.answer.verdict) result.answer.state result.flows outstanding.new marked.new sizes.new sent.new evs.new
+) -> Step<Sampling>
+    ensures { (stepped_after (number_of result.answer.outcome) result.answer.state result.flows outstanding.new marked.new sizes.new sent.new evs.new
         ≡ on_flows fs (on_ack time flow a) (front_before c fs outstanding.old marked.old sizes.old sent.old evs.old))
-        × (says_of result.answer.feedback
+        × (says_of result.answer.outcome
         ≡ unless_many fs none (ack_says time flow a (front_before c fs outstanding.old marked.old sizes.old sent.old evs.old))) }
 {
     let n = fs.n;
     if flow_table::FLOWS_MOST < n {
-        let answer = Heard {
+        let answer = Answer {
             state: c,
-            verdict: Err(Refusal::Unsound),
-            feedback: Feedback::Nothing,
+            outcome: Err(Refusal::Unsound),
         };
-        return StepHeard { answer, flows: fs };
+        return Step { answer, flows: fs };
     }
     let mut words = flow_table::lent::to_words(fs);
     let end = flow_table::FLOW_WORDS * n;
@@ -159,7 +148,7 @@ pub(crate) fn ack<'a, 'b, 'c, 'd, 'e>(
         a,
     );
     let flows = flow_table::lent::from_words(n, &words);
-    StepHeard { answer, flows }
+    Step { answer, flows }
 }
 
 // A NACK.
@@ -174,20 +163,19 @@ pub(crate) fn nack<'a, 'b, 'c, 'd, 'e>(
     time: u64,
     flow: usize,
     a: Nack,
-) -> StepHeard
-    ensures { (stepped_after (number_of result.answer.verdict) result.answer.state result.flows outstanding.new marked.new sizes.new sent.new evs.new
+) -> Step<Sampling>
+    ensures { (stepped_after (number_of result.answer.outcome) result.answer.state result.flows outstanding.new marked.new sizes.new sent.new evs.new
         ≡ on_flows fs (on_nack time flow a) (front_before c fs outstanding.old marked.old sizes.old sent.old evs.old))
-        × (says_of result.answer.feedback
+        × (says_of result.answer.outcome
         ≡ unless_many fs none (nack_says time flow a (front_before c fs outstanding.old marked.old sizes.old sent.old evs.old))) }
 {
     let n = fs.n;
     if flow_table::FLOWS_MOST < n {
-        let answer = Heard {
+        let answer = Answer {
             state: c,
-            verdict: Err(Refusal::Unsound),
-            feedback: Feedback::Nothing,
+            outcome: Err(Refusal::Unsound),
         };
-        return StepHeard { answer, flows: fs };
+        return Step { answer, flows: fs };
     }
     let mut words = flow_table::lent::to_words(fs);
     let end = flow_table::FLOW_WORDS * n;
@@ -204,7 +192,7 @@ pub(crate) fn nack<'a, 'b, 'c, 'd, 'e>(
         a,
     );
     let flows = flow_table::lent::from_words(n, &words);
-    StepHeard { answer, flows }
+    Step { answer, flows }
 }
 
 // A packet taken for lost.
@@ -219,17 +207,17 @@ pub(crate) fn loss<'a, 'b, 'c, 'd, 'e>(
     time: u64,
     flow: usize,
     a: Loss,
-) -> StepAnswer
-    ensures { stepped_after (number_of result.answer.verdict) result.answer.state result.flows outstanding.new marked.new sizes.new sent.new evs.new
+) -> Step<()>
+    ensures { stepped_after (number_of result.answer.outcome) result.answer.state result.flows outstanding.new marked.new sizes.new sent.new evs.new
         ≡ on_flows fs (on_loss time flow a) (front_before c fs outstanding.old marked.old sizes.old sent.old evs.old) }
 {
     let n = fs.n;
     if flow_table::FLOWS_MOST < n {
         let answer = Answer {
             state: c,
-            verdict: Err(Refusal::Unsound),
+            outcome: Err(Refusal::Unsound),
         };
-        return StepAnswer { answer, flows: fs };
+        return Step { answer, flows: fs };
     }
     let mut words = flow_table::lent::to_words(fs);
     let end = flow_table::FLOW_WORDS * n;
@@ -246,7 +234,7 @@ pub(crate) fn loss<'a, 'b, 'c, 'd, 'e>(
         a,
     );
     let flows = flow_table::lent::from_words(n, &words);
-    StepAnswer { answer, flows }
+    Step { answer, flows }
 }
 
 // A path choice.
@@ -260,19 +248,18 @@ pub(crate) fn path<'a, 'b, 'c, 'd, 'e>(
     evs: &'e mut [u64],
     time: u64,
     flow: usize,
-) -> StepRouted
-    ensures { (stepped_after (number_of result.answer.verdict) result.answer.state result.flows outstanding.new marked.new sizes.new sent.new evs.new
+) -> Step<u32>
+    ensures { (stepped_after (number_of result.answer.outcome) result.answer.state result.flows outstanding.new marked.new sizes.new sent.new evs.new
         ≡ on_flows fs (λ x. route_answer (on_path time flow x)) (front_before c fs outstanding.old marked.old sizes.old sent.old evs.old))
-        × (result.answer.ev ≡ unless_many fs 0 (on_path time flow (front_before c fs outstanding.old marked.old sizes.old sent.old evs.old)).ev) }
+        × (result_unwrap_or result.answer.outcome 0 ≡ unless_many fs 0 (on_path time flow (front_before c fs outstanding.old marked.old sizes.old sent.old evs.old)).ev) }
 {
     let n = fs.n;
     if flow_table::FLOWS_MOST < n {
-        let answer = Routed {
+        let answer = Answer {
             state: c,
-            verdict: Err(Refusal::Unsound),
-            ev: 0,
+            outcome: Err(Refusal::Unsound),
         };
-        return StepRouted { answer, flows: fs };
+        return Step { answer, flows: fs };
     }
     let mut words = flow_table::lent::to_words(fs);
     let end = flow_table::FLOW_WORDS * n;
@@ -288,5 +275,5 @@ pub(crate) fn path<'a, 'b, 'c, 'd, 'e>(
         flow,
     );
     let flows = flow_table::lent::from_words(n, &words);
-    StepRouted { answer, flows }
+    Step { answer, flows }
 }

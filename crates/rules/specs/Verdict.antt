@@ -1,7 +1,7 @@
 -- The number that document 01's table, as the requests amend it, gives each refusal. "Accepted is 0."
 -- Assumes nothing.
 use Rattle.std.specs.Prelude.{◌≡◌, refl, Bool, true, false, cond, ℕ, ◌≤◌, eqb, ⊤, Result, Ok, Err, is_ok, is_err}
-use Rattle.std.proofs.Common.{sym, ap, ◌∙◌, arith, subst}
+use Rattle.std.proofs.Common.{sym, ap, ◌∙◌, arith, subst, ne_eqb}
 use Rattle.rules.specs.declared.verdict.Refusal.{Refusal}
 use Rattle.rules.specs.declared.verdict.Refusal.TheVariants.{Setting, Unsound, Time, Size, Backlog, WindowFull, RingFull}
 use Rattle.rules.specs.declared.verdict.Refusal.TheVariants.{WrongPsn, UnsentOrOld, NotFlying, Sinks, Malformed, NoRoom}
@@ -30,6 +30,10 @@ number_of (Err Trigger) = 24
 number_of (Err Flow) = 25
 number_of (Err PlanTooLong) = 27
 number_of (Err LogTooLong) = 28
+
+-- a refusal by itself
+abbrev pub refused_number : Refusal → ℕ
+refused_number r = number_of {T = ⊤} (Err r)
 
 -- accepted, or refused: what a judge answers
 abbrev pub Verdict : Type 0
@@ -176,6 +180,11 @@ module _ {T : Type 0} where
 
   pub err_not : (v : Result T Refusal) (r : Refusal) → v ≡ Err r → number_of v ≡ 0 → ⊥
   err_not v r e z = omega (arith, refused_least T r, ap number_of e, z)
+
+  pub ok_test : (v : Result T Refusal) → is_ok v ≡ eqb (number_of v) 0
+  unfolding number_of
+  ok_test (Ok x) = refl
+  ok_test (Err r) = sym (ne_eqb (number_of {T = T} (Err r)) 0 (err_not (Err r) r refl))
 
   pub accepted_zero : (v : Result T Refusal) (b : Bool) → b ≡ is_ok v → b ≡ true → number_of v ≡ 0
   unfolding number_of

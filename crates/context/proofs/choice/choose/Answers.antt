@@ -8,7 +8,7 @@ use Rattle.rules.specs.Verdict.{number_of}
 use Rattle.context.specs.Context.{context}
 use Rattle.context.specs.Lent.{context_given}
 use Rattle.context.specs.Sound.{sound_context}
-use Rattle.context.specs.Turns.{choice_of, chose}
+use Rattle.context.specs.Turns.{choice_of, named_in, chose}
 use Rattle.context.specs.declared.Controller.{Controller}
 use Rattle.context.proofs.Choices.{choose_unsound, choose_nobody, choose_in, choose_named}
 use Rattle.context.proofs.choice.choose.Goals as goal
@@ -22,7 +22,7 @@ holds : (c : After-round-choice) →
 holds c = sym c.is_sound.ensures ∙ c.if-not-is_sound.false
 
 pub returns-then-not-is_sound : goal.returns-then-not-is_sound
-unfolding choice_of number_of
+unfolding choice_of named_in number_of
 returns-then-not-is_sound c =
     let handed = let a = c.args in
     context_given a.c a.flows.now a.outstanding.now a.marked.now a.sizes.now a.sent.now a.evs.now in
@@ -32,7 +32,7 @@ pub round-choice-requires : goal.round-choice-requires
 round-choice-requires c = sym c.is_sound.ensures ∙ c.if-not-is_sound.false
 
 pub returns-in_default : goal.returns-in_default
-unfolding choice_of number_of
+unfolding choice_of named_in number_of
 returns-in_default c =
     let handed = let a = c.args in
     context_given a.c a.flows.now a.outstanding.now a.marked.now a.sizes.now a.sent.now a.evs.now in
@@ -44,16 +44,16 @@ after-requires c =
     let handed = let a = c.args in
     context_given a.c a.flows.now a.outstanding.now a.marked.now a.sizes.now a.sent.now a.evs.now in
     let x = handed in
-    let e = ap choice_of (sym c.in-Named.is) ∙ c.round-choice.ensures in
+    let e = ap choice_of (sym c.in-Some.is) ∙ c.round-choice.ensures in
     omega (arith, c.count.ensures, choose_in x (holds (goal.at.after-requires c).After-round-choice) _ e)
 
 pub returns : goal.returns
-unfolding choice_of number_of
+unfolding choice_of named_in number_of
 returns c =
     let handed = let a = c.args in
     context_given a.c a.flows.now a.outstanding.now a.marked.now a.sizes.now a.sent.now a.evs.now in
     let x = handed in
-    let t = c.in-Named.turn in
-    let e = ap choice_of (sym c.in-Named.is) ∙ c.round-choice.ensures in
-    ap (λ (d : Controller). chose 0 (some t) (context d x.flows x.slots x.times)) c.with_turn-state.ensures
+    let t = c.in-Some.turn in
+    let e = ap choice_of (sym c.in-Some.is) ∙ c.round-choice.ensures in
+    ap (λ (d : Controller). chose 0 (some t) (context d x.flows x.slots x.times)) c.with_turn.ensures
     ∙ choose_named x (holds (goal.at.returns c).After-round-choice) t e _ (c.after.ensures ∙ ap (λ (n : ℕ). (t.flow + 1) % n) c.count.ensures)

@@ -16,13 +16,13 @@ offer-offered-requires c = record {
   k_bound = omega (arith, c.requires.from_le_end);
 }
 
-pub returns-in-Named : goal.returns-in-Named
+pub returns-in-Some : goal.returns-in-Some
 unfolding choice_of
-returns-in-Named c =
+returns-in-Some c =
     let handed = let a = c.args in
     context a.c a.flows.now (memory a.outstanding.now a.marked.now a.sizes.now a.sent.now) a.evs.now in
     let x = handed in
-    named_here x (is_ready x) _ _ c.loop-k-test.true (ap choice_of (sym c.in-Named.is) ∙ c.offer-offered.ensures)
+    named_here x (is_ready x) _ _ c.loop-k-test.true (ap choice_of (sym c.in-Some.is) ∙ c.offer-offered.ensures)
     ∙ sym (ap (offered_by x) c.loop-k.invariant)
 
 pub loop-k-preserved : goal.loop-k-preserved

@@ -94,13 +94,13 @@ first_ready-first-requires c = record {
   from_le_end = (omega (arith, c.count-n.ensures, turn_in (goal.at.first_ready-first-requires c).Start), omega (arith, c.count-n.ensures));
 }
 
-pub returns-in-Named : goal.returns-in-Named
+pub returns-in-Some : goal.returns-in-Some
 unfolding choice_of
-returns-in-Named c =
+returns-in-Some c =
     let handed = let a = c.args in
     context_given a.c a.flows.now a.outstanding.now a.marked.now a.sizes.now a.sent.now a.evs.now in
-    round_front (handed) (opened (goal.at.returns-in-Named c).After-first_ready-first) (turn_in (goal.at.returns-in-Named c).Start)
-    (ap choice_of (sym c.in-Named.is) ∙ rw c.count-n.ensures at c.first_ready-first.ensures)
+    round_front (handed) (opened (goal.at.returns-in-Some c).After-first_ready-first) (turn_in (goal.at.returns-in-Some c).Start)
+    (ap choice_of (sym c.in-Some.is) ∙ rw c.count-n.ensures at c.first_ready-first.ensures)
 
 pub first_ready-requires : goal.first_ready-requires
 first_ready-requires c = record {

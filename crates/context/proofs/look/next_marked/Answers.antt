@@ -31,21 +31,19 @@ unfolding number_of on_next_marked
 returns-then-not-is_sound c =
     let handed = context c.args.c c.args.flows.now
     (memory c.args.outstanding.now c.args.marked.now c.args.sizes.now c.args.sent.now) c.args.evs.now in
-    c.look.ensures
-    ∙ look_unsound c.args.flow _ (handed) (sym c.is_sound.ensures ∙ c.if-not-is_sound.true)
+    look_unsound c.args.flow _ (handed) (sym c.is_sound.ensures ∙ c.if-not-is_sound.true)
 
 pub returns-then-count-flow : goal.returns-then-count-flow
 unfolding number_of on_next_marked
 returns-then-count-flow c =
     let handed = context c.args.c c.args.flows.now
     (memory c.args.outstanding.now c.args.marked.now c.args.sizes.now c.args.sent.now) c.args.evs.now in
-    c.look-then-count-flow.ensures
-    ∙ look_no_flow c.args.flow _ (handed) (holds (goal.at.returns-then-count-flow c).After-count) (omega (arith, c.if-count-flow.true, c.count.ensures))
+    look_no_flow c.args.flow _ (handed) (holds (goal.at.returns-then-count-flow c).After-count) (omega (arith, c.if-count-flow.true, c.count.ensures))
 
-pub marked_from-found-requires : goal.marked_from-found-requires
-marked_from-found-requires c = record {
-  evs_value = holds (goal.at.marked_from-found-requires c).After-count;
-  flow_bound = inside (goal.at.marked_from-found-requires c).Else-count-flow;
+pub marked_from-requires : goal.marked_from-requires
+marked_from-requires c = record {
+  evs_value = holds (goal.at.marked_from-requires c).After-count;
+  flow_bound = inside (goal.at.marked_from-requires c).Else-count-flow;
 }
 
 pub returns : goal.returns
@@ -53,4 +51,4 @@ unfolding number_of on_next_marked
 returns c =
     let handed = context c.args.c c.args.flows.now
     (memory c.args.outstanding.now c.args.marked.now c.args.sizes.now c.args.sent.now) c.args.evs.now in
-    c.look-2.ensures ∙ look_found c.args.flow _ (handed) (holds (goal.at.returns c).After-count) (inside (goal.at.returns c).Else-count-flow) c.marked_from-found.ensures
+    look_found c.args.flow _ (handed) (holds (goal.at.returns c).After-count) (inside (goal.at.returns c).Else-count-flow) c.marked_from.ensures

@@ -32,16 +32,14 @@ unfolding number_of on_status
 returns-then-not-is_sound c =
     let handed = context c.args.c c.args.flows.now
     (memory c.args.outstanding.now c.args.marked.now c.args.sizes.now c.args.sent.now) c.args.evs.now in
-    c.look.ensures
-    ∙ look_unsound c.args.flow _ (handed) (sym c.is_sound.ensures ∙ c.if-not-is_sound.true)
+    look_unsound c.args.flow _ (handed) (sym c.is_sound.ensures ∙ c.if-not-is_sound.true)
 
 pub returns-then-count-flow : goal.returns-then-count-flow
 unfolding number_of on_status
 returns-then-count-flow c =
     let handed = context c.args.c c.args.flows.now
     (memory c.args.outstanding.now c.args.marked.now c.args.sizes.now c.args.sent.now) c.args.evs.now in
-    c.look-then-count-flow.ensures
-    ∙ look_no_flow c.args.flow _ (handed) (holds (goal.at.returns-then-count-flow c).After-count) (omega (arith, c.if-count-flow.true, c.count.ensures))
+    look_no_flow c.args.flow _ (handed) (holds (goal.at.returns-then-count-flow c).After-count) (omega (arith, c.if-count-flow.true, c.count.ensures))
 
 pub packet_at-x-requires : goal.packet_at-x-requires
 packet_at-x-requires c = record {
@@ -54,6 +52,5 @@ unfolding number_of on_status
 returns c =
     let handed = context c.args.c c.args.flows.now
     (memory c.args.outstanding.now c.args.marked.now c.args.sizes.now c.args.sent.now) c.args.evs.now in
-    c.look-2.ensures
-    ∙ look_found c.args.flow _ (handed) (holds (goal.at.returns c).After-count) (inside (goal.at.returns c).Else-count-flow)
+    look_found c.args.flow _ (handed) (holds (goal.at.returns c).After-count) (inside (goal.at.returns c).Else-count-flow)
     (ap (λ (x : Packet). x.status) c.packet_at-x.ensures)

@@ -1,8 +1,11 @@
 -- `nack` lends flow k's part to the sender's step, its marked bits to be changed, and puts back what it leaves (`lift_answer`); the flow's
 -- record stays (`same_table`). A flow out of range is 3 or 25.
-use mathlib.Core.Path.{ap, ◌∙◌}
+use mathlib.Core.Path.{refl, ap, ◌∙◌}
 use Prim.Native.Nat.{◌≤◌}
 use native.Mathlib.Omega.{arith}
+use Rattle.std.specs.Prelude.{⊤, Err}
+use Rattle.rules.specs.Verdict.{err_same}
+use Rattle.window.specs.declared.Sampling.{Sampling}
 use Rattle.sender.specs.World.{view_of, world_of}
 use Rattle.sender.specs.Events.{says_of}
 use Rattle.sender.specs.Events.{past_nack as oneNack, past_nack_says as oneSays}
@@ -34,7 +37,7 @@ returns-then-n-flow c =
     let sees = view_of (world_at c.args.flow (handed)) in
     let sampled = nack_sampling c.args.time c.args.a (sees) in
     let out : flow_count (handed) ≤ c.args.flow = omega (arith, c.if-n-flow.true, c.count-n.ensures) in
-    let e = c.no_flow.ensures in
+    let e = err_same {T = ⊤} Sampling (Err c.no_flow.result) _ refl ∙ c.no_flow.ensures in
     let answer = no_flow_decided c.args.flow (handed) _ _ out e _ in
     record {
       evs_value = answer;

@@ -1,8 +1,10 @@
 -- `path` lends flow k's part to the sender's step, which changes neither it nor the flow's record (`path_flow`, `put_none`); a flow out of
 -- range is 3 or 25.
-use mathlib.Core.Path.{ap, ◌∙◌}
-use Prim.Native.Nat.{◌≤◌}
+use mathlib.Core.Path.{refl, ap, ◌∙◌}
+use Prim.Native.Nat.{ℕ, ◌≤◌}
 use native.Mathlib.Omega.{arith}
+use Rattle.std.specs.Prelude.{⊤, Err}
+use Rattle.rules.specs.Verdict.{err_same}
 use Rattle.sender.specs.World.{view_of, world_of}
 use Rattle.sender.specs.Events.{past_path as onePath}
 use Rattle.sender.specs.Steps.{path_step, route_of}
@@ -30,7 +32,7 @@ returns-then-n-flow c =
     let handed = let a = c.args in
     context_given a.c a.flows.now a.outstanding.now a.marked.now a.sizes.now a.sent.now a.evs.now in
     let out : flow_count (handed) ≤ c.args.flow = omega (arith, c.if-n-flow.true, c.count-n.ensures) in
-    no_flow_chosen c.args.flow (handed) _ _ out c.no_flow.ensures _ _
+    no_flow_chosen c.args.flow (handed) _ _ out (err_same {T = ⊤} ℕ (Err c.no_flow.result) _ refl ∙ c.no_flow.ensures) _ _
 
 pub cut_of-p-requires : goal.cut_of-p-requires
 cut_of-p-requires c =

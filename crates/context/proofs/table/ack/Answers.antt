@@ -17,7 +17,7 @@ use Rattle.context.proofs.table.ack.Goals.{After-ack-answer}
 -- the words of the records that there are, lent to the entry point
 lends : (c : After-ack-answer) → let a = c.args in let r = c.ack-answer.result in Lends (on_ack a.time a.flow a.a) a.fs c.to_words-words.result a.c
     (memory a.outstanding.now a.marked.now a.sizes.now a.sent.now) a.evs.now
-    (answered (number_of r.verdict) r.state c.ack-answer.new.flows
+    (answered (number_of r.outcome) r.state c.ack-answer.new.flows
     (memory c.ack-answer.new.outstanding c.ack-answer.new.marked c.ack-answer.new.sizes c.ack-answer.new.sent) c.ack-answer.new.evs)
 lends c =
     record {

@@ -22,7 +22,7 @@ use Rattle.context.proofs.table.nack.Goals.{After-nack-answer}
 -- the words of the records that there are, lent to the entry point
 lends : (c : After-nack-answer) → let a = c.args in let r = c.nack-answer.result in Lends (on_nack a.time a.flow a.a) a.fs c.to_words-words.result a.c
     (memory a.outstanding.now a.marked.now a.sizes.now a.sent.now) a.evs.now
-    (answered (number_of r.verdict) r.state (take (flow_words * a.fs.n - 0) c.to_words-words.result)
+    (answered (number_of r.outcome) r.state (take (flow_words * a.fs.n - 0) c.to_words-words.result)
     (memory a.outstanding.now c.nack-answer.new.marked a.sizes.now a.sent.now) c.nack-answer.new.evs)
 lends c =
     record {

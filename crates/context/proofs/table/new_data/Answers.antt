@@ -15,7 +15,7 @@ use Rattle.context.proofs.table.new_data.Goals.{After-new_data-answer}
 -- the words of the records that there are, lent to the entry point
 lends : (c : After-new_data-answer) → let a = c.args in let r = c.new_data-answer.result in Lends (on_new_data a.time a.flow a.bytes) a.fs c.to_words-words.result a.c
     (memory a.outstanding.now a.marked.now a.sizes.now a.sent.now) a.evs.now
-    (answered (number_of r.verdict) r.state c.new_data-answer.new.flows
+    (answered (number_of r.outcome) r.state c.new_data-answer.new.flows
     (memory a.outstanding.now a.marked.now a.sizes.now a.sent.now) a.evs.now)
 lends c =
     record {

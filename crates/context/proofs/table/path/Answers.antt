@@ -22,7 +22,7 @@ use Rattle.context.proofs.table.path.Goals.{After-path-answer}
 lends : (c : After-path-answer) → let a = c.args in let r = c.path-answer.result in
     Lends (λ x. route_answer (on_path a.time a.flow x)) a.fs c.to_words-words.result a.c
     (memory a.outstanding.now a.marked.now a.sizes.now a.sent.now) a.evs.now
-    (answered (number_of r.verdict) r.state (take (flow_words * a.fs.n - 0) c.to_words-words.result)
+    (answered (number_of r.outcome) r.state (take (flow_words * a.fs.n - 0) c.to_words-words.result)
     (memory a.outstanding.now a.marked.now a.sizes.now a.sent.now) a.evs.now)
 lends c =
     record {

@@ -15,7 +15,7 @@ use Rattle.context.proofs.table.send.Goals.{After-send-answer}
 -- the words of the records that there are, lent to the entry point
 lends : (c : After-send-answer) → let a = c.args in let r = c.send-answer.result in Lends (on_send a.time a.flow a.a) a.fs c.to_words-words.result a.c
     (memory a.outstanding.now a.marked.now a.sizes.now a.sent.now) a.evs.now
-    (answered (number_of r.verdict) r.state c.send-answer.new.flows
+    (answered (number_of r.outcome) r.state c.send-answer.new.flows
     (memory c.send-answer.new.outstanding c.send-answer.new.marked c.send-answer.new.sizes c.send-answer.new.sent) a.evs.now)
 lends c =
     record {
