@@ -40,7 +40,7 @@ use Rattle.sender.specs.Steps.{state_of, settled, send_step}
 use Rattle.sender.specs.declared.Send.{Send}
 use Rattle.sender.proofs.Views.{view_world}
 use Rattle.sender.proofs.Stepping.{Sendable, send_facts}
-use Rattle.sender.proofs.Rowing.{room_rows, judged_resend, judged_new, rows_resend, rows_new}
+use Rattle.sender.proofs.Rowing.{room_rows, judged_send, rows_resend, rows_new}
 use Rattle.context.specs.Context.{Context, flow_count, cap_in, flow_in, ring_in, joined_of, shared_of, world_at, put_world}
 use Rattle.context.specs.Sound.{sound_context}
 use Rattle.context.specs.Events.{send_of, send_left}
@@ -177,9 +177,12 @@ module _ {time : ℕ} {x₀ : Context} {ws : List ℕ} {i : ℕ} {s : Ahead} {x 
               ≡ first_of (send_rows w.state.flow (ring_of w) a.psn a.size a.resend ++ room_rows w.state)
           by true e =
               room_same past
-              ∙ judged_resend w.state (ring_of w) a past _ refl e (sym (so_yes a.resend _ _ _ e again_same))
+              ∙ judged_send w.state (ring_of w) a past _ refl
+              (sym (so_yes a.resend _ _ _ e again_same) ∙ rows_resend w.state.flow (ring_of w) a.psn a.size a.resend e)
           by false e =
-              room_same past ∙ judged_new w.state (ring_of w) a past _ refl e (sym (so_no a.resend _ _ _ e new_same))
+              room_same past
+              ∙ judged_send w.state (ring_of w) a past _ refl
+              (sym (so_no a.resend _ _ _ e new_same) ∙ rows_new w.state.flow (ring_of w) a.psn a.size a.resend e)
 
       -- the number past 25
       sized : first_of (send_of time k a x)

@@ -8,7 +8,7 @@ use native.Mathlib.Omega.{arith}
 use native.Mathlib.Numerals.{add-one}
 use lib.Dec.{ltb, eqb}
 use borrow.Author.Tests.{ltb-true, ltb-false}
-use Rattle.rules.specs.Branch.{so_yes, so_no, lt_yes, lt_no}
+use Rattle.rules.specs.Branch.{if_so, so_yes, so_no, lt_yes, lt_no}
 use Rattle.rules.specs.Rows.{first_of}
 use Rattle.rules.specs.Test.{inside}
 use Rattle.ledger.specs.Bounds.{size_least}
@@ -99,21 +99,13 @@ module _ (x : Context) (ws : List ℕ) (i : ℕ) (s : Ahead) (p : Planned) where
     unfolding ahead_number
     ahead_4 z = lt_yes p.flow (flow_count x) _ _ _ h (so_no _ _ _ _ z refl)
 
-    -- past 25 and 4: what the send's own rows give, then the room
-    module _ (z : inside size_least p.send.size x.state.settings.mtu ≡ true) {r n : ℕ}
-        (e : r ≡ room_then x.state s.in_flight n) where
-      pub ahead_resend : p.send.resend ≡ true → n ≡ again_number x ws i p.flow p.send → r ≡ ahead_number x ws i s p
-      unfolding ahead_number
-      ahead_resend t g =
-          lt_yes p.flow (flow_count x) _ _ _ h
-          (so_yes _ _ _ _ z (e ∙ ap (room_then x.state s.in_flight) (so_yes p.send.resend _ _ _ t g)))
-
-      pub ahead_new : p.send.resend ≡ false
-          → n ≡ first_of (new_rows (flow_by s p.flow) (cap_in x) p.send.psn p.send.size) → r ≡ ahead_number x ws i s p
-      unfolding ahead_number
-      ahead_new t g =
-          lt_yes p.flow (flow_count x) _ _ _ h
-          (so_yes _ _ _ _ z (e ∙ ap (room_then x.state s.in_flight) (so_no p.send.resend _ _ _ t g)))
+    -- past 25 and 4: what the send's own rows give, n, then the room, which leaves r
+    pub ahead_own : inside size_least p.send.size x.state.settings.mtu ≡ true → (n r : ℕ)
+        → n ≡ if_so p.send.resend (again_number x ws i p.flow p.send)
+        (first_of (new_rows (flow_by s p.flow) (cap_in x) p.send.psn p.send.size))
+        → r ≡ room_then x.state s.in_flight n → r ≡ ahead_number x ws i s p
+    unfolding ahead_number
+    ahead_own z n r g e = lt_yes p.flow (flow_count x) _ _ _ h (so_yes _ _ _ _ z (e ∙ ap (room_then x.state s.in_flight) g))
 
 -- ---- the bounds of a sound context, by which no sum overflows
 

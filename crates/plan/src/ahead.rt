@@ -1,13 +1,17 @@
 // What the judge keeps of a plan's first sends, by value: a send is judged by this and by the context as it was handed in, so no ring is
 // copied. Inner steps: the caller proves that state and buffers hold together, and what is asked of the sends before.
 ghost use Rattle.std.specs.Prelude.{◌≡◌, true, false, ◌<◌, ◌≤◌, ◌^◌, get_or};
+ghost use Rattle.rules.specs.Branch.{if_so};
+ghost use Rattle.rules.specs.Rows.{first_of};
 ghost use Rattle.rules.specs.Verdict.{number_of};
 ghost use Rattle.ledger.specs.Bounds.{Flown};
+ghost use Rattle.ledger.specs.Rows.{new_rows};
 ghost use Rattle.flow_table.specs.Words.{count_of, flows_most, no_flow};
+ghost use Rattle.context.specs.Context.{cap_in};
 ghost use Rattle.context.specs.Lent.{context_given, context_before};
 ghost use Rattle.context.specs.Sound.{sound_context};
 ghost use Rattle.plan.specs.Plan.{send_count};
-ghost use Rattle.plan.specs.Ahead.{flow_by, ahead_of, pushed, flows_after, ahead_after, again_number, room_then, ahead_number};
+ghost use Rattle.plan.specs.Ahead.{flow_by, ahead_of, pushed, flows_after, ahead_after, again_number, ahead_number};
 
 use crate::Planned;
 use crate::words::sent_again;
@@ -72,21 +76,46 @@ fn judge_again<'a>(
     Ok(())
 }
 
-// What was refused stays so; what was not is 6 where there is no room.
-fn judge_room(c: Controller, in_flight: i64, verdict: Verdict) -> Verdict
-    requires flown { Flown (2 ^ 26) in_flight }
-    requires mtu_bound { (c.settings.mtu ≤ 2 ^ 14) × (c.window.cwnd ≤ 2 ^ 26) }
-    ensures { number_of result ≡ room_then c in_flight (number_of verdict) }
+// What a send's own rows say of it: a resend's, 8, or a new packet's, 8, 5, 7.
+fn judge_packet<'a>(
+    c: Controller,
+    flows: &'a [u64],
+    outstanding: &'a [u64],
+    marked: &'a [u64],
+    sizes: &'a [u32],
+    sent: &'a [u64],
+    evs: &'a [u64],
+    plan: &'a [u32],
+    i: usize,
+    s: Ahead,
+    p: Planned,
+) -> Verdict
+    requires evs_value { sound_context (context_given c flows.now outstanding.now marked.now sizes.now sent.now evs.now) ≡ true }
+    requires flow_bound { (p.flow < count_of flows.now) × (i ≤ send_count plan.now) }
+    ensures { number_of result ≡ if_so p.send.resend
+        (again_number (context_before c flows.now outstanding.now marked.now sizes.now sent.now evs.now) plan.now i p.flow p.send)
+        (first_of (new_rows (flow_by s p.flow)
+        (cap_in (context_before c flows.now outstanding.now marked.now sizes.now sent.now evs.now)) p.send.psn p.send.size)) }
 {
-    let settings = c.settings;
-    let window = c.window;
-    if verdict.is_err() {
-        return verdict;
+    let a = p.send;
+    let k = p.flow;
+    if a.resend {
+        return judge_again(
+            c,
+            flows,
+            outstanding,
+            marked,
+            sizes,
+            sent,
+            evs,
+            plan,
+            i,
+            k,
+            a,
+        );
     }
-    if sender::naming::has_room(settings.mtu, window.cwnd, in_flight) {
-        return Ok(());
-    }
-    Err(Refusal::WindowFull)
+    let cap = sizes.len() / flow_table::count(flows);
+    ledger::judge::judge_new(nth(s.flows, k), cap, a.psn, a.size)
 }
 
 // Send i of the plan, past 2, 3 and 27: 25, 4, 8, 5, 7, 6.
@@ -109,39 +138,31 @@ pub(crate) fn judge_next<'a>(
         ≡ ahead_number (context_before c flows.now outstanding.now marked.now sizes.now sent.now evs.now) plan.now i s p }
 {
     let settings = c.settings;
+    let window = c.window;
     let a = p.send;
-    let k = p.flow;
-    let n = flow_table::count(flows);
-    if n <= k {
+    if flow_table::count(flows) <= p.flow {
         return Err(Refusal::Flow);
     }
     if !rules::within(ledger::SIZE_LEAST as u64, a.size as u64, settings.mtu) {
         return Err(Refusal::Size);
     }
-    if a.resend {
-        return judge_room(
-            c,
-            s.in_flight,
-            judge_again(
-                c,
-                flows,
-                outstanding,
-                marked,
-                sizes,
-                sent,
-                evs,
-                plan,
-                i,
-                k,
-                a,
-            ),
-        );
-    }
-    judge_room(
+    judge_packet(
         c,
-        s.in_flight,
-        ledger::judge::judge_new(nth(s.flows, k), sizes.len() / n, a.psn, a.size),
-    )
+        flows,
+        outstanding,
+        marked,
+        sizes,
+        sent,
+        evs,
+        plan,
+        i,
+        s,
+        p,
+    )?;
+    if sender::naming::has_room(settings.mtu, window.cwnd, s.in_flight) {
+        return Ok(());
+    }
+    Err(Refusal::WindowFull)
 }
 
 // A flow's record once it sent a new packet.
