@@ -7,14 +7,14 @@ use mathlib.Core.Bool.{Bool}
 use Prim.Native.Nat.{ℕ, ◌≤◌, ◌<◌}
 use native.Mathlib.Omega.{arith}
 use borrow.Author.Tests.{le-leb, lt-leb}
+use Rattle.std.specs.Prelude.{Some, None}
 use Rattle.rules.specs.Branch.{if_so, so_yes, so_no}
 use Rattle.window.specs.Limits.{trimmed_last_hop}
 use Rattle.window.specs.Delays.{update_delay_of, feed_of, update_base_rtt_of, measure_of}
 use Rattle.window.specs.Events.{feed_trimmed_of, is_trimmed}
+use Rattle.window.specs.Sample.{Sample}
 use Rattle.window.specs.declared.Settings.{Settings}
 use Rattle.window.specs.declared.Window.{Window}
-use Rattle.window.specs.Sample.{Sample}
-use Rattle.std.specs.Prelude.{Some, None}
 use Rattle.sender.specs.World.{World, view_of}
 use Rattle.sender.specs.Steps.{state_of, settled, new_data_state, new_data_step, send_step, ack_sample, ack_step, nack_sample, nack_step, loss_step}
 use Rattle.sender.specs.Steps.{path_state, path_step}

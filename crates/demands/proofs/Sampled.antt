@@ -8,13 +8,13 @@ use mathlib.Core.Bool.{Bool, true, false, ◌||◌}
 use Prim.Native.Nat.{ℕ, min}
 use lib.Dec.{eqb}
 use borrow.Author.Tests.{eqb-true, eq-eqb}
+use Rattle.std.specs.Prelude.{Some, None}
 use Rattle.rules.specs.Branch.{so_both, eq_both}
 use Rattle.window.specs.Delays.{sample_of, update_base_rtt_of, measure_of}
 use Rattle.window.specs.Events.{feed_trimmed_of, is_trimmed}
+use Rattle.window.specs.Sample.{Sample}
 use Rattle.window.specs.declared.Settings.{Settings}
 use Rattle.window.specs.declared.Window.{Window}
-use Rattle.window.specs.Sample.{Sample}
-use Rattle.std.specs.Prelude.{Some, None}
 use Rattle.window.proofs.Tests.{sample_exists, exists_sample}
 use Rattle.ledger.specs.Packets.{flying_status, marked_status, is_flying, is_marked, is_out}
 use Rattle.ledger.specs.Ring.{packet_of}

@@ -7,6 +7,7 @@ use mathlib.Core.Bool.{Bool, true, false, not, ◌||◌}
 use Prim.Native.Nat.{ℕ}
 use lib.Dec.{ltb}
 use lib.IntN.{ℤ}
+use Rattle.std.specs.Prelude.{Some, None}
 use Rattle.rules.specs.Branch.{if_so, so_both, lt_both, so_yes, so_no}
 use Rattle.rules.specs.Mode.{on, is_on}
 use Rattle.window.specs.Delays.{update_base_rtt_of, measure_of}
@@ -16,11 +17,10 @@ use Rattle.window.specs.Cases.{add_to_tally_of, count_newly_of, leave_fast_mode_
 use Rattle.window.specs.Cases.{proportional_increase_of, fair_increase_of, may_decrease, multiplicative_decrease_of, respond_of}
 use Rattle.window.specs.Adjust.{enough_received, period_passed, fulfill_adjustment_of, adjust_of}
 use Rattle.window.specs.Events.{go_on_of, react_of, ack_of, shrink_of, loss_of, feed_trimmed_of, is_trimmed, nack_of}
+use Rattle.window.specs.Sample.{Sample}
 use Rattle.window.specs.declared.Settings.{Settings}
 use Rattle.window.specs.declared.Window.{Window}
 use Rattle.window.specs.declared.Adapted.{Adapted}
-use Rattle.window.specs.Sample.{Sample}
-use Rattle.std.specs.Prelude.{Some, None}
 
 -- what a window holds of delays
 pub record Delays : Type 0 where

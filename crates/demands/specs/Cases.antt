@@ -2,7 +2,7 @@
 -- definitions that the contracts cite give, and what 01 says. proofs/Cases shows that all agree. P7 to P10, which are events, stand in
 -- `context_demands`.
 -- Assumes nothing.
-use Rattle.std.specs.Prelude.{Bool, true, false, ◌&&◌, List, [], ◌∷◌, ℕ, ◌+◌, ◌-◌, ◌*◌, eqb}
+use Rattle.std.specs.Prelude.{Bool, true, false, ◌&&◌, List, [], ◌∷◌, ℕ, ◌+◌, ◌-◌, ◌*◌, eqb, Some, None}
 use Rattle.rules.specs.Mode.{off}
 use Rattle.window.specs.Limits.{parts}
 use Rattle.window.specs.Fields.{with_cwnd, with_avg, with_inc_bytes, with_received}
@@ -10,11 +10,10 @@ use Rattle.window.specs.Sound.{fresh_of}
 use Rattle.window.specs.Delays.{sample_of, measure_of}
 use Rattle.window.specs.Cases.{factor_of, multiplicative_decrease_of, respond_of}
 use Rattle.window.specs.Adjust.{adjust_of}
+use Rattle.window.specs.Sample.{Sample}
 use Rattle.window.specs.declared.Settings.{Settings}
 use Rattle.window.specs.declared.Window.{Window}
 use Rattle.window.specs.declared.Delayed.{Delayed}
-use Rattle.window.specs.Sample.{Sample}
-use Rattle.std.specs.Prelude.{Some, None}
 use Rattle.ledger.specs.Steps.{held_of, newly_of}
 
 -- what was got, and what is wanted

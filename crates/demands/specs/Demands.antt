@@ -2,10 +2,9 @@
 -- The definitions are those that the sender's contracts cite: what is proved here holds of the code. Numbers are unbounded here, the code's
 -- are machine words: nothing is asked of an event's numbers, and number 2 bounds what is held.
 -- Assumes nothing.
-use Rattle.std.specs.Prelude.{◌≡◌, ◌↔◌, ◌⊎◌, true, List, ℕ, ◌≤◌, min, pos, ◌-ℤ◌}
+use Rattle.std.specs.Prelude.{◌≡◌, ◌↔◌, ◌⊎◌, true, List, ℕ, ◌≤◌, min, pos, ◌-ℤ◌, Some, None}
 use Rattle.window.specs.Limits.{max_wnd_of}
 use Rattle.window.specs.declared.Settings.{Settings}
-use Rattle.std.specs.Prelude.{Some, None}
 use Rattle.ledger.specs.Memory.{Memory}
 use Rattle.sender.specs.World.{World, world, view_of, world_of, ledger_of}
 use Rattle.sender.specs.Sound.{sound}
