@@ -2,20 +2,22 @@
 -- the methods over a lent table of records. What the contracts make of an outcome has the table of flows, the ring buffer and the EV times
 -- in it, and tells the outcome.
 -- Assumes nothing.
-use mathlib.Core.Path.{◌≡◌, refl, sym, ap, ap₂, ◌∙◌}
+use mathlib.Core.Path.{◌≡◌, refl, sym, ap, ap₂}
 use mathlib.Core.List.{List}
 use mathlib.Core.Option.{Option, some-injective, none-ne-some}
 use Prim.Native.Nat.{ℕ}
+use Rattle.std.specs.Prelude.{⊤, Result, Option as Named, Some, None}
+use Rattle.std.specs.Result.{result_unwrap_or}
 use Rattle.rules.specs.Unique.{OneOutcome, Tells, unique}
 use Rattle.rules.specs.Verdict.{number_of}
-use Rattle.rules.proofs.Verdicts.{number_tells}
 use Rattle.rules.specs.declared.verdict.Refusal.{Refusal}
+use Rattle.rules.specs.declared.verdict.Answer.{Answer}
+use Rattle.rules.proofs.Verdicts.{number_tells, outcome_tells}
 use Rattle.window.specs.declared.Settings.{Settings}
 use Rattle.window.specs.declared.Sampling.{Sampling}
 use Rattle.ledger.specs.Memory.{Memory}
 use Rattle.ledger.specs.declared.Flow.{Flow}
 use Rattle.sender.specs.Events.{says_of}
-use Rattle.sender.specs.declared.Feedback.{Feedback}
 use Rattle.sender.specs.declared.Send.{Send}
 use Rattle.sender.specs.declared.Ack.{Ack}
 use Rattle.sender.specs.declared.Nack.{Nack}
@@ -25,16 +27,11 @@ use Rattle.context.specs.Start.{on_set_up}
 use Rattle.context.specs.Events.{on_new_data, on_send, on_ack, ack_says, on_nack, nack_says, on_loss, on_path}
 use Rattle.context.specs.Events.{past_new_data, past_send, past_ack, past_ack_says, past_nack, past_nack_says, past_loss, past_path}
 use Rattle.context.specs.Look.{on_status, on_next_marked}
-use Rattle.context.specs.Turns.{choice_of, Chosen, chose, on_choose}
+use Rattle.context.specs.Turns.{choice_of, named_in, Chosen, chose, on_choose}
 use Rattle.context.specs.Table.{Tabled, tabled, in_records, route_answer}
 use Rattle.context.specs.declared.Controller.{Controller}
-use Rattle.context.specs.declared.Answer.{Answer}
-use Rattle.context.specs.declared.Heard.{Heard}
-use Rattle.context.specs.declared.Routed.{Routed}
-use Rattle.context.specs.declared.choice.Choice.{Choice}
-use Rattle.context.specs.declared.choice.Choice.TheVariants as choice
-use Rattle.context.specs.declared.choice.Chosen.{Chosen as Choosing}
-use Rattle.demands.proofs.Unique.{feedback_one, made_look, look_tells}
+use Rattle.context.specs.declared.choice.Turn.{Turn}
+use Rattle.demands.proofs.Unique.{found_one, feedback_one, made_look, look_tells}
 
 -- the whole outcome of a call: its answer, and the final contents of the table, the ring buffer and the EV times
 pub record Outcomes (A : Type 0) : Type 0 where
@@ -44,39 +41,37 @@ pub record Outcomes (A : Type 0) : Type 0 where
   pub times : List ℕ
 
 -- what the contracts make of it
-abbrev pub made : Outcomes Answer → Answered
-made x = answered (number_of x.answer.verdict) x.answer.state x.flows x.slots x.times
+abbrev pub made : Outcomes (Answer Controller ⊤) → Answered
+made x = answered (number_of x.answer.outcome) x.answer.state x.flows x.slots x.times
 
-abbrev pub made_route : Outcomes Routed → Routing
-made_route x = routed (number_of x.answer.verdict) x.answer.ev x.answer.state x.flows x.slots x.times
+abbrev pub made_route : Outcomes (Answer Controller ℕ) → Routing
+made_route x = routed (number_of x.answer.outcome) (result_unwrap_or x.answer.outcome 0) x.answer.state x.flows x.slots x.times
 
-abbrev pub made_heard : Outcomes Heard → Answered × Option Sampling
-made_heard x =
-    (answered (number_of x.answer.verdict) x.answer.state x.flows x.slots x.times, says_of x.answer.feedback)
+abbrev pub made_heard : Outcomes (Answer Controller Sampling) → Answered × Option Sampling
+made_heard x = (answered (number_of x.answer.outcome) x.answer.state x.flows x.slots x.times, says_of x.answer.outcome)
+
+-- the outcome and the context afterwards make the whole
+abbrev whole : {T : Type 0} → Result T Refusal → Context → Outcomes (Answer Controller T)
+whole v c = record { answer = record { state = c.state; outcome = v }; flows = c.flows; slots = c.slots; times = c.times }
 
 -- a number is one verdict's, and the rest stands there itself
 made_tells : Tells made
 made_tells x y e =
-    ap₂ (λ (v : Verdict) (c : Context).
-    record { answer = record { state = c.state; verdict = v }; flows = c.flows; slots = c.slots; times = c.times })
-    (number_tells x.answer.verdict y.answer.verdict (ap (λ (z : Answered). z.number) e)) (ap (λ (z : Answered). z.after) e)
+    ap₂ (whole {T = ⊤}) (number_tells x.answer.outcome y.answer.outcome (ap (λ (z : Answered). z.number) e))
+    (ap (λ (z : Answered). z.after) e)
 
 route_tells : Tells made_route
 route_tells x y e =
-    ap₂ (λ (r : Verdict × ℕ) (c : Context).
-    record { answer = record { state = c.state; verdict = r.0; ev = r.1 }; flows = c.flows; slots = c.slots; times = c.times })
-    (ap₂ (λ (v : Verdict) (n : ℕ). (v, n))
-    (number_tells x.answer.verdict y.answer.verdict (ap (λ (z : Routing). z.number) e)) (ap (λ (z : Routing). z.ev) e))
+    ap₂ (whole {T = ℕ})
+    (found_one x.answer.outcome y.answer.outcome (ap (λ (z : Routing). z.number) e) (ap (λ (z : Routing). z.ev) e))
     (ap (λ (z : Routing). z.after) e)
 
 heard_tells : Tells made_heard
 heard_tells x y e =
     let a = ap (λ (z : Answered × Option Sampling). z.0) e in
-    let v = number_tells x.answer.verdict y.answer.verdict (ap (λ (z : Answered). z.number) a) in
-    let f = feedback_one x.answer.feedback y.answer.feedback (ap (λ (z : Answered × Option Sampling). z.1) e) in
-    ap₂ (λ (h : Verdict × Feedback) (c : Context).
-    record { answer = record { state = c.state; verdict = h.0; feedback = h.1 }; flows = c.flows; slots = c.slots; times = c.times })
-    (ap₂ (λ (v : Verdict) (f : Feedback). (v, f)) v f) (ap (λ (z : Answered). z.after) a)
+    ap₂ (whole {T = Sampling})
+    (feedback_one x.answer.outcome y.answer.outcome (ap (λ (z : Answered). z.number) a) (ap (λ (z : Answered × Option Sampling). z.1) e))
+    (ap (λ (z : Answered). z.after) a)
 
 -- a call that answers state and outcome: what it was handed
 pub data Call : Type 0 where
@@ -124,23 +119,27 @@ look_unique x k psn = (unique made_look look_tells _, unique made_look look_tell
 
 module _ (flows : List ℕ) (m : Memory) (times : List ℕ) where
   -- what the contract makes of its answer
-  abbrev pub made_choice : Choosing → Chosen
-  made_choice r = chose (number_of r.verdict) (choice_of r.choice) (context r.state flows m times)
+  abbrev pub made_choice : Answer Controller (Named Turn) → Chosen
+  made_choice r = chose (number_of r.outcome) (named_in r.outcome) (context r.state flows m times)
 
-  -- what is named tells the choice
-  choice_one : (a b : Choice) → choice_of a ≡ choice_of b → a ≡ b
+  -- what is named tells the choice ..
+  choice_one : (a b : Named Turn) → choice_of a ≡ choice_of b → a ≡ b
   unfolding choice_of
-  choice_one (choice.Named t) (choice.Named u) q = ap choice.Named (some-injective t u q)
-  choice_one (choice.Named t) choice.Nobody q = absurd (none-ne-some t (sym q))
-  choice_one choice.Nobody (choice.Named u) q = absurd (none-ne-some u q)
-  choice_one choice.Nobody choice.Nobody q = refl
+  choice_one (Some t) (Some u) q = ap Some (some-injective t u q)
+  choice_one (Some t) None q = absurd (none-ne-some t (sym q))
+  choice_one None (Some u) q = absurd (none-ne-some u q)
+  choice_one None None q = refl
+
+  -- .. and with the number the outcome
+  named_one : (v w : Result (Named Turn) Refusal) → number_of v ≡ number_of w → named_in v ≡ named_in w → v ≡ w
+  unfolding named_in
+  named_one = outcome_tells named_in choice_one
 
   choice_tells : Tells made_choice
   choice_tells x y e =
-      let v = number_tells x.verdict y.verdict (ap (λ (z : Chosen). z.number) e) in
-      let c = choice_one x.choice y.choice (ap (λ (z : Chosen). z.turn) e) in
-      ap₂ (λ (h : Verdict × Choice) (d : Controller). record { state = d; verdict = h.0; choice = h.1 })
-      (ap₂ (λ (v : Verdict) (c : Choice). (v, c)) v c) (ap (λ (z : Chosen). z.after.state) e)
+      ap₂ (λ (v : Result (Named Turn) Refusal) (d : Controller). record { state = d; outcome = v })
+      (named_one x.outcome y.outcome (ap (λ (z : Chosen). z.number) e) (ap (λ (z : Chosen). z.turn) e))
+      (ap (λ (z : Chosen). z.after.state) e)
 
   -- no two of `choose`
   pub choose_unique : (x : Context) → OneOutcome made_choice (on_choose x)
@@ -156,40 +155,36 @@ pub record Outtabled (A : Type 0) : Type 0 where
   pub times : List ℕ
 
 -- what the contracts make of it; an ACK and a NACK with what is said of the sample, a path choice with the EV
-abbrev pub made_tabled : Outtabled Answer → Tabled
-made_tabled x = tabled (number_of x.answer.verdict) x.answer.state x.table x.slots x.times
+abbrev pub made_tabled : Outtabled (Answer Controller ⊤) → Tabled
+made_tabled x = tabled (number_of x.answer.outcome) x.answer.state x.table x.slots x.times
 
-abbrev pub made_tabled_heard : Outtabled Heard → Tabled × Option Sampling
-made_tabled_heard x =
-    (tabled (number_of x.answer.verdict) x.answer.state x.table x.slots x.times, says_of x.answer.feedback)
+abbrev pub made_tabled_heard : Outtabled (Answer Controller Sampling) → Tabled × Option Sampling
+made_tabled_heard x = (tabled (number_of x.answer.outcome) x.answer.state x.table x.slots x.times, says_of x.answer.outcome)
 
-abbrev pub made_tabled_route : Outtabled Routed → Tabled × ℕ
-made_tabled_route x = (tabled (number_of x.answer.verdict) x.answer.state x.table x.slots x.times, x.answer.ev)
+abbrev pub made_tabled_route : Outtabled (Answer Controller ℕ) → Tabled × ℕ
+made_tabled_route x =
+    (tabled (number_of x.answer.outcome) x.answer.state x.table x.slots x.times, result_unwrap_or x.answer.outcome 0)
 
--- a number is one verdict's
-tabled_verdict : {v w : Verdict} {a b : Tabled} → a.number ≡ number_of v → b.number ≡ number_of w → a ≡ b → v ≡ w
-tabled_verdict {v} {w} p q e = number_tells v w (sym p ∙ ap (λ (z : Tabled). z.number) e ∙ q)
+-- the outcome, and the state and what is lent afterwards, make the whole
+abbrev whole_tabled : {T : Type 0} → Result T Refusal → Tabled → Outtabled (Answer Controller T)
+whole_tabled v z = record { answer = record { state = z.state; outcome = v }; table = z.table; slots = z.slots; times = z.times }
 
 tabled_tells : Tells made_tabled
 tabled_tells x y e =
-    ap₂ (λ (v : Verdict) (z : Tabled).
-    record { answer = record { state = z.state; verdict = v }; table = z.table; slots = z.slots; times = z.times })
-    (tabled_verdict refl refl e) e
+    ap₂ (whole_tabled {T = ⊤}) (number_tells x.answer.outcome y.answer.outcome (ap (λ (z : Tabled). z.number) e)) e
 
 tabled_heard_tells : Tells made_tabled_heard
 tabled_heard_tells x y e =
     let a = ap (λ (z : Tabled × Option Sampling). z.0) e in
-    let f = feedback_one x.answer.feedback y.answer.feedback (ap (λ (z : Tabled × Option Sampling). z.1) e) in
-    ap₂ (λ (h : Verdict × Feedback) (z : Tabled).
-    record { answer = record { state = z.state; verdict = h.0; feedback = h.1 }; table = z.table; slots = z.slots; times = z.times })
-    (ap₂ (λ (v : Verdict) (f : Feedback). (v, f)) (tabled_verdict refl refl a) f) a
+    ap₂ (whole_tabled {T = Sampling})
+    (feedback_one x.answer.outcome y.answer.outcome (ap (λ (z : Tabled). z.number) a) (ap (λ (z : Tabled × Option Sampling). z.1) e))
+    a
 
 tabled_route_tells : Tells made_tabled_route
 tabled_route_tells x y e =
     let a = ap (λ (z : Tabled × ℕ). z.0) e in
-    ap₂ (λ (r : Verdict × ℕ) (z : Tabled).
-    record { answer = record { state = z.state; verdict = r.0; ev = r.1 }; table = z.table; slots = z.slots; times = z.times })
-    (ap₂ (λ (v : Verdict) (n : ℕ). (v, n)) (tabled_verdict refl refl a) (ap (λ (z : Tabled × ℕ). z.1) e)) a
+    ap₂ (whole_tabled {T = ℕ})
+    (found_one x.answer.outcome y.answer.outcome (ap (λ (z : Tabled). z.number) a) (ap (λ (z : Tabled × ℕ). z.1) e)) a
 
 -- no two outcomes of a method satisfy its contract, whatever the context x of the records' words
 module _ (x : Context) (time k : ℕ) where

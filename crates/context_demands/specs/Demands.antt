@@ -2,10 +2,9 @@
 -- proofs/ has that type. The definitions are those that the context's contracts cite: what is proved here holds of the code. That an event
 -- of one flow changes nothing of another's is in `context` (`flow_apart` and its like).
 -- Assumes nothing.
-use Rattle.std.specs.Prelude.{◌≡◌, ◌↔◌, ◌⊎◌, true, List, ℕ, ◌≤◌, min, pos, ◌-ℤ◌}
+use Rattle.std.specs.Prelude.{◌≡◌, ◌↔◌, ◌⊎◌, true, List, ℕ, ◌≤◌, min, pos, ◌-ℤ◌, Some}
 use Rattle.window.specs.Limits.{max_wnd_of}
 use Rattle.window.specs.declared.Settings.{Settings}
-use Rattle.std.specs.Prelude.{Some}
 use Rattle.ledger.specs.Memory.{Memory}
 use Rattle.sender.specs.World.{view_of, world_of, ledger_of}
 use Rattle.sender.specs.Statements.{Exact}
