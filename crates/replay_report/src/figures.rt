@@ -15,8 +15,8 @@ use report_text::places::{
 };
 use rules::verdict::{Verdict, number_of};
 use sender::Send;
-use window::delay::sample_in;
 use window::Sampling;
+use window::delay::sample_in;
 
 // A sum that stops at the greatest word.
 fn sum(a: u64, b: u64) -> u64
