@@ -1,4 +1,3 @@
 pub mod Checked
-pub mod Copied
 pub mod InFlight
 pub mod Inverse

@@ -31,7 +31,8 @@ pub const IN_FLIGHT_END: u64 = (1 << 26) + (1 << 24) + 1;
 // One past the largest number of a 32-bit field.
 pub const FIELD_END: u64 = 1 << 32;
 
-// A state, where the words are those of one; else a state of zeros.
+// A state, where the words are those of one; else a state of zeros. It is no Option: `unpack` promises a state either way, since a replay
+// that has no record done starts from the one of zeros (`unpacked` in specs/Layout, `on_replay_words` of `c_api`).
 #[derive(Clone, Copy)]
 pub struct Unpacked {
     pub good: bool,
@@ -51,13 +52,19 @@ fn in_flight_word(z: i64) -> u64
     (z + IN_FLIGHT_ADDED) as u64
 }
 
-// A state's words.
+// A state's words. Neither their type nor the state's is this crate's: a function and no From, here and in `unpack`.
 pub fn pack(state: Controller) -> [u64; WORDS]
     ensures { result ≡ state_words state }
 {
-    let s = state.settings;
-    let t = state.totals;
-    let w = state.window;
+    let Controller {
+        settings: s,
+        totals: t,
+        window: w,
+        clock,
+        cursor,
+        phase,
+        turn,
+    } = state;
     [
         s.mtu,
         s.maxwnd,
@@ -92,11 +99,11 @@ pub fn pack(state: Controller) -> [u64; WORDS]
         w.qa_end,
         w.last_adjust,
         w.last_dec,
-        state.clock,
-        state.cursor as u64,
-        state.phase as u64,
+        clock,
+        cursor as u64,
+        phase as u64,
         s.ev_count,
-        state.turn,
+        turn,
     ]
 }
 
@@ -220,18 +227,5 @@ pub fn store(ws: &mut [u64], state: Controller)
     requires { length ws.old ≡ word_count }
     ensures { ws.new ≡ state_words state }
 {
-    let from = pack(state);
-    copy(&from, ws);
-}
-
-// All of one over the other. An inner step: the caller proves that they have the same length.
-pub fn copy(from: &[u64], to: &mut [u64])
-    requires { length to.old ≡ length from.now }
-    ensures { to.new ≡ from.now }
-{
-    let mut i = 0;
-    while i < from.len() {
-        to[i] = from[i];
-        i += 1;
-    }
+    ws.copy_from_slice(&pack(state));
 }

@@ -1,6 +1,6 @@
 -- `store` copies what `pack` answers.
-use mathlib.Core.Path.{◌∙◌}
+use Rattle.std.proofs.Common.{◌∙◌}
 use Rattle.c_state.proofs.store.Goals as goal
 
 pub returns : goal.returns
-returns c = c.copy.ensures ∙ c.pack-from.ensures
+returns c = c.copy_from_slice.ensures.after ∙ c.pack.ensures
