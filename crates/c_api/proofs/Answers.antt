@@ -8,14 +8,13 @@ use lib.Dec.{eqb}
 use lib.ListN.{length}
 use borrow.Author.Tests.{eq-eqb, ne_eqb, not-true, not-false}
 use Rattle.rules.specs.Branch.{if_so, so_yes, so_no, eq_yes, eq_no, so_both}
+use Rattle.rules.specs.Verdict.{Verdict, number_of}
 use Rattle.window.specs.Range.{in_range}
 use Rattle.window.specs.declared.Settings.{Settings}
 use Rattle.ledger.specs.Memory.{Memory}
-use Rattle.rules.specs.Verdict.{number_of}
 use Rattle.context.specs.Context.{context, Answered, answered}
 use Rattle.context.specs.Start.{on_set_up}
 use Rattle.context.specs.declared.Controller.{Controller}
-use Rattle.context.specs.declared.Answer.{Answer}
 use Rattle.replay.specs.Batches.{saying, once_of}
 use Rattle.replay.specs.declared.records.Event.{Event}
 use Rattle.c_state.specs.Layout.{word_count, settings_count, state_words, settings_from, state_from, words_ok, unpacked}
@@ -46,10 +45,10 @@ unpacked_state ws ok = ap (λ (u : Unpacked). u.state) (sym (so_yes (words_ok ws
 
 -- an answer kept beside the lent words is the event's answer packed
 kept_packed :
-    (ws : List ℕ) (x : Answered) (a : Answer) (gs : List ℕ) (s : Memory) (u : List ℕ)
-    → answered (number_of a.verdict) a.state gs s u ≡ x → (n : ℕ) (xs : List ℕ) →
-    (n ≡ number_of a.verdict) × (xs ≡ words_after n ws a.state) → called n xs gs s u ≡ packed ws x
-kept_packed ws x a gs s u e n xs k = rw (k.1, k.0) (ap (packed ws) e)
+    (ws : List ℕ) (x : Answered) (v : Verdict) (c : Controller) (gs : List ℕ) (s : Memory) (u : List ℕ)
+    → answered (number_of v) c gs s u ≡ x → (n : ℕ) (xs : List ℕ) →
+    (n ≡ number_of v) × (xs ≡ words_after n ws c) → called n xs gs s u ≡ packed ws x
+kept_packed ws x v c gs s u e n xs k = rw (k.1, k.0) (ap (packed ws) e)
 
 module _ (ws : List ℕ) (given : Unpacked) (given_is : given ≡ unpacked ws) where
   good_is : given.good ≡ words_ok ws
@@ -114,11 +113,11 @@ module _ (ns : List ℕ) (psn off : ℕ) (evs : ℕ) (ws fs : List ℕ) (r : Mem
         wrong_words h = past_range _ (so_no _ _ _ _ (ne_eqb (length ws) word_count h) refl)
 
         pub set_up_on :
-            length ws ≡ word_count → (a : Answer) (gs : List ℕ) (s : Memory) (u : List ℕ)
-            → answered (number_of a.verdict) a.state gs s u ≡ on_set_up g fs r t →
-            (n : ℕ) (xs : List ℕ) → (n ≡ number_of a.verdict) × (xs ≡ words_after n ws a.state) →
+            length ws ≡ word_count → (v : Verdict) (c : Controller) (gs : List ℕ) (s : Memory) (u : List ℕ)
+            → answered (number_of v) c gs s u ≡ on_set_up g fs r t →
+            (n : ℕ) (xs : List ℕ) → (n ≡ number_of v) × (xs ≡ words_after n ws c) →
             called n xs gs s u ≡ on_set_up_words ns psn off evs ws fs r t
-        set_up_on h a gs s u e n xs k =
+        set_up_on h v c gs s u e n xs k =
             past_range _
             (so_yes _ _ _ _ (eq-eqb (length ws) word_count h)
-            (kept_packed ws _ a gs s u (e ∙ ap (λ (x : Settings). on_set_up x fs r t) g-is) n xs k))
+            (kept_packed ws _ v c gs s u (e ∙ ap (λ (x : Settings). on_set_up x fs r t) g-is) n xs k))

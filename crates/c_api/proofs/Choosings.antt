@@ -46,7 +46,7 @@ module _ (ws fs : List ℕ) (m : Memory) (t turn : List ℕ) where
 
     pub choose_on : not given.good ≡ false → (n v : ℕ) (o : Option Turn) (c : Controller) → n ≡ v
         → chose v o (context c fs m t) ≡ on_choose (context given.state fs m t)
-        → (xs ys : List ℕ) → xs ≡ words_after n ws c → ys ≡ turn_after n turn o → choosing n xs ys ≡ on_choose_words ws fs m t turn
+        → (xs ys : List ℕ) → xs ≡ words_after n ws c → ys ≡ turn_after v turn o → choosing n xs ys ≡ on_choose_words ws fs m t turn
     unfolding on_choose_words
     choose_on h n v o c q e xs ys k l =
         so_yes _ _ _ _ (whole (eq-eqb (length turn) turn_count four) (ok ws given given_is h))

@@ -1,14 +1,12 @@
 -- What a replay over lent words hands back, from what its parts gave: 2 where what was lent is wrong (`lent_wrong`), else what the batch
--- gave (`handed_back`). And the place's words, and the test of what was lent.
+-- gave (`handed_back`). And the test of what was lent.
 -- Assumes nothing.
 use mathlib.Core.Path.{◌≡◌, refl, ap, ◌∙◌}
 use mathlib.Core.Bool.{true, false, ◌&&◌}
-use mathlib.Core.List.{List, [], ◌∷◌}
+use mathlib.Core.List.{List}
 use Prim.Native.Nat.{ℕ}
-use native.Mathlib.Omega.{arith}
 use lib.Dec.{ltb, eqb}
-use lib.ListN.{length, drop}
-use lib.Seq.{sets, sets-eq, drop-length}
+use lib.ListN.{length}
 use borrow.Author.Tests.{eqb-true, eq-eqb, ne_eqb}
 use Rattle.rules.specs.Branch.{so_yes, so_no}
 use Rattle.rules.specs.Test.{both}
@@ -18,18 +16,8 @@ use Rattle.replay.specs.Places.{logged}
 use Rattle.replay.specs.Batches.{Batching, batch_of}
 use Rattle.replay.specs.declared.Place.{Place}
 use Rattle.c_state.specs.Layout.{word_count, word, unpacked}
-use Rattle.c_api.specs.Flags.{bit}
 use Rattle.c_state.specs.declared.Unpacked.{Unpacked}
-use Rattle.c_api.specs.Batch.{place_count, place_words, place_from, lent_ok, place_then, words_then, replay_called, handed, on_replay_words}
-
--- the place's words over the four that were lent, the third a flag's
-pub place_stored :
-    (ws : List ℕ) → length ws ≡ place_count → (p : Place) (count stopped : ℕ) → stopped ≡ bit p.stopped →
-    sets ws 0 (p.at ∷ p.done ∷ stopped ∷ count ∷ []) ≡ place_words p count
-place_stored ws h p count stopped e =
-    let vs = p.at ∷ p.done ∷ stopped ∷ count ∷ [] in
-    let none : drop place_count ws ≡ [] = rw h at (drop-length ws) in
-    sets-eq vs ws 0 (omega arith) ∙ rw (none, e)
+use Rattle.c_api.specs.Batch.{place_count, place_from, lent_ok, place_then, words_then, replay_called, handed, on_replay_words}
 
 module _ (place ws : List ℕ) where
   pub not_four : (length place ≡ place_count → ⊥) → false ≡ lent_ok place ws

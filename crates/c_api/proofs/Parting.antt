@@ -1,14 +1,12 @@
 -- What a chunk over lent words hands back, from what its parts gave: 2 where what was lent is wrong (`part_wrong`), else what the chunk
--- gave (`part_back`). And the words of what is carried, and the test of what was lent.
+-- gave (`part_back`). And the test of what was lent.
 -- Assumes nothing.
 use mathlib.Core.Path.{◌≡◌, refl, ap, ◌∙◌}
 use mathlib.Core.Bool.{Bool, true, false, ◌&&◌}
-use mathlib.Core.List.{List, [], ◌∷◌}
+use mathlib.Core.List.{List}
 use Prim.Native.Nat.{ℕ}
-use native.Mathlib.Omega.{arith}
 use lib.Dec.{ltb, eqb}
-use lib.ListN.{length, drop}
-use lib.Seq.{sets, sets-eq, drop-length}
+use lib.ListN.{length}
 use borrow.Author.Tests.{eqb-true, eq-eqb, ne_eqb}
 use Rattle.rules.specs.Branch.{so_yes, so_no}
 use Rattle.rules.specs.Test.{both}
@@ -17,19 +15,9 @@ use Rattle.context.specs.Context.{context}
 use Rattle.replay_chunks.specs.Chunks.{Chunking, chunk_of}
 use Rattle.replay_chunks.specs.declared.Carry.{Carry}
 use Rattle.c_state.specs.Layout.{word_count, word, unpacked}
-use Rattle.c_api.specs.Flags.{bit}
 use Rattle.c_state.specs.declared.Unpacked.{Unpacked}
 use Rattle.c_api.specs.Batch.{words_then}
-use Rattle.c_api.specs.Parts.{part_count, part_words, carry_from, part_ok, part_then, chunk_called, handed_part, on_chunk_words}
-
--- the words of what is carried over the six that were lent, the third a flag's
-pub part_stored :
-    (ws : List ℕ) → length ws ≡ part_count → (h : Carry) (count taken stopped : ℕ) → stopped ≡ bit h.place.stopped →
-    sets ws 0 (h.place.at ∷ h.place.done ∷ stopped ∷ h.length ∷ count ∷ taken ∷ []) ≡ part_words h count taken
-part_stored ws long h count taken stopped e =
-    let vs = h.place.at ∷ h.place.done ∷ stopped ∷ h.length ∷ count ∷ taken ∷ [] in
-    let none : drop part_count ws ≡ [] = rw long at (drop-length ws) in
-    sets-eq vs ws 0 (omega arith) ∙ rw (none, e)
+use Rattle.c_api.specs.Parts.{part_count, carry_from, part_ok, part_then, chunk_called, handed_part, on_chunk_words}
 
 module _ (part ws : List ℕ) where
   pub not_six : (length part ≡ part_count → ⊥) → false ≡ part_ok part ws

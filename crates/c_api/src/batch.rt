@@ -7,7 +7,7 @@ ghost use Rattle.c_api.specs.Batch.{place_count, place_words, place_from, lent_o
 
 use c_state::WORDS;
 use replay::{Batch, Place, Source};
-use rules::verdict::{Refusal, Verdict, number_of};
+use rules::verdict::{Refusal, number_of};
 
 // The place's words: the offset of the next record, the records done, whether replay has stopped, and how many answers the last call gave.
 pub const PLACE_WORDS: usize = 4;
@@ -25,16 +25,15 @@ fn is_lent<'a>(place: &'a [u64], state: &'a [u64]) -> bool
     (state.len() == WORDS) & (place[2] < FLAG_END)
 }
 
-// The place of its words. An inner step: the caller proves that there are four.
+// The place of its words. An inner step: the caller proves that there are four. Neither type is this crate's, so it is no From.
 fn place_of(ws: &[u64]) -> Place
     requires { length ws.now ≡ place_count }
     ensures { result ≡ place_from ws.now }
 {
-    let stopped = ws[2];
     Place {
         at: ws[0] as usize,
         done: ws[1],
-        stopped: stopped == 1,
+        stopped: ws[2] == 1,
     }
 }
 
@@ -43,12 +42,8 @@ fn keep_place(ws: &mut [u64], place: Place, count: usize)
     requires { length ws.old ≡ place_count }
     ensures { ws.new ≡ place_words place count }
 {
-    let at = place.at;
-    let stopped = place.stopped;
-    ws[0] = at as u64;
-    ws[1] = place.done;
-    ws[2] = if stopped { 1 } else { 0 };
-    ws[3] = count as u64;
+    let Place { at, done, stopped } = place;
+    ws.copy_from_slice(&[at as u64, done, stopped as u64, count as u64]);
 }
 
 // Stores what a batch gave, unless it was refused, and answers its number. An inner step: the caller proves that there are the words.
@@ -58,17 +53,18 @@ fn keep_batch<'a, 'b>(place: &'a mut [u64], state: &'b mut [u64], batch: Batch) 
         × (place.new ≡ place_then (number_of batch.verdict) batch.place batch.count place.old)
         × (state.new ≡ words_then (number_of batch.verdict) batch.place batch.count batch.state state.old) }
 {
-    let verdict = batch.verdict;
+    let Batch {
+        verdict,
+        count,
+        place: after,
+        state: now,
+    } = batch;
     let number = number_of(verdict);
-    if number != 0 {
+    if verdict.is_err() {
         return number;
     }
-    let after = batch.place;
-    let count = batch.count;
-    let done = after.done;
     keep_place(place, after, count);
-    if (count != 0) & (done != 0) {
-        let now = batch.state;
+    if (count != 0) & (after.done != 0) {
         c_state::store(state, now);
     }
     number
@@ -94,15 +90,14 @@ pub extern "C" fn nscc_replay(
         flows.old (memory_before outstanding.old marked.old sizes.old sent.old) evs.old answers.old }
 {
     if !is_lent(place, state) {
-        return number_of(Err(Refusal::Unsound));
+        return Refusal::Unsound as u32;
     }
     let from = place_of(place);
     let given = c_state::unpack(state);
-    let before = given.state;
     let batch = replay::replay(
         Source::Log,
         from,
-        before,
+        given.state,
         flows,
         outstanding,
         marked,

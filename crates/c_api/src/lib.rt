@@ -22,8 +22,8 @@ ghost use Rattle.c_api.specs.Calls.{on_set_up_words, send_by, ack_by, nack_by, l
 
 use c_state::WORDS;
 use context::Controller;
-use replay::ABOVE;
 use replay::records::Event;
+use replay::{ABOVE, Said};
 use rules::verdict::{Refusal, number_of};
 use sender::{Ack, Loss, Nack, Send};
 
@@ -53,12 +53,18 @@ fn take<'a, 'b, 'c, 'd, 'e, 'f, 'g>(
 {
     let given = c_state::unpack(state);
     if !given.good {
-        return number_of(Err(Refusal::Unsound)) as u64;
+        return Refusal::Unsound as u64;
     }
-    let before = given.state;
-    let said = replay::once(event, before, flows, outstanding, marked, sizes, sent, evs);
-    let word = said.word;
-    let after = said.state;
+    let Said { word, state: after } = replay::once(
+        event,
+        given.state,
+        flows,
+        outstanding,
+        marked,
+        sizes,
+        sent,
+        evs,
+    );
     keep(state, word % ABOVE, after);
     word
 }
@@ -83,21 +89,19 @@ pub extern "C" fn nscc_set_up(
         flows.old (memory_before outstanding.old marked.old sizes.old sent.old) evs.old }
 {
     if settings.len() != c_state::SETTINGS {
-        return number_of(Err(Refusal::Unsound));
+        return Refusal::Unsound as u32;
     }
     let off = rules::mode_of(quick_adapt_off);
     let given = c_state::settings_of(settings, first_psn, off, ev_count as u64);
     if !window::bounds::in_range(given) {
-        return number_of(Err(Refusal::Setting));
+        return Refusal::Setting as u32;
     }
     if state.len() != WORDS {
-        return number_of(Err(Refusal::Unsound));
+        return Refusal::Unsound as u32;
     }
     let answer = context::start::set_up(given, flows, outstanding, marked, sizes, sent, evs);
-    let verdict = answer.verdict;
-    let after = answer.state;
-    let number = number_of(verdict);
-    keep(state, number as u64, after);
+    let number = number_of(answer.outcome);
+    keep(state, number as u64, answer.state);
     number
 }
 

@@ -1,22 +1,23 @@
 // What firmware asks of a flow's ring, which it need not read itself: the status of a PSN, and the next marked one. Everything is only
 // read.
 ghost use Rattle.std.specs.Prelude.{◌≡◌, ◌+◌, ◌*◌, ◌^◌};
+ghost use Rattle.std.specs.Result.{result_unwrap_or};
 ghost use Rattle.rules.specs.Verdict.{number_of};
 ghost use Rattle.ledger.specs.Lent.{memory_before};
 ghost use Rattle.context.specs.Look.{on_status, on_next_marked};
 ghost use Rattle.c_api.specs.Looks.{on_look_words};
 
 use replay::ABOVE;
-use rules::verdict::{Refusal, Verdict, number_of};
-use sender::look::Look;
+use rules::verdict::{Refusal, number_of};
 
-// The number, and above its 32 bits what was found.
-fn word_of(x: Look) -> u64
-    ensures { result ≡ 2 ^ 32 * x.found + number_of x.verdict }
+// The number, and above its 32 bits what was found: 0 where the look is refused.
+fn word_of(look: Result<u32, Refusal>) -> u64
+    ensures { result ≡ 2 ^ 32 * result_unwrap_or look 0 + number_of look }
 {
-    let found = x.found;
-    let verdict = x.verdict;
-    ABOVE * found as u64 + number_of(verdict) as u64
+    match look {
+        Ok(found) => ABOVE * found as u64,
+        Err(_) => number_of(look) as u64,
+    }
 }
 
 // What the flow's ring shows of a PSN: 0 where it is none of low..next-1, 1 flying, 2 marked, 3 done.
@@ -38,10 +39,19 @@ pub extern "C" fn nscc_status<'a>(
 {
     let given = c_state::unpack(state);
     if !given.good {
-        return number_of(Err(Refusal::Unsound)) as u64;
+        return Refusal::Unsound as u64;
     }
-    let c = given.state;
-    word_of(context::look::status(c, flows, outstanding, marked, sizes, sent, evs, flow, psn))
+    word_of(context::look::status(
+        given.state,
+        flows,
+        outstanding,
+        marked,
+        sizes,
+        sent,
+        evs,
+        flow,
+        psn,
+    ))
 }
 
 // The flow's first marked PSN from psn on; next where there is none, or where psn is none of low..next-1.
@@ -63,8 +73,17 @@ pub extern "C" fn nscc_next_marked<'a>(
 {
     let given = c_state::unpack(state);
     if !given.good {
-        return number_of(Err(Refusal::Unsound)) as u64;
+        return Refusal::Unsound as u64;
     }
-    let c = given.state;
-    word_of(context::look::next_marked(c, flows, outstanding, marked, sizes, sent, evs, flow, psn))
+    word_of(context::look::next_marked(
+        given.state,
+        flows,
+        outstanding,
+        marked,
+        sizes,
+        sent,
+        evs,
+        flow,
+        psn,
+    ))
 }

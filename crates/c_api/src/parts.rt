@@ -9,7 +9,7 @@ ghost use Rattle.c_api.specs.Parts.{part_count, part_words, carry_from, part_ok,
 use c_state::WORDS;
 use replay::Place;
 use replay_chunks::{Carry, Took};
-use rules::verdict::{Refusal, Verdict, number_of};
+use rules::verdict::{Refusal, number_of};
 
 // What is carried between chunks: the offset of the next record, the records done, whether replay has stopped, the piece's length, how many
 // answers the last call gave, and how many bytes of its chunk it took.
@@ -28,20 +28,18 @@ fn is_lent<'a>(part: &'a [u64], state: &'a [u64]) -> bool
     (state.len() == WORDS) & (part[2] < FLAG_END)
 }
 
-// What is carried, of its words. An inner step: the caller proves that there are six.
+// What is carried, of its words. An inner step: the caller proves that there are six. Neither type is this crate's, so it is no From.
 fn carry_of(ws: &[u64]) -> Carry
     requires { length ws.now ≡ part_count }
     ensures { result ≡ carry_from ws.now }
 {
-    let stopped = ws[2];
-    let place = Place {
-        at: ws[0] as usize,
-        done: ws[1],
-        stopped: stopped == 1,
-    };
     Carry {
         length: ws[3] as usize,
-        place,
+        place: Place {
+            at: ws[0] as usize,
+            done: ws[1],
+            stopped: ws[2] == 1,
+        },
     }
 }
 
@@ -50,15 +48,16 @@ fn keep_part(ws: &mut [u64], carry: Carry, count: usize, taken: usize)
     requires { length ws.old ≡ part_count }
     ensures { ws.new ≡ part_words carry count taken }
 {
-    let place = carry.place;
-    let at = place.at;
-    let stopped = place.stopped;
-    ws[0] = at as u64;
-    ws[1] = place.done;
-    ws[2] = if stopped { 1 } else { 0 };
-    ws[3] = carry.length as u64;
-    ws[4] = count as u64;
-    ws[5] = taken as u64;
+    let Carry { length, place } = carry;
+    let Place { at, done, stopped } = place;
+    ws.copy_from_slice(&[
+        at as u64,
+        done,
+        stopped as u64,
+        length as u64,
+        count as u64,
+        taken as u64,
+    ]);
 }
 
 // Stores what a chunk gave, unless it was refused, and answers its number. An inner step: the caller proves that there are the words.
@@ -69,18 +68,19 @@ fn keep_took<'a, 'b>(part: &'a mut [u64], state: &'b mut [u64], took: Took) -> u
         × (state.new ≡ words_then (number_of took.verdict) took.carry.place took.count took.state
         state.old) }
 {
-    let verdict = took.verdict;
+    let Took {
+        verdict,
+        taken,
+        count,
+        carry,
+        state: now,
+    } = took;
     let number = number_of(verdict);
-    if number != 0 {
+    if verdict.is_err() {
         return number;
     }
-    let carry = took.carry;
-    let after = carry.place;
-    let count = took.count;
-    let done = after.done;
-    keep_part(part, carry, count, took.taken);
-    if (count != 0) & (done != 0) {
-        let now = took.state;
+    keep_part(part, carry, count, taken);
+    if (count != 0) & (carry.place.done != 0) {
         c_state::store(state, now);
     }
     number
@@ -109,14 +109,13 @@ pub extern "C" fn nscc_chunk(
         flows.old (memory_before outstanding.old marked.old sizes.old sent.old) evs.old answers.old }
 {
     if !is_lent(part, state) {
-        return number_of(Err(Refusal::Unsound));
+        return Refusal::Unsound as u32;
     }
     let carry = carry_of(part);
     let given = c_state::unpack(state);
-    let before = given.state;
     let took = replay_chunks::chunk(
         carry,
-        before,
+        given.state,
         flows,
         outstanding,
         marked,

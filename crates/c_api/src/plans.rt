@@ -25,17 +25,24 @@ pub extern "C" fn nscc_judge<'a>(
         (memory_before outstanding.now marked.now sizes.now sent.now) evs.now }
 {
     if plan.len() % SEND_WORDS != 0 {
-        return number_of(Err(Refusal::Unsound)) as u64;
+        return Refusal::Unsound as u64;
     }
     let given = c_state::unpack(state);
     if !given.good {
-        return number_of(Err(Refusal::Unsound)) as u64;
+        return Refusal::Unsound as u64;
     }
-    let c = given.state;
-    let judged = plan::judge::judge(c, flows, outstanding, marked, sizes, sent, evs, time, plan);
-    let send = judged.send;
-    let verdict = judged.verdict;
-    ABOVE * send as u64 + number_of(verdict) as u64
+    let judged = plan::judge::judge(
+        given.state,
+        flows,
+        outstanding,
+        marked,
+        sizes,
+        sent,
+        evs,
+        time,
+        plan,
+    );
+    ABOVE * judged.send as u64 + number_of(judged.verdict) as u64
 }
 
 // The planner: the number, and above its 32 bits how many sends the plan has.
@@ -58,11 +65,10 @@ pub extern "C" fn nscc_plan<'a, 'b>(
 {
     let given = c_state::unpack(state);
     if !given.good {
-        return number_of(Err(Refusal::Unsound)) as u64;
+        return Refusal::Unsound as u64;
     }
-    let c = given.state;
     let made = plan::planner::plan(
-        c,
+        given.state,
         flows,
         outstanding,
         marked,
@@ -73,7 +79,5 @@ pub extern "C" fn nscc_plan<'a, 'b>(
         bytes,
         plan,
     );
-    let count = made.count;
-    let verdict = made.verdict;
-    ABOVE * count as u64 + number_of(verdict) as u64
+    ABOVE * made.count as u64 + number_of(made.verdict) as u64
 }

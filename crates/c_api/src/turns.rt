@@ -1,35 +1,34 @@
 // Fair turns (request M-108): which flow sends next. Only the state's turn is moved; table, ring buffer and EV times are only read.
 ghost use Rattle.std.specs.Prelude.{◌≡◌, length};
+ghost use Rattle.rules.specs.Verdict.{number_of};
 ghost use Rattle.ledger.specs.Lent.{memory_before};
-ghost use Rattle.context.specs.Turns.{choice_of};
+ghost use Rattle.context.specs.Turns.{choice_of, named_in};
 ghost use Rattle.c_api.specs.Turns.{turn_count, turn_words, turn_after, choosing_after, on_choose_words};
 
 use crate::keep;
-use context::choice::Choice;
-use rules::verdict::{Refusal, number_of};
+use context::choice::Turn;
+use rules::verdict::{Answer, Refusal, number_of};
 
 // The words of an answer: whether somebody is named, the flow, whether it sends a marked packet, and the PSN.
 pub const TURN_WORDS: usize = 4;
 
 // Who is named, as words: all 0 where nobody is.
-fn words_of(choice: Choice) -> [u64; TURN_WORDS]
+fn words_of(choice: Option<Turn>) -> [u64; TURN_WORDS]
     ensures { result ≡ turn_words (choice_of choice) }
 {
-    let Choice::Named(t) = choice else {
-        return [0; TURN_WORDS];
-    };
-    let resend = t.resend;
-    [1, t.flow as u64, if resend { 1 } else { 0 }, t.psn as u64]
+    match choice {
+        Some(Turn { flow, psn, resend }) => [1, flow as u64, resend as u64, psn as u64],
+        None => [0; TURN_WORDS],
+    }
 }
 
 // Stores those words where the choice was accepted. An inner step: the caller proves that there are four.
-fn keep_turn(turn: &mut [u64], number: u32, choice: Choice)
+fn keep_turn(turn: &mut [u64], outcome: Result<Option<Turn>, Refusal>)
     requires { length turn.old ≡ turn_count }
-    ensures { turn.new ≡ turn_after number turn.old (choice_of choice) }
+    ensures { turn.new ≡ turn_after (number_of outcome) turn.old (named_in outcome) }
 {
-    if number == 0 {
-        let words = words_of(choice);
-        c_state::copy(&words, turn);
+    if let Ok(choice) = outcome {
+        turn.copy_from_slice(&words_of(choice));
     }
 }
 
@@ -50,19 +49,18 @@ pub extern "C" fn nscc_choose<'a, 'b, 'c>(
         turn.old }
 {
     if turn.len() != TURN_WORDS {
-        return number_of(Err(Refusal::Unsound));
+        return Refusal::Unsound as u32;
     }
     let given = c_state::unpack(state);
     if !given.good {
-        return number_of(Err(Refusal::Unsound));
+        return Refusal::Unsound as u32;
     }
-    let before = given.state;
-    let chosen = context::choice::choose(before, flows, outstanding, marked, sizes, sent, evs);
-    let after = chosen.state;
-    let verdict = chosen.verdict;
-    let choice = chosen.choice;
-    let number = number_of(verdict);
+    let Answer {
+        state: after,
+        outcome,
+    } = context::choice::choose(given.state, flows, outstanding, marked, sizes, sent, evs);
+    let number = number_of(outcome);
     keep(state, number as u64, after);
-    keep_turn(turn, number, choice);
+    keep_turn(turn, outcome);
     number
 }

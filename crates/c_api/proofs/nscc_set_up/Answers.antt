@@ -2,7 +2,6 @@
 use mathlib.Core.Path.{◌≡◌, ap, ◌∙◌}
 use Prim.Native.Nat.{ℕ}
 use Rattle.rules.specs.Mode.{mode_of}
-use Rattle.rules.specs.Verdict.{number_of}
 use Rattle.c_state.specs.Layout.{settings_from}
 use Rattle.c_api.proofs.Answers.{few_settings, out_of_range, wrong_words, set_up_on}
 use mathlib.Core.Bool.{not}
@@ -18,25 +17,20 @@ given c =
     ∙ ap (λ (off : ℕ). settings_from a.settings.now a.first_psn off a.ev_count) c.mode_of-off.ensures
 
 pub returns-then-settings-ne-SETTINGS : goal.returns-then-settings-ne-SETTINGS
-unfolding number_of
-returns-then-settings-ne-SETTINGS c = rw c.number_of.ensures (few_settings _ _ _ _ _ _ _ _ c.if-settings-ne-SETTINGS.true)
+returns-then-settings-ne-SETTINGS c = few_settings _ _ _ _ _ _ _ _ c.if-settings-ne-SETTINGS.true
 
 pub returns-then-not-in_range : goal.returns-then-not-in_range
-unfolding number_of
 returns-then-not-in_range c =
-    rw c.number_of-then-not-in_range.ensures
-    (out_of_range _ _ _ _ _ _ _ _ c.if-settings-ne-SETTINGS.false _ (given (goal.at.returns-then-not-in_range c).After-settings_of-given) _
-    c.in_range.ensures (ap not c.if-not-in_range.true))
+    out_of_range _ _ _ _ _ _ _ _ c.if-settings-ne-SETTINGS.false _ (given (goal.at.returns-then-not-in_range c).After-settings_of-given) _
+    c.in_range.ensures (ap not c.if-not-in_range.true)
 
 pub returns-then-state-ne-WORDS : goal.returns-then-state-ne-WORDS
-unfolding number_of
 returns-then-state-ne-WORDS c =
-    rw c.number_of-then-state-ne-WORDS.ensures
-    (wrong_words _ _ _ _ _ _ _ _ c.if-settings-ne-SETTINGS.false _ (given (goal.at.returns-then-state-ne-WORDS c).After-settings_of-given) _
-    c.in_range.ensures (ap not c.if-not-in_range.false) c.if-state-ne-WORDS.true)
+    wrong_words _ _ _ _ _ _ _ _ c.if-settings-ne-SETTINGS.false _ (given (goal.at.returns-then-state-ne-WORDS c).After-settings_of-given) _
+    c.in_range.ensures (ap not c.if-not-in_range.false) c.if-state-ne-WORDS.true
 
 pub returns : goal.returns
 returns c =
     set_up_on _ _ _ _ _ _ _ _ c.if-settings-ne-SETTINGS.false _ (given (goal.at.returns c).After-settings_of-given) _
     c.in_range.ensures (ap not c.if-not-in_range.false) c.if-state-ne-WORDS.false
-    _ _ _ _ c.set_up-answer.ensures _ _ (c.number_of-number.ensures, c.keep.ensures)
+    _ _ _ _ _ c.set_up-answer.ensures _ _ (c.number_of-number.ensures, c.keep.ensures)

@@ -1,16 +1,11 @@
--- `keep_place` stores the four words one by one, the flag by its two cases.
-use mathlib.Core.Path.{sym, ap, ◌∙◌}
-use Rattle.c_api.specs.Flags.{bit}
-use Rattle.c_api.proofs.Handing.{place_stored}
+-- `keep_place` stores the four words at once, the flag as its bit.
+use mathlib.Core.Path.{ap, ◌∙◌}
+use mathlib.Core.List.{[], ◌∷◌}
+use Prim.Native.Nat.{ℕ}
+use Rattle.c_api.proofs.Flags.{byte_bit}
 use Rattle.c_api.proofs.batch.keep_place.Goals as goal
-use Rattle.c_api.proofs.batch.keep_place.Goals.{then-stopped, else-stopped}
 
 pub returns : goal.returns
-unfolding bit
 returns c =
-    let a = c.args in
-    place_stored a.ws.now c.requires a.place a.count c.if-stopped.ws
-    (elim c.if-stopped.branch [
-      | then-stopped w ↦ w.ws-is ∙ sym (ap bit w.if-stopped.true)
-      | else-stopped w ↦ w.ws-is ∙ sym (ap bit w.if-stopped.false)
-    ])
+    let p = c.args.place in
+    c.copy_from_slice.ensures.after ∙ ap (λ (n : ℕ). p.at ∷ p.done ∷ n ∷ c.args.count ∷ []) (byte_bit p.stopped)

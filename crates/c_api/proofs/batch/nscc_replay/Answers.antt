@@ -1,13 +1,11 @@
 -- `nscc_replay` tests what it was lent, replays, and stores what the batch gave.
-use Rattle.rules.specs.Verdict.{number_of}
 use mathlib.Core.Path.{sym, ◌∙◌}
 use Rattle.c_api.proofs.Handing.{lent_long, lent_wrong, handed_back}
 use Rattle.c_api.proofs.batch.nscc_replay.Goals as goal
 
 pub returns-then-not-is_lent : goal.returns-then-not-is_lent
-unfolding number_of
 returns-then-not-is_lent c =
-    rw c.number_of.ensures (lent_wrong _ _ _ _ _ _ _ (sym c.is_lent.ensures ∙ c.if-not-is_lent.true))
+    lent_wrong _ _ _ _ _ _ _ (sym c.is_lent.ensures ∙ c.if-not-is_lent.true)
 
 pub place_of-from-requires : goal.place_of-from-requires
 place_of-from-requires c = (lent_long _ _ (sym c.is_lent.ensures ∙ c.if-not-is_lent.false)).0

@@ -1,12 +1,9 @@
 -- `nscc_status`: words that are no state's are refused with 2 (`look_none`); else the context looks (`look_on`).
-use mathlib.Core.Path.{◌∙◌}
-use Rattle.rules.specs.Verdict.{number_of}
 use Rattle.c_api.proofs.Lookings.{look_none, look_on}
 use Rattle.c_api.proofs.looks.nscc_status.Goals as goal
 
 pub returns-then-not-given : goal.returns-then-not-given
-unfolding number_of
-returns-then-not-given c = c.number_of.ensures ∙ look_none _ _ _ _ _ _ c.unpack-given.ensures c.if-not-given.true
+returns-then-not-given c = look_none _ _ _ _ _ _ c.unpack-given.ensures c.if-not-given.true
 
 pub returns : goal.returns
 returns c =

@@ -1,13 +1,11 @@
 -- `nscc_chunk` tests what it was lent, takes the chunk, and stores what it gave.
-use Rattle.rules.specs.Verdict.{number_of}
 use mathlib.Core.Path.{sym, ◌∙◌}
 use Rattle.c_api.proofs.Parting.{part_long, part_wrong, part_back}
 use Rattle.c_api.proofs.parts.nscc_chunk.Goals as goal
 
 pub returns-then-not-is_lent : goal.returns-then-not-is_lent
-unfolding number_of
 returns-then-not-is_lent c =
-    rw c.number_of.ensures (part_wrong _ _ _ _ _ _ _ _ _ (sym c.is_lent.ensures ∙ c.if-not-is_lent.true))
+    part_wrong _ _ _ _ _ _ _ _ _ (sym c.is_lent.ensures ∙ c.if-not-is_lent.true)
 
 pub carry_of-carry-requires : goal.carry_of-carry-requires
 carry_of-carry-requires c = (part_long _ _ (sym c.is_lent.ensures ∙ c.if-not-is_lent.false)).0

@@ -1,18 +1,15 @@
 -- `nscc_judge`: 2 where the plan is not of whole sends or the words are no state's; else the judge's word, which fits (proofs/Plannings).
-use mathlib.Core.Path.{◌∙◌}
 use native.Mathlib.Omega.{arith}
-use Rattle.rules.specs.Verdict.{number_of, number_most}
+use Rattle.rules.specs.Verdict.{number_most}
 use Rattle.c_api.proofs.Plannings.{send_most, not_whole, judge_none, judge_on}
 use Rattle.c_api.proofs.plans.nscc_judge.Goals as goal
 
 pub returns-then-plan-ne0 : goal.returns-then-plan-ne0
-unfolding number_of
-returns-then-plan-ne0 c = c.number_of.ensures ∙ not_whole _ _ _ _ _ _ c.if-plan-ne0.true
+returns-then-plan-ne0 c = not_whole _ _ _ _ _ _ c.if-plan-ne0.true
 
 pub returns-then-not-given : goal.returns-then-not-given
-unfolding number_of
 returns-then-not-given c =
-    c.number_of-then-not-given.ensures ∙ judge_none _ _ _ _ _ _ c.if-plan-ne0.false _ c.unpack-given.ensures c.if-not-given.true
+    judge_none _ _ _ _ _ _ c.if-plan-ne0.false _ c.unpack-given.ensures c.if-not-given.true
 
 pub overflow_mul-result : goal.overflow_mul-result
 overflow_mul-result c = omega (arith, send_most _ _ _ _ _ c.judge-judged.ensures)
@@ -20,9 +17,9 @@ overflow_mul-result c = omega (arith, send_most _ _ _ _ _ c.judge-judged.ensures
 pub overflow_add-result : goal.overflow_add-result
 overflow_add-result c =
     let j = c.judge-judged in
-    omega (arith, send_most _ _ _ _ _ j.ensures, c.number_of-2.ensures, number_most j.result.verdict)
+    omega (arith, send_most _ _ _ _ _ j.ensures, c.number_of.ensures, number_most j.result.verdict)
 
 pub returns : goal.returns
 returns c =
-    judge_on _ _ _ _ _ _ c.if-plan-ne0.false _ c.unpack-given.ensures c.if-not-given.false _ _ _ c.number_of-2.ensures
+    judge_on _ _ _ _ _ _ c.if-plan-ne0.false _ c.unpack-given.ensures c.if-not-given.false _ _ _ c.number_of.ensures
     c.judge-judged.ensures

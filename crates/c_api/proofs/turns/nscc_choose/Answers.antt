@@ -1,18 +1,15 @@
 -- `nscc_choose`: a wrong number of words to answer in, and words that are no state's, are refused with 2; else the context's choice is kept
 -- (proofs/Choosings).
-use Rattle.rules.specs.Verdict.{number_of}
 use Rattle.c_api.proofs.Answers.{words_long}
 use Rattle.c_api.proofs.Choosings.{not_four, choose_none, choose_on}
 use Rattle.c_api.proofs.turns.nscc_choose.Goals as goal
 
 pub returns-then-turn-ne-TURN_WORDS : goal.returns-then-turn-ne-TURN_WORDS
-unfolding number_of
-returns-then-turn-ne-TURN_WORDS c = rw c.number_of.ensures (not_four _ _ _ _ _ c.if-turn-ne-TURN_WORDS.true)
+returns-then-turn-ne-TURN_WORDS c = not_four _ _ _ _ _ c.if-turn-ne-TURN_WORDS.true
 
 pub returns-then-not-given : goal.returns-then-not-given
-unfolding number_of
 returns-then-not-given c =
-    rw c.number_of-then-not-given.ensures (choose_none _ _ _ _ _ c.if-turn-ne-TURN_WORDS.false _ c.unpack-given.ensures c.if-not-given.true)
+    choose_none _ _ _ _ _ c.if-turn-ne-TURN_WORDS.false _ c.unpack-given.ensures c.if-not-given.true
 
 pub keep-requires : goal.keep-requires
 keep-requires c =
@@ -21,4 +18,4 @@ keep-requires c =
 pub returns : goal.returns
 returns c =
     choose_on _ _ _ _ _ c.if-turn-ne-TURN_WORDS.false _ c.unpack-given.ensures c.if-not-given.false _ _ _ _ c.number_of-number.ensures
-    c.choose-chosen.ensures _ _ c.keep.ensures c.keep_turn.ensures
+    c.choose-outcome.ensures _ _ c.keep.ensures c.keep_turn.ensures

@@ -1,25 +1,18 @@
--- `words_of` is `turn_words`, by the two cases of a choice and of the flag.
-use mathlib.Core.Path.{sym, ap, ◌∙◌}
+-- `words_of` is `turn_words`, by the two cases of a choice.
+use mathlib.Core.Path.{ap}
 use mathlib.Core.List.{[], ◌∷◌}
 use Prim.Native.Nat.{ℕ}
 use Rattle.context.specs.Turns.{choice_of}
-use Rattle.context.specs.declared.choice.Choice.{Choice}
-use Rattle.c_api.specs.Flags.{bit}
 use Rattle.c_api.specs.Turns.{turn_words}
+use Rattle.c_api.proofs.Flags.{byte_bit}
 use Rattle.c_api.proofs.turns.words_of.Goals as goal
-use Rattle.c_api.proofs.turns.words_of.Goals.{then-resend, else-resend}
 
-pub returns-in_default : goal.returns-in_default
+pub returns-in-Some : goal.returns-in-Some
 unfolding choice_of turn_words
-returns-in_default c = sym (ap (λ (o : Choice). turn_words (choice_of o)) c.in_default.is)
+returns-in-Some c =
+    let t = c.in-Some.field-0 in
+    rw c.in-Some.is (ap (λ (n : ℕ). 1 ∷ t.flow ∷ n ∷ t.psn ∷ []) (byte_bit t.resend))
 
-pub returns : goal.returns
-unfolding choice_of turn_words bit
-returns c =
-    let t = c.in-Named.t in
-    ap (λ (n : ℕ). 1 ∷ t.flow ∷ n ∷ t.psn ∷ [])
-    (elim c.if-resend.branch [
-      | then-resend w ↦ w.result-is ∙ sym (ap bit w.if-resend.true)
-      | else-resend w ↦ w.result-is ∙ sym (ap bit w.if-resend.false)
-    ])
-    ∙ sym (ap (λ (o : Choice). turn_words (choice_of o)) c.in-Named.is)
+pub returns-in-None : goal.returns-in-None
+unfolding choice_of turn_words
+returns-in-None c = rw c.in-None.is
