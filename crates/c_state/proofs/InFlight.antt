@@ -1,17 +1,18 @@
 -- In-flight's word: with 2^24 added, in-flight in its bounds is a number from 0 on, which fits the machine's word and tells in-flight back.
 -- Assumes nothing.
 use mathlib.Core.Path.{◌≡◌, refl, sym, ap, ◌∙◌}
-use mathlib.Core.Bool.{true, false}
+use mathlib.Core.Bool.{Bool, true, false}
 use mathlib.Core.Logic.{⊎_elim}
 use Prim.Native.Nat.{ℕ, ◌+◌, ◌-◌, ◌≤◌}
 use native.Mathlib.Omega.{arith}
-use lib.Dec.{T}
+use lib.Dec.{T, ltb}
 use lib.IntN.{ℤ, pos, negsuc, nat_abs, ◌+ℤ◌, ◌-ℤ◌}
-use lib.Signed.{lt_z, non_neg}
+use lib.Signed.{non_neg}
 use mir.Syntax.{w64}
 use mir.Val.{Fits, SFits}
 use borrow.Author.Tests.{ltb-false, le-ltb}
-use Rattle.rules.specs.Branch.{so_yes, so_no}
+use Rattle.std.specs.Int.{int_min, int_max}
+use Rattle.rules.specs.Branch.{if_so}
 use Rattle.ledger.specs.Bounds.{in_flight_least, above, below, Flown}
 use Rattle.ledger.proofs.Signs.{one_side, more_split, less_split}
 use Rattle.c_state.specs.Layout.{in_flight_added, in_flight_most, in_flight_word}
@@ -23,28 +24,40 @@ same (pos a) (negsuc b) e = absurd (let k : ⊥ = omega arith in k)
 same (negsuc a) (pos b) e = absurd (let k : ⊥ = omega arith in k)
 same (negsuc a) (negsuc b) e = ap negsuc (omega arith)
 
--- ---- the two tests, as the code makes them
+-- ---- in-flight cut to its bounds, as the code cuts it
 
-pub tests_flown : (z : ℤ) → lt_z z in_flight_least ≡ false → lt_z (pos in_flight_most) z ≡ false → Flown in_flight_most z
-tests_flown (pos a) l h = record { low = omega arith; high = ltb-false in_flight_most a h }
-tests_flown (negsuc a) l h = record { low = omega (arith, ltb-false (in_flight_added - 1) a l); high = omega arith }
+abbrev pub cut : ℤ → ℤ
+cut z = int_max in_flight_least (int_min z (pos in_flight_most))
 
-flown_tests : (z : ℤ) → Flown in_flight_most z → (lt_z z in_flight_least ≡ false) × (lt_z (pos in_flight_most) z ≡ false)
-flown_tests (pos a) f = (refl, le-ltb in_flight_most a f.high)
-flown_tests (negsuc a) f = (le-ltb (in_flight_added - 1) a (omega (arith, f.low)), refl)
+pub cut_flown : (z : ℤ) → Flown in_flight_most (cut z)
+cut_flown (pos a) = go (ltb in_flight_most a) refl
+  where
+    go : (t : Bool) → ltb in_flight_most a ≡ t → Flown in_flight_most (cut (pos a))
+    go true e = rw e (record { low = omega arith; high = omega arith })
+    go false e = rw e (record { low = omega arith; high = ltb-false in_flight_most a e })
+cut_flown (negsuc a) = go (ltb (in_flight_added - 1) a) refl
+  where
+    go : (t : Bool) → ltb (in_flight_added - 1) a ≡ t → Flown in_flight_most (cut (negsuc a))
+    go true e = rw e (record { low = omega arith; high = omega arith })
+    go false e = rw e (record { low = omega (arith, ltb-false (in_flight_added - 1) a e); high = omega arith })
 
-module _ (z : ℤ) where
-  pub word_low : lt_z z in_flight_least ≡ true → 0 ≡ in_flight_word z
-  unfolding in_flight_word
-  word_low e = so_yes (lt_z z in_flight_least) _ _ _ e refl
+pub word_cut : (z : ℤ) → nat_abs (cut z +ℤ pos in_flight_added) ≡ in_flight_word z
+unfolding in_flight_word if_so
+word_cut (pos a) = go (ltb in_flight_most a) refl
+  where
+    go : (t : Bool) → ltb in_flight_most a ≡ t → nat_abs (cut (pos a) +ℤ pos in_flight_added) ≡ in_flight_word (pos a)
+    go true e = rw e
+    go false e = rw e
+word_cut (negsuc a) = go (ltb (in_flight_added - 1) a) refl
+  where
+    go : (t : Bool) → ltb (in_flight_added - 1) a ≡ t → nat_abs (cut (negsuc a) +ℤ pos in_flight_added) ≡ in_flight_word (negsuc a)
+    go true e = rw e
+    go false e = rw e
 
-  pub word_high : lt_z z in_flight_least ≡ false → lt_z (pos in_flight_most) z ≡ true → in_flight_most + in_flight_added ≡ in_flight_word z
-  unfolding in_flight_word
-  word_high l e = so_no (lt_z z in_flight_least) _ _ _ l (so_yes (lt_z (pos in_flight_most) z) _ _ _ e refl)
-
-  pub word_between : lt_z z in_flight_least ≡ false → lt_z (pos in_flight_most) z ≡ false → nat_abs (z +ℤ pos in_flight_added) ≡ in_flight_word z
-  unfolding in_flight_word
-  word_between l h = so_no (lt_z z in_flight_least) _ _ _ l (so_no (lt_z (pos in_flight_most) z) _ _ _ h refl)
+-- in its bounds it is not cut
+uncut : (z : ℤ) → Flown in_flight_most z → cut z ≡ z
+uncut (pos a) f = rw (le-ltb in_flight_most a f.high)
+uncut (negsuc a) f = rw (le-ltb (in_flight_added - 1) a (omega (arith, f.low)))
 
 -- ---- in-flight in its bounds
 
@@ -57,7 +70,7 @@ module _ (z : ℤ) (f : Flown in_flight_most z) where
   raised_cast = rw raised (tt, record { fits = omega (arith, f.high) })
 
   word_is : in_flight_word z ≡ above z + in_flight_added - below z
-  word_is = let t = flown_tests z f in sym (word_between z t.0 t.1) ∙ ap nat_abs raised
+  word_is = sym (word_cut z) ∙ ap (λ (y : ℤ). nat_abs (y +ℤ pos in_flight_added)) (uncut z f) ∙ ap nat_abs raised
 
   pub word_most_lem : in_flight_word z ≤ in_flight_most + in_flight_added
   word_most_lem = omega (arith, word_is, f.high)

@@ -43,13 +43,7 @@ pub struct Unpacked {
 fn in_flight_word(z: i64) -> u64
     ensures { result ≡ in_flight_word z }
 {
-    if z < -IN_FLIGHT_ADDED {
-        return 0;
-    }
-    if z > IN_FLIGHT_MOST {
-        return (IN_FLIGHT_MOST + IN_FLIGHT_ADDED) as u64;
-    }
-    (z + IN_FLIGHT_ADDED) as u64
+    (z.clamp(-IN_FLIGHT_ADDED, IN_FLIGHT_MOST) + IN_FLIGHT_ADDED) as u64
 }
 
 // A state's words. Neither their type nor the state's is this crate's: a function and no From, here and in `unpack`.

@@ -1,41 +1,26 @@
--- `in_flight_word` tests in-flight's two ends and adds 2^24 between them; the sum fits because in-flight is then in its
--- bounds (`tests_flown`).
+-- `in_flight_word` cuts in-flight to its bounds; there the sum with 2^24 fits (`cut_flown`), and it is the word (`word_cut`).
+use mathlib.Core.Path.{◌≡◌}
 use native.Mathlib.Omega.{arith}
 use mir.Syntax.{w64}
 use mir.ValLaws.{to_z-of_z}
+use Rattle.ledger.specs.Bounds.{Flown}
 use Rattle.ledger.proofs.Signs.{more_ok, more_is}
-use Rattle.c_state.specs.Layout.{in_flight_added}
-use Rattle.c_state.proofs.InFlight.{tests_flown, word_low, word_high, word_between, raised_cast}
+use Rattle.c_state.specs.Layout.{in_flight_added, in_flight_most}
+use Rattle.c_state.proofs.InFlight.{cut, cut_flown, word_cut, raised_cast}
 use Rattle.c_state.proofs.in_flight_word.Goals as goal
+use Rattle.c_state.proofs.in_flight_word.Goals.{After-clamp}
 
-pub returns-then-z : goal.returns-then-z
-returns-then-z c =
-    let z = c.args.z in
-    word_low z (rw (to_z-of_z w64 z c.ranges.z) at c.if-z.true)
+is_cut : (c : After-clamp) → c.clamp.result ≡ cut c.args.z
+is_cut c = rw (to_z-of_z w64 c.args.z c.ranges.z) at c.clamp.ensures.value
 
-pub returns-then-z-gt-IN_FLIGHT_MOST : goal.returns-then-z-gt-IN_FLIGHT_MOST
-returns-then-z-gt-IN_FLIGHT_MOST c =
-    let z = c.args.z in
-    let e = to_z-of_z w64 z c.ranges.z in
-    word_high z (rw e at c.if-z.false) (rw e at c.if-z-gt-IN_FLIGHT_MOST.true)
+flown : (c : After-clamp) → Flown in_flight_most c.clamp.result
+flown c = rw (is_cut c) (cut_flown c.args.z)
 
-pub overflow_add-result-2 : goal.overflow_add-result-2
-overflow_add-result-2 c =
-    let z = c.args.z in
-    let e = to_z-of_z w64 z c.ranges.z in
-    more_ok z in_flight_added (tests_flown z (rw e at c.if-z.false) (rw e at c.if-z-gt-IN_FLIGHT_MOST.false)) (omega arith)
+pub overflow_add-result : goal.overflow_add-result
+overflow_add-result c = more_ok c.clamp.result in_flight_added (flown c) (omega arith)
 
-pub overflow_cast-result-2 : goal.overflow_cast-result-2
-overflow_cast-result-2 c =
-    let z = c.args.z in
-    let e = to_z-of_z w64 z c.ranges.z in
-    let f = tests_flown z (rw e at c.if-z.false) (rw e at c.if-z-gt-IN_FLIGHT_MOST.false) in
-    rw (more_is z in_flight_added f (omega arith)) (raised_cast z f)
+pub overflow_cast-result : goal.overflow_cast-result
+overflow_cast-result c = rw (more_is c.clamp.result in_flight_added (flown c) (omega arith)) (raised_cast c.clamp.result (flown c))
 
 pub returns : goal.returns
-returns c =
-    let z = c.args.z in
-    let e = to_z-of_z w64 z c.ranges.z in
-    let low = rw e at c.if-z.false in
-    let high = rw e at c.if-z-gt-IN_FLIGHT_MOST.false in
-    rw (more_is z in_flight_added (tests_flown z low high) (omega arith)) (word_between z low high)
+returns c = rw (more_is c.clamp.result in_flight_added (flown c) (omega arith), is_cut c) (word_cut c.args.z)
