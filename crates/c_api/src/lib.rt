@@ -17,8 +17,8 @@ ghost use Rattle.ledger.specs.Lent.{memory_before};
 ghost use Rattle.ledger.specs.Memory.{memory};
 ghost use Rattle.context.specs.Events.{on_new_data, on_send, on_loss};
 ghost use Rattle.c_state.specs.Layout.{word_count};
-ghost use Rattle.c_api.specs.Calls.{called_after, words_after, on_event_words, on_words, ack_beside, nack_beside, path_beside, on_beside_words};
-ghost use Rattle.c_api.specs.Calls.{on_set_up_words, send_by, ack_by, nack_by, loss_by};
+ghost use Rattle.c_api.specs.Calls.{called_after, words_after, on_event_words, on_words, ack_beside, nack_beside, path_beside};
+ghost use Rattle.c_api.specs.Calls.{on_beside_words, on_set_up_words, send_by, ack_by, nack_by, loss_by};
 
 use c_state::WORDS;
 use context::Controller;
