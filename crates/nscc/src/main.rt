@@ -5,7 +5,7 @@
 
 mod options;
 
-use crate::options::{Options, WORD_MOST};
+use crate::options::{Log, Options, WORD_MOST};
 use replay_stream::Task;
 use std::env::Env;
 use std::fs::OpenOptions;
@@ -14,12 +14,30 @@ use std::process::ExitCode;
 use std::rt::Files;
 use std::{fs, io};
 
-// How it ended, as its exit status: all is written; a log could not be read, or what is made of it not written, to the end; a wrong usage.
+// Why not all is written, by the exit status that says so.
+#[derive(Clone, Copy)]
+enum Failure {
+    // A log could not be read, or what is made of it not written, to the end.
+    Failed = 1,
+    // A wrong usage.
+    Misused = 2,
+}
+
+// The exit status of a run that has written all.
 const DONE: u8 = 0;
 
-const FAILED: u8 = 1;
+// What a usage is: the first line of the help, and what a wrong usage is told.
+const USAGE: &[u8] = b"usage: nscc [-p] [-r] [--] [LOG]\n";
 
-const MISUSED: u8 = 2;
+const HELP: [&[u8]; 7] = [
+    USAGE,
+    b"Replays an event log, of standard input where LOG is - or is not there, and writes a line for each record.\n",
+    b"  -p, --progress  tells on standard error how many records are done\n",
+    b"  -r, --report    writes a report of the run in place of its lines\n",
+    b"  -h, --help      writes this\n",
+    b"      --version   writes the version\n",
+    b"      --          what follows is no option\n",
+];
 
 // Where `--status` has it written: descriptor 3, whose permissions are those that it was opened with.
 const STATUS_NAME: &str = "/dev/fd/3";
@@ -47,98 +65,83 @@ fn say_why(messages: &impl Print, why: io::Error) {
     let _ = write!(text, "{why}");
     let length = (text.position() as usize).min(REASON_MOST);
     if let Ok(reason) = std::str::from_utf8(&room[..length]) {
-        let words = match reason.split_once(" (os error ") {
-            Some((words, _)) => words,
-            None => reason,
-        };
-        let _ = messages.println(words);
+        let words = reason.split_once(" (os error ");
+        let _ = messages.println(words.map_or(reason, |(words, _)| words));
     }
 }
 
 // A message: what failed, and why.
-fn tell_failed(messages: &impl Print, what: &[u8], why: io::Error) -> u8 {
+fn tell_failed(messages: &impl Print, what: &[u8], why: io::Error) -> Failure {
     name_itself(messages);
     say(messages, what);
     say(messages, b": ");
     say_why(messages, why);
-    FAILED
+    Failure::Failed
 }
 
 // Says what a usage is.
-fn tell_usage(messages: &impl Print) -> u8 {
+fn tell_usage(messages: &impl Print) -> Failure {
     name_itself(messages);
-    say(messages, b"usage: nscc [-p] [-r] [--] [LOG]\n");
-    MISUSED
+    say(messages, USAGE);
+    Failure::Misused
 }
 
-// Says why a log was not replayed to its end.
-fn tell_ending(messages: &impl Print, input: replay_stream::Input, name: &[u8]) -> u8 {
+// Says that a log is too long.
+fn tell_long(messages: &impl Print, name: &[u8]) -> Failure {
+    name_itself(messages);
+    say(messages, name);
+    say(messages, b": reaches 2^48 bytes\n");
+    Failure::Failed
+}
+
+// Says why a log was not replayed to its end, where it was not.
+fn tell_ending(
+    messages: &impl Print,
+    input: replay_stream::Input,
+    name: &[u8],
+) -> Result<(), Failure> {
     match input {
-        replay_stream::Input::Done => DONE,
-        replay_stream::Input::Long => {
-            name_itself(messages);
-            say(messages, name);
-            say(messages, b": reaches 2^48 bytes\n");
-            FAILED
-        }
-        replay_stream::Input::Failed(why) => tell_failed(messages, name, why),
-        replay_stream::Input::Unwritten(why) => tell_failed(messages, b"standard output", why),
+        replay_stream::Input::Done => Ok(()),
+        replay_stream::Input::Long => Err(tell_long(messages, name)),
+        replay_stream::Input::Failed(why) => Err(tell_failed(messages, name, why)),
+        replay_stream::Input::Unwritten(why) => tell_written(messages, Err(why)),
     }
 }
 
-// How it ended that a text was to be written.
-fn status_of(messages: &impl Print, written: io::Result<()>) -> u8 {
-    match written {
-        Ok(()) => DONE,
-        Err(why) => tell_failed(messages, b"standard output", why),
-    }
+// Says why a text was not written, where it was not.
+fn tell_written(messages: &impl Print, written: io::Result<()>) -> Result<(), Failure> {
+    written.map_err(|why| tell_failed(messages, b"standard output", why))
 }
 
-// Writes one line more, whether those before are written or not, and answers whether all are: if not, why the last was not.
-fn write_line(rt: &impl Print, before: io::Result<()>, line: &[u8]) -> io::Result<()> {
-    rt.write_all(line)?;
-    before
-}
-
+// Writes each line, whether those before are written or not, and answers whether all are: if not, why the last that is not was not.
 fn write_help(rt: &impl Print) -> io::Result<()> {
-    let mut done = rt.write_all(b"usage: nscc [-p] [-r] [--] [LOG]\n");
-    done = write_line(
-        rt,
-        done,
-        b"Replays an event log, of standard input where LOG is - or is not there, and writes a line for each record.\n",
-    );
-    done = write_line(
-        rt,
-        done,
-        b"  -p, --progress  tells on standard error how many records are done\n",
-    );
-    done = write_line(
-        rt,
-        done,
-        b"  -r, --report    writes a report of the run in place of its lines\n",
-    );
-    done = write_line(rt, done, b"  -h, --help      writes this\n");
-    done = write_line(rt, done, b"      --version   writes the version\n");
-    write_line(rt, done, b"      --          what follows is no option\n")
+    let mut done = Ok(());
+    for line in HELP {
+        done = rt.write_all(line).and(done);
+    }
+    done
 }
 
-// Replays the log that a reader gives, and says why it did not come to its end where it did not.
+// Replays the log that a reader gives, here and below with the handles that it takes and no others: a struct of the two would ask each
+// function for the bounds of all. It says why it did not come to its end where it did not.
 fn replay_log<L: Read, R: Print + Eprint>(
     rt: &R,
     messages: &impl Print,
     log: &mut L,
     name: &[u8],
     task: Task,
-) -> u8 {
+) -> Result<(), Failure> {
     let replayed = replay_stream::replay_from(rt, log, task);
-    let input = replayed.input;
-    tell_ending(messages, input, name)
+    tell_ending(messages, replayed.input, name)
 }
 
 // Replays the log that standard input gives.
-fn replay_input<R: Print + Eprint + Input>(rt: &R, messages: &impl Print, task: Task) -> u8 {
-    let mut log = rt.reader();
-    replay_log(rt, messages, &mut log, b"standard input", task)
+fn replay_input<R: Print + Eprint + Input>(
+    rt: &R,
+    messages: &impl Print,
+    task: Task,
+) -> Result<(), Failure> {
+    replay_log(rt, messages, &mut rt.reader(), b"standard input", task)
 }
 
 // Opens the file that a word names. A name is text.
@@ -155,13 +158,10 @@ fn open_and_replay<R: Print + Eprint + Files>(
     messages: &impl Print,
     word: &[u8],
     task: Task,
-) -> u8 {
+) -> Result<(), Failure> {
     match open(rt, word) {
-        Err(why) => tell_failed(messages, word, why),
-        Ok(file) => {
-            let mut log = file;
-            replay_log(rt, messages, &mut log, word, task)
-        }
+        Ok(mut log) => replay_log(rt, messages, &mut log, word, task),
+        Err(why) => Err(tell_failed(messages, word, why)),
     }
 }
 
@@ -171,34 +171,20 @@ fn replay_named<R: Print + Eprint + Input + Files + Env>(
     messages: &impl Print,
     index: usize,
     task: Task,
-) -> u8 {
+) -> Result<(), Failure> {
     let mut word = [0u8; WORD_MOST];
-    match rt.arg(index, &mut word) {
-        Err(_) => tell_failed(
-            messages,
-            b"LOG",
-            io::Error::from_raw_os_error(NAME_TOO_LONG),
-        ),
-        Ok(length) => {
-            if (length == 1) & (word[0] == b'-') {
-                return replay_input(rt, messages, task);
-            }
-            open_and_replay(rt, messages, &word[..length], task)
-        }
+    let Ok(length) = rt.arg(index, &mut word) else {
+        let why = io::Error::from_raw_os_error(NAME_TOO_LONG);
+        return Err(tell_failed(messages, b"LOG", why));
+    };
+    match &word[..length] {
+        b"-" => replay_input(rt, messages, task),
+        name => open_and_replay(rt, messages, name, task),
     }
-}
-
-// What is made of a log.
-fn task_of(o: Options) -> Task {
-    let progress = o.progress;
-    if o.report {
-        return Task::Report { progress };
-    }
-    Task::Lines { progress }
 }
 
 // Says which word is no option.
-fn tell_unknown(rt: &impl Env, messages: &impl Print, index: usize) -> u8 {
+fn tell_unknown(rt: &impl Env, messages: &impl Print, index: usize) -> Failure {
     let mut word = [0u8; WORD_MOST];
     name_itself(messages);
     if let Ok(length) = rt.arg(index, &mut word) {
@@ -213,50 +199,42 @@ fn perform<R: Print + Eprint + Input + Files + Env>(
     rt: &R,
     messages: &impl Print,
     o: Options,
-) -> u8 {
-    if o.unknown != 0 {
-        return tell_unknown(rt, messages, o.unknown);
+) -> Result<(), Failure> {
+    if let Some(index) = o.unknown {
+        return Err(tell_unknown(rt, messages, index));
     }
     if o.help {
-        return status_of(messages, write_help(rt));
+        return tell_written(messages, write_help(rt));
     }
     if o.version {
-        return status_of(messages, rt.write_all(b"nscc 1.0.0\n"));
+        return tell_written(messages, rt.write_all(b"nscc 1.0.0\n"));
     }
-    if o.many {
-        return tell_usage(messages);
+    match o.log {
+        Log::Unnamed => replay_input(rt, messages, o.task()),
+        Log::Named(index) => replay_named(rt, messages, index, o.task()),
+        Log::Several => Err(tell_usage(messages)),
     }
-    if o.log == 0 {
-        return replay_input(rt, messages, task_of(o));
-    }
-    replay_named(rt, messages, o.log, task_of(o))
 }
 
-// Writes a status to descriptor 3, behind what is there, where that is open for writing.
-fn put_status(rt: &impl Files, digit: &[u8]) -> io::Result<()> {
+// Writes a status to descriptor 3, behind what is there, as a digit, where that is open for writing.
+fn put_status(rt: &impl Files, status: u8) -> io::Result<()> {
     let there = fs::symlink_metadata(rt, STATUS_NAME)?;
     if there.permissions().readonly() {
         return Ok(());
     }
     let mut file = OpenOptions::new().append(true).open(rt, STATUS_NAME)?;
-    file.write_all(digit)
-}
-
-// Writes how it ended there, as a digit. Where it can't be written nobody could be told.
-fn tell_status(rt: &impl Files, status: u8) {
-    let digit = match status {
-        DONE => b"0",
-        FAILED => b"1",
-        _ => b"2",
-    };
-    let _ = put_status(rt, digit);
+    write!(file, "{status}")
 }
 
 fn main(rt: HostRuntime) -> ExitCode {
     let o = options::read(&rt);
-    let status = perform(&rt, &rt.stderr(), o);
+    let status = match perform(&rt, &rt.stderr(), o) {
+        Ok(()) => DONE,
+        Err(failure) => failure as u8,
+    };
     if o.status {
-        tell_status(&rt, status);
+        // Where it can't be written nobody could be told.
+        let _ = put_status(&rt, status);
     }
     ExitCode::from(status)
 }

@@ -1,4 +1,5 @@
 // The words of the command line: what is asked for, and of which log.
+use replay_stream::Task;
 use std::env::{Env, FillError};
 
 // No word that is looked at is longer.
@@ -20,8 +21,19 @@ enum Word {
     Unknown,
 }
 
-// What the words say. A word is told by its index, 0 where there is none.
-#[derive(Clone, Copy)]
+// What the words say of the log. A word is told by its index.
+#[derive(Clone, Copy, Default)]
+pub(crate) enum Log {
+    // No word names one: standard input gives it.
+    #[default]
+    Unnamed,
+    Named(usize),
+    // More words than one name a log.
+    Several,
+}
+
+// What the words say.
+#[derive(Clone, Copy, Default)]
 pub(crate) struct Options {
     // Progress is told, a report made in place of lines, and how it ended written to descriptor 3.
     pub progress: bool,
@@ -31,11 +43,9 @@ pub(crate) struct Options {
     pub version: bool,
     // The options have ended.
     pub ended: bool,
-    // The word that names the log, and whether another does.
-    pub log: usize,
-    pub many: bool,
+    pub log: Log,
     // The last word that is no option and no log.
-    pub unknown: usize,
+    pub unknown: Option<usize>,
 }
 
 // What a word of two bytes or more that begins with `-` says.
@@ -53,35 +63,15 @@ fn option_of(word: &[u8]) -> Word {
 
 // What a word says, where the options have ended or not.
 fn word_of(word: &[u8], ended: bool) -> Word {
-    if ended {
-        return Word::Log;
+    match word {
+        [b'-', _, ..] if !ended => option_of(word),
+        _ => Word::Log,
     }
-    if word.len() < 2 {
-        return Word::Log;
-    }
-    if word[0] == b'-' {
-        return option_of(word);
-    }
-    Word::Log
 }
 
 impl Options {
-    fn none() -> Self {
-        Options {
-            progress: false,
-            report: false,
-            status: false,
-            help: false,
-            version: false,
-            ended: false,
-            log: 0,
-            many: false,
-            unknown: 0,
-        }
-    }
-
-    // What is said with one word more, which stands at an index.
-    fn with(mut self, word: Word, index: usize) -> Self {
+    // Takes in a word more, which stands at an index.
+    fn hear(&mut self, word: Word, index: usize) {
         match word {
             Word::Progress => self.progress = true,
             Word::Report => self.report = true,
@@ -89,37 +79,49 @@ impl Options {
             Word::Help => self.help = true,
             Word::Version => self.version = true,
             Word::End => self.ended = true,
-            Word::Log => {
-                self.many = self.log != 0;
-                self.log = index;
-            }
-            Word::Unknown => self.unknown = index,
+            Word::Log => self.log = self.log.and(index),
+            Word::Unknown => self.unknown = Some(index),
         }
-        self
+    }
+
+    // What is made of a log.
+    pub(crate) fn task(&self) -> Task {
+        let progress = self.progress;
+        if self.report {
+            return Task::Report { progress };
+        }
+        Task::Lines { progress }
     }
 }
 
-// What is said with the word at an index more, if there is one. A word that is too long is no option.
-fn read_word(rt: &impl Env, options: Options, index: usize) -> Option<Options> {
+impl Log {
+    // With one word more that names a log.
+    fn and(self, index: usize) -> Log {
+        match self {
+            Log::Unnamed => Log::Named(index),
+            _ => Log::Several,
+        }
+    }
+}
+
+// What the word at an index says, if there is one. A word that is too long is no option.
+fn word_at(rt: &impl Env, index: usize, ended: bool) -> Option<Word> {
     let mut word = [0u8; WORD_MOST];
     match rt.arg(index, &mut word) {
-        Ok(length) => {
-            let says = word_of(&word[..length], options.ended);
-            Some(options.with(says, index))
-        }
-        Err(FillError::TooLong) => Some(options.with(Word::Log, index)),
+        Ok(length) => Some(word_of(&word[..length], ended)),
+        Err(FillError::TooLong) => Some(Word::Log),
         Err(FillError::NotPresent) => None,
     }
 }
 
-// What the words of the command line say.
+// What the words of the command line say. They are asked for by their index since an iterator over them (`env::args`) takes the heap.
 pub(crate) fn read(rt: &impl Env) -> Options {
-    let mut options = Options::none();
+    let mut options = Options::default();
     for index in 1..usize::MAX {
-        match read_word(rt, options, index) {
-            Some(more) => options = more,
-            None => break,
-        }
+        let Some(word) = word_at(rt, index, options.ended) else {
+            break;
+        };
+        options.hear(word, index);
     }
     options
 }
