@@ -26,7 +26,8 @@ fn complain(rt: &impl Print, input: Input) -> io::Result<()> {
     }
 }
 
-// Reads until buf is full or the input ends, and answers how many bytes it put at buf's front.
+// Reads until buf is full or the input ends, and answers how many bytes it put at buf's front. The loop stands written out since std fills a
+// buffer whole or not at all (`read_exact`), or one on the heap, and memory is fixed here.
 fn read_full<L: Read>(log: &mut L, buf: &mut [u8]) -> io::Result<usize>
     ensures { IfOk result (λ n. n ≤ length buf.new) }
 {
@@ -43,23 +44,18 @@ fn read_full<L: Read>(log: &mut L, buf: &mut [u8]) -> io::Result<usize>
 
 // Opens the log of this name. A name is text.
 fn open<R: Files>(rt: &R, name: &[u8]) -> io::Result<R::File> {
-    match std::str::from_utf8(name) {
-        Ok(path) => fs::open(rt, path),
-        Err(_) => Err(io::Error::from(ErrorKind::InvalidInput)),
-    }
+    let path = std::str::from_utf8(name).map_err(|_| io::Error::from(ErrorKind::InvalidInput))?;
+    fs::open(rt, path)
 }
 
 // Reads the log of this name into buf, and answers how many bytes that are; none where there is no such log.
 fn read_log<R: Files>(rt: &R, name: &[u8], buf: &mut [u8]) -> io::Result<usize>
     ensures { IfOk result (λ n. n ≤ length buf.new) }
 {
-    match open(rt, name) {
-        Ok(file) => {
-            let mut log = file;
-            read_full(&mut log, buf)
-        }
-        Err(_) => Ok(0),
-    }
+    let Ok(mut log) = open(rt, name) else {
+        return Ok(0);
+    };
+    read_full(&mut log, buf)
 }
 
 // Reads a log's file again, and writes it back from the records that it is read as.
@@ -90,10 +86,7 @@ fn replay_one<R: Print + Eprint + Files>(rt: &R, name: &[u8]) -> io::Result<()> 
     rt.write_all(name)?;
     rt.write_all(b"\n")?;
     match open(rt, name) {
-        Ok(file) => {
-            let mut log = file;
-            replay_lines(rt, &mut log)?;
-        }
+        Ok(mut log) => replay_lines(rt, &mut log)?,
         Err(why) => {
             replay_lines(rt, &mut io::empty())?;
             complain(rt, Input::Failed(why))?;
@@ -102,22 +95,23 @@ fn replay_one<R: Print + Eprint + Files>(rt: &R, name: &[u8]) -> io::Result<()> 
     back_one(rt, name)
 }
 
-// The log that the argument at an index names, where there is one. Answers whether there is. No log has a name that is longer than its room.
-fn replay_at<R: Print + Eprint + Files + Env>(rt: &R, index: usize) -> io::Result<bool> {
-    let mut name = [0u8; NAME_MOST];
-    match rt.arg(index, &mut name) {
-        Ok(length) => replay_one(rt, &name[..length])?,
-        Err(FillError::TooLong) => replay_one(rt, b"")?,
-        Err(FillError::NotPresent) => return Ok(false),
+// The name that the argument at an index is, where there is one, in a lent room. No log has a name that is longer than its room.
+fn name_at<'a>(rt: &impl Env, index: usize, room: &'a mut [u8; NAME_MOST]) -> Option<&'a [u8]> {
+    match rt.arg(index, room) {
+        Ok(length) => Some(&room[..length]),
+        Err(FillError::TooLong) => Some(b""),
+        Err(FillError::NotPresent) => None,
     }
-    Ok(true)
 }
 
+// The names are asked for by their index since an iterator over them (`env::args`) takes the heap.
 fn main(rt: HostRuntime) -> io::Result<()> {
     for index in 1..usize::MAX {
-        if !replay_at(&rt, index)? {
+        let mut room = [0u8; NAME_MOST];
+        let Some(name) = name_at(&rt, index, &mut room) else {
             break;
-        }
+        };
+        replay_one(&rt, name)?;
     }
     Ok(())
 }
