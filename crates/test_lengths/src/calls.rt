@@ -1,6 +1,7 @@
 // Every entry point on lent slices of any lengths.
 use crate::make;
 use crate::make::{Given, TABLE};
+use crate::same::{all, same_state};
 use context::choice::{Choice, Chosen};
 use context::{Answer, Controller, Heard, Routed, choice, entry, look, start};
 use rules::verdict::number_of;
@@ -20,6 +21,40 @@ pub enum Call {
     Loss,
     Path,
     Choose,
+}
+
+impl Call {
+    // The events, in the order in which a line has them.
+    pub const EVENTS: [Call; 6] = [
+        Call::NewData,
+        Call::Send,
+        Call::Ack,
+        Call::Nack,
+        Call::Loss,
+        Call::Path,
+    ];
+}
+
+// What is lent to a call.
+#[derive(Drop)]
+pub struct Lent<'a> {
+    pub flows: &'a mut [u64],
+    pub outstanding: &'a mut [u64],
+    pub marked: &'a mut [u64],
+    pub sizes: &'a mut [u32],
+    pub sent: &'a mut [u64],
+    pub evs: &'a mut [u64],
+}
+
+// The same, only looked at.
+#[derive(Clone, Copy)]
+pub struct Shown<'a> {
+    pub flows: &'a [u64],
+    pub outstanding: &'a [u64],
+    pub marked: &'a [u64],
+    pub sizes: &'a [u32],
+    pub sent: &'a [u64],
+    pub evs: &'a [u64],
 }
 
 // What a call answered; only a choice names anybody.
@@ -111,109 +146,111 @@ fn a_nack(ev: u32) -> Nack {
     }
 }
 
-// The calls that change no ring and no EV time: of flow k, at the clock.
-fn reading<'a, 'b>(
-    call: Call,
-    e: Given,
-    flows: &'a mut [u64],
-    outstanding: &'b [u64],
-    marked: &'b [u64],
-    sizes: &'b [u32],
-    sent: &'b [u64],
-    evs: &'b [u64],
-) -> Got {
-    let c = make::empty(e);
-    let at = c.clock;
-    let k = e.flow;
-    match call {
-        Call::NewData => {
-            let a = entry::new_data(c, flows, outstanding, marked, sizes, sent, evs, at, k, 1);
-            of_answer(a)
+impl Lent<'_> {
+    // What a call answers: of an event, of the given flow at the clock.
+    pub(crate) fn answer(self, call: Call, e: Given) -> Got {
+        let Lent {
+            flows,
+            outstanding,
+            marked,
+            sizes,
+            sent,
+            evs,
+        } = self;
+        let c = make::empty(e);
+        let at = c.clock;
+        let k = e.flow;
+        match call {
+            Call::SetUp(s) => {
+                of_answer(start::set_up(s, flows, outstanding, marked, sizes, sent, evs))
+            }
+            Call::NewData => {
+                of_answer(entry::new_data(
+                    c,
+                    flows,
+                    outstanding,
+                    marked,
+                    sizes,
+                    sent,
+                    evs,
+                    at,
+                    k,
+                    1,
+                ))
+            }
+            Call::Send => {
+                let a = a_send();
+                of_answer(entry::send(c, flows, outstanding, marked, sizes, sent, evs, at, k, a))
+            }
+            Call::Ack => {
+                let a = an_ack(e.ev);
+                of_heard(entry::ack(c, flows, outstanding, marked, sizes, sent, evs, at, k, a))
+            }
+            Call::Nack => {
+                let a = a_nack(e.ev);
+                of_heard(entry::nack(c, flows, outstanding, marked, sizes, sent, evs, at, k, a))
+            }
+            Call::Loss => {
+                let a = Loss { psn: 5, ev: e.ev };
+                of_answer(entry::loss(c, flows, outstanding, marked, sizes, sent, evs, at, k, a))
+            }
+            Call::Path => of_routed(entry::path(
+                c,
+                flows,
+                outstanding,
+                marked,
+                sizes,
+                sent,
+                evs,
+                at,
+                k,
+            )),
+            Call::Choose => of_chosen(choice::choose(
+                c,
+                flows,
+                outstanding,
+                marked,
+                sizes,
+                sent,
+                evs,
+            )),
         }
-        Call::Choose => {
-            of_chosen(choice::choose(c, flows, outstanding, marked, sizes, sent, evs))
-        }
-        _ => of_routed(entry::path(c, flows, outstanding, marked, sizes, sent, evs, at, k)),
     }
 }
 
-// Those that change marks and EV times, and those before.
-fn marking<'a, 'b, 'c, 'd>(
-    call: Call,
-    e: Given,
-    flows: &'a mut [u64],
-    outstanding: &'d [u64],
-    marked: &'b mut [u64],
-    sizes: &'d [u32],
-    sent: &'d [u64],
-    evs: &'c mut [u64],
-) -> Got {
-    let c = make::empty(e);
-    let at = c.clock;
-    let k = e.flow;
-    let nack = a_nack(e.ev);
-    let loss = Loss { psn: 5, ev: e.ev };
-    match call {
-        Call::Nack => {
-            let a = entry::nack(c, flows, outstanding, marked, sizes, sent, evs, at, k, nack);
-            of_heard(a)
+impl Shown<'_> {
+    // The two looks, at low.
+    pub(crate) fn looks(self, e: Given) -> Looks {
+        let Shown {
+            flows,
+            outstanding,
+            marked,
+            sizes,
+            sent,
+            evs,
+        } = self;
+        let c = make::empty(e);
+        let k = e.flow;
+        let low = make::LOW;
+        Looks {
+            status: look::status(c, flows, outstanding, marked, sizes, sent, evs, k, low),
+            next_marked: look::next_marked(c, flows, outstanding, marked, sizes, sent, evs, k, low),
         }
-        Call::Loss => {
-            let a = entry::loss(c, flows, outstanding, marked, sizes, sent, evs, at, k, loss);
-            of_answer(a)
-        }
-        _ => reading(call, e, flows, outstanding, marked, sizes, sent, evs),
     }
-}
 
-// All of them.
-pub(crate) fn answered<'a, 'b, 'c, 'd, 'e, 'f>(
-    call: Call,
-    e: Given,
-    flows: &'a mut [u64],
-    outstanding: &'b mut [u64],
-    marked: &'c mut [u64],
-    sizes: &'d mut [u32],
-    sent: &'e mut [u64],
-    evs: &'f mut [u64],
-) -> Got {
-    let c = make::empty(e);
-    let at = c.clock;
-    let k = e.flow;
-    let send = a_send();
-    let ack = an_ack(e.ev);
-    match call {
-        Call::SetUp(s) => {
-            of_answer(start::set_up(s, flows, outstanding, marked, sizes, sent, evs))
-        }
-        Call::Send => {
-            let a = entry::send(c, flows, outstanding, marked, sizes, sent, evs, at, k, send);
-            of_answer(a)
-        }
-        Call::Ack => {
-            let a = entry::ack(c, flows, outstanding, marked, sizes, sent, evs, at, k, ack);
-            of_heard(a)
-        }
-        _ => marking(call, e, flows, outstanding, marked, sizes, sent, evs),
-    }
-}
-
-// The two looks, at low.
-pub(crate) fn looked<'a>(
-    e: Given,
-    flows: &'a [u64],
-    outstanding: &'a [u64],
-    marked: &'a [u64],
-    sizes: &'a [u32],
-    sent: &'a [u64],
-    evs: &'a [u64],
-) -> Looks {
-    let c = make::empty(e);
-    let k = e.flow;
-    let low = make::LOW;
-    Looks {
-        status: look::status(c, flows, outstanding, marked, sizes, sent, evs, k, low),
-        next_marked: look::next_marked(c, flows, outstanding, marked, sizes, sent, evs, k, low),
+    // Whether state and memory are what a call must leave, by the number that it answered: memory held one number before, and an accepted
+    // setting up clears it.
+    pub(crate) fn is_left(self, call: Call, e: Given, fill: u32, got: Got) -> bool {
+        let number = got.number;
+        let fill = if number == 0 { 0 } else { fill };
+        let wide = fill as u64;
+        same_state(got.state, wanted(call, e, number))
+            & table_after(call, e, fill, number).starts_with(self.flows)
+            & all(self.outstanding, &wide)
+            & all(self.marked, &wide)
+            & all(self.sizes, &fill)
+            & all(self.sent, &wide)
+            & all(self.evs, &wide)
     }
 }
 

@@ -1,111 +1,95 @@
 // The lines of a case: setting up, every event, the looks, a choice.
 use crate::calls::Call;
-use crate::make::Given;
+use crate::make::{EVS, Given, USUAL};
 use crate::room::Lengths;
 use crate::{make, room, say};
 use context::choice::Choice;
 use std::io;
 use window::Settings;
 
-// The flow that is called has the backlog, and the turn is flow 0's.
-pub(crate) fn given(count: u64, cursor: u32, ev: u32, flow: usize) -> Given {
-    Given {
-        count,
-        cursor,
-        ev,
-        flow,
-        owner: flow,
-        turn: 0,
-    }
-}
+// What memory holds before it is set up; the rings of the other calls are empty, zeros.
+const OLD: u32 = 7;
 
 // The last flow of a table of so many words, and 0 where it has none.
 fn last_flow(words: usize) -> usize {
-    let n = words / flow_table::FLOW_WORDS;
-    if n == 0 { 0 } else { n - 1 }
+    (words / flow_table::FLOW_WORDS).saturating_sub(1)
 }
 
 // Memory that held sevens is cleared, or where setting up is refused left alone.
 pub(crate) fn set_up(
     out: &impl Print,
-    label: &[u8],
+    label: &str,
     settings: Settings,
     k: Lengths,
 ) -> io::Result<()> {
-    let v = room::lend(Call::SetUp(settings), given(256, 0, 0, 0), 7, k);
-    say::text(out, label)?;
-    say::text(out, b":")?;
-    say::also(out, v.number)?;
-    if v.as_wanted & (v.number == 0) {
-        return say::text(out, b" fresh\n");
-    }
-    say::verdict(out, v.as_wanted)?;
-    say::text(out, b"\n")
-}
-
-// The rings are empty: zeros.
-fn event(out: &impl Print, call: Call, e: Given, k: Lengths) -> io::Result<()> {
-    let v = room::lend(call, e, 0, k);
-    say::also(out, v.number)?;
-    if v.number != 0 {
-        say::verdict(out, v.as_wanted)?;
-    }
-    Ok(())
+    let v = room::lend(Call::SetUp(settings), USUAL, OLD, k);
+    let number = v.number;
+    let what = match (number, v.as_wanted) {
+        (0, true) => "fresh",
+        (_, true) => "same",
+        (_, false) => "CHANGED",
+    };
+    println!(out; "{label}: {number} {what}")
 }
 
 // Every event, to the end of the line.
-pub(crate) fn events(out: &impl Print, label: &[u8], e: Given, k: Lengths) -> io::Result<()> {
-    say::text(out, label)?;
-    say::text(out, b":")?;
-    event(out, Call::NewData, e, k)?;
-    event(out, Call::Send, e, k)?;
-    event(out, Call::Ack, e, k)?;
-    event(out, Call::Nack, e, k)?;
-    event(out, Call::Loss, e, k)?;
-    event(out, Call::Path, e, k)?;
-    say::text(out, b"\n")
+pub(crate) fn events(out: &impl Print, label: &str, e: Given, k: Lengths) -> io::Result<()> {
+    print!(out; "{label}:")?;
+    for call in Call::EVENTS {
+        let v = room::lend(call, e, 0, k);
+        print!(out; " {v}")?;
+    }
+    println!(out; "")
 }
 
 // The two looks: the number that each answers, and what it finds.
-pub(crate) fn looks(out: &impl Print, label: &[u8], e: Given, k: Lengths) -> io::Result<()> {
+pub(crate) fn looks(out: &impl Print, label: &str, e: Given, k: Lengths) -> io::Result<()> {
     let v = room::look(e, k);
-    say::text(out, label)?;
-    say::text(out, b":")?;
+    print!(out; "{label}:")?;
     say::look(out, v.status)?;
     say::look(out, v.next_marked)?;
-    say::text(out, b"\n")
+    println!(out; "")
 }
 
 // A choice: the number that it answers, and whom it names. The flow that has the backlog is ready, and no other.
-pub(crate) fn choice(out: &impl Print, label: &[u8], e: Given, k: Lengths) -> io::Result<()> {
+pub(crate) fn choice(out: &impl Print, label: &str, e: Given, k: Lengths) -> io::Result<()> {
     let v = room::lend(Call::Choose, e, 0, k);
-    say::text(out, label)?;
-    say::text(out, b":")?;
-    say::also(out, v.number)?;
-    if v.number != 0 {
-        say::verdict(out, v.as_wanted)?;
-    }
-    let choice = v.choice;
-    if let Choice::Named(turn) = choice {
+    print!(out; "{label}: {v}")?;
+    if let Choice::Named(turn) = v.choice {
         say::named(out, turn)?;
     }
-    say::text(out, b"\n")
+    println!(out; "")
 }
 
 // Setting up with a number of EVs, every event and the looks of the last flow, which has the backlog, and a choice: four lines.
-pub(crate) fn counted(out: &impl Print, label: &[u8], count: u64, k: Lengths) -> io::Result<()> {
-    let last = given(count, 0, 0, last_flow(k.flows));
-    say::text(out, b"2 set up ")?;
+pub(crate) fn counted(out: &impl Print, label: &str, count: u64, k: Lengths) -> io::Result<()> {
+    let flow = last_flow(k.flows);
+    let last = Given {
+        count,
+        flow,
+        owner: flow,
+        ..USUAL
+    };
+    print!(out; "2 set up ")?;
     set_up(out, label, make::settings(4096, count), k)?;
-    say::text(out, b"2 lengths ")?;
+    print!(out; "2 lengths ")?;
     events(out, label, last, k)?;
-    say::text(out, b"2 looks ")?;
+    print!(out; "2 looks ")?;
     looks(out, label, last, k)?;
-    say::text(out, b"2 choice ")?;
+    print!(out; "2 choice ")?;
     choice(out, label, last, k)
 }
 
-// With 256 EVs, as where nothing else is said.
-pub(crate) fn both(out: &impl Print, label: &[u8], k: Lengths) -> io::Result<()> {
-    counted(out, label, 256, k)
+// With the words of the table, of outstanding and of marked bits, sizes and send times, of each its own number.
+pub(crate) fn uneven(out: &impl Print, label: &str, lengths: [usize; 5]) -> io::Result<()> {
+    let [flows, outstanding, marked, sizes, sent] = lengths;
+    let k = Lengths {
+        flows,
+        outstanding,
+        marked,
+        sizes,
+        sent,
+        evs: 256,
+    };
+    counted(out, label, EVS, k)
 }

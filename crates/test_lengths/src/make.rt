@@ -15,6 +15,9 @@ const BACKLOG: u64 = 8192;
 // The words that a table is lent of: sixteen flows, twice as many as are allowed.
 pub const TABLE: usize = 64;
 
+// How many EVs the settings have where nothing else is said.
+pub const EVS: u64 = 256;
+
 // What a case says but for lengths: how many EVs the settings have, where the cursor stands, the EV of feedback, the flow that is called,
 // the one that has the backlog, and the held turn.
 #[derive(Clone, Copy)]
@@ -26,6 +29,16 @@ pub struct Given {
     pub owner: usize,
     pub turn: u64,
 }
+
+// What a case says where it says nothing else.
+pub const USUAL: Given = Given {
+    count: EVS,
+    cursor: 0,
+    ev: 0,
+    flow: 0,
+    owner: 0,
+    turn: 0,
+};
 
 // Settings E of document 01, with an MTU and a number of EVs; and a first PSN that no cleared memory shows.
 pub(crate) fn settings(mtu: u64, ev_count: u64) -> Settings {
@@ -139,29 +152,17 @@ pub(crate) fn empty(e: Given) -> Controller {
 
 // The k-th word of a table whose every flow has the same record, but that one flow alone has the backlog.
 fn word(f: Flow, owner: usize, k: usize) -> u64 {
-    let place = k % flow_table::FLOW_WORDS;
-    if place == flow_table::LOW {
-        return f.low as u64;
-    }
-    if place == flow_table::NEXT {
-        return f.next as u64;
-    }
-    if place == flow_table::HELD {
-        return f.held;
-    }
-    if k / flow_table::FLOW_WORDS == owner {
-        f.backlog
-    } else {
-        0
+    match k % flow_table::FLOW_WORDS {
+        flow_table::LOW => f.low as u64,
+        flow_table::NEXT => f.next as u64,
+        flow_table::HELD => f.held,
+        _ if k / flow_table::FLOW_WORDS == owner => f.backlog,
+        _ => 0,
     }
 }
 
 fn table(f: Flow, owner: usize) -> [u64; TABLE] {
-    let mut words = [0u64; TABLE];
-    for k in 0..64 {
-        words[k] = word(f, owner, k);
-    }
-    words
+    std::array::from_fn(|k| word(f, owner, k))
 }
 
 // Request M-107: "every flow starts at the settings' first PSN".

@@ -1,10 +1,17 @@
 // Memory to lend parts of, and what became of it.
 ghost use Rattle.std.specs.Prelude.{◌≤◌};
 
-use crate::calls::{Call, Got, Looks};
-use crate::make::Given;
-use crate::{calls, make, same};
+use crate::calls::{Call, Lent, Looks, Shown};
+use crate::make::{Given, TABLE};
+use crate::{calls, make};
 use context::choice::Choice;
+use std::fmt;
+
+// The room that words of bits and EV times are lent of.
+const WORDS: usize = 8192;
+
+// That of slots has ten times 4,096: eight of the largest rings, and more.
+const SLOTS: usize = 40960;
 
 // The lengths of what is lent: words of the table, of outstanding and of marked bits, sizes, send times, EV times.
 #[derive(Clone, Copy)]
@@ -17,6 +24,21 @@ pub struct Lengths {
     pub evs: usize,
 }
 
+impl Lengths {
+    // Slots for all, as many as there are whole words of bits for.
+    pub(crate) fn even(flows: usize, slots: usize, evs: usize) -> Lengths {
+        let words = slots / 64;
+        Lengths {
+            flows,
+            outstanding: words,
+            marked: words,
+            sizes: slots,
+            sent: slots,
+            evs,
+        }
+    }
+}
+
 // The number that a call answered, whom it named, and whether state and lent memory are what it must leave.
 #[derive(Clone, Copy)]
 pub struct Verdict {
@@ -25,131 +47,85 @@ pub struct Verdict {
     pub as_wanted: bool,
 }
 
-// The table is lent of 64 words.
-fn cut_table(n: usize) -> usize
-    ensures { result ≤ 64 }
-{
-    if n < 64 { n } else { 64 }
-}
-
-// The room that words of bits and EV times are lent of is 8,192 long.
-fn cut(n: usize) -> usize
-    ensures { result ≤ 8192 }
-{
-    if n < 8192 { n } else { 8192 }
-}
-
-// That of slots has ten times 4,096: eight of the largest rings, and more.
-fn cut_slots(n: usize) -> usize
-    ensures { result ≤ 40960 }
-{
-    if n < 40960 { n } else { 40960 }
-}
-
-// What memory must hold after a call: an accepted setting up clears it.
-fn fill_after(number: u32, fill: u32) -> u32 {
-    if number == 0 { 0 } else { fill }
-}
-
-// What became of memory that held one number, and of the table.
-fn verdict_of<'a>(
-    call: Call,
-    e: Given,
-    fill: u32,
-    got: Got,
-    flows: &'a [u64],
-    outstanding: &'a [u64],
-    marked: &'a [u64],
-    sizes: &'a [u32],
-    sent: &'a [u64],
-    evs: &'a [u64],
-) -> Verdict {
-    let number = got.number;
-    let choice = got.choice;
-    let left = fill_after(number, fill);
-    Verdict {
-        number,
-        choice,
-        as_wanted: same::same_state(got.state, calls::wanted(call, e, number))
-            & same::starts(flows, calls::table_after(call, e, fill, number))
-            & same::all(outstanding, marked, sizes, sent, evs, left),
+// The number, and of a refusal whether state and lent memory are as they were.
+impl fmt::Display for Verdict {
+    fn fmt<W: fmt::Write>(&self, f: &mut fmt::Formatter<W>) -> fmt::Result {
+        let number = self.number;
+        match (number, self.as_wanted) {
+            (0, _) => write!(f, "{number}"),
+            (_, true) => write!(f, "{number} same"),
+            (_, false) => write!(f, "{number} CHANGED"),
+        }
     }
 }
 
-fn judged<'a, 'b, 'c, 'd, 'e, 'f>(
-    call: Call,
-    e: Given,
-    fill: u32,
-    flows: &'a mut [u64],
-    outstanding: &'b mut [u64],
-    marked: &'c mut [u64],
-    sizes: &'d mut [u32],
-    sent: &'e mut [u64],
-    evs: &'f mut [u64],
-) -> Verdict {
-    let got = calls::answered(call, e, flows, outstanding, marked, sizes, sent, evs);
-    verdict_of(
-        call,
-        e,
-        fill,
-        got,
-        flows,
-        outstanding,
-        marked,
-        sizes,
-        sent,
-        evs,
-    )
+// So many, of those that there is room for.
+fn cut(n: usize, room: usize) -> usize
+    ensures { result ≤ room }
+{
+    n.min(room)
+}
+
+// Memory, and how much of it is lent.
+#[derive(Clone, Copy)]
+struct Room {
+    flows: [u64; TABLE],
+    outstanding: [u64; WORDS],
+    marked: [u64; WORDS],
+    sizes: [u32; SLOTS],
+    sent: [u64; SLOTS],
+    evs: [u64; WORDS],
+    lent: Lengths,
+}
+
+impl Room {
+    // A table, and memory that holds one number.
+    fn holding(flows: [u64; TABLE], fill: u32, lent: Lengths) -> Room {
+        let wide = fill as u64;
+        Room {
+            flows,
+            outstanding: [wide; WORDS],
+            marked: [wide; WORDS],
+            sizes: [fill; SLOTS],
+            sent: [wide; SLOTS],
+            evs: [wide; WORDS],
+            lent,
+        }
+    }
+
+    fn shown(&self) -> Shown<'_> {
+        let k = self.lent;
+        Shown {
+            flows: &self.flows[..cut(k.flows, TABLE)],
+            outstanding: &self.outstanding[..cut(k.outstanding, WORDS)],
+            marked: &self.marked[..cut(k.marked, WORDS)],
+            sizes: &self.sizes[..cut(k.sizes, SLOTS)],
+            sent: &self.sent[..cut(k.sent, SLOTS)],
+            evs: &self.evs[..cut(k.evs, WORDS)],
+        }
+    }
 }
 
 // The two looks on empty rings of these lengths.
 pub(crate) fn look(e: Given, k: Lengths) -> Looks {
-    let f = cut_table(k.flows);
-    let a = cut(k.outstanding);
-    let b = cut(k.marked);
-    let c = cut_slots(k.sizes);
-    let d = cut_slots(k.sent);
-    let n = cut(k.evs);
-    let flows = make::empty_table(e);
-    let outstanding = [0; 8192];
-    let marked = [0; 8192];
-    let sizes = [0; 40960];
-    let sent = [0; 40960];
-    let evs = [0; 8192];
-    calls::looked(
-        e,
-        &flows[0..f],
-        &outstanding[0..a],
-        &marked[0..b],
-        &sizes[0..c],
-        &sent[0..d],
-        &evs[0..n],
-    )
+    Room::holding(make::empty_table(e), 0, k).shown().looks(e)
 }
 
 // A call on fresh memory of these lengths.
-pub(crate) fn lend(call: Call, given: Given, fill: u32, k: Lengths) -> Verdict {
-    let f = cut_table(k.flows);
-    let a = cut(k.outstanding);
-    let b = cut(k.marked);
-    let c = cut_slots(k.sizes);
-    let d = cut_slots(k.sent);
-    let e = cut(k.evs);
-    let mut flows = calls::table_before(call, given, fill);
-    let mut outstanding = [fill as u64; 8192];
-    let mut marked = [fill as u64; 8192];
-    let mut sizes = [fill; 40960];
-    let mut sent = [fill as u64; 40960];
-    let mut evs = [fill as u64; 8192];
-    judged(
-        call,
-        given,
-        fill,
-        &mut flows[0..f],
-        &mut outstanding[0..a],
-        &mut marked[0..b],
-        &mut sizes[0..c],
-        &mut sent[0..d],
-        &mut evs[0..e],
-    )
+pub(crate) fn lend(call: Call, e: Given, fill: u32, k: Lengths) -> Verdict {
+    let mut room = Room::holding(calls::table_before(call, e, fill), fill, k);
+    let lent = Lent {
+        flows: &mut room.flows[..cut(k.flows, TABLE)],
+        outstanding: &mut room.outstanding[..cut(k.outstanding, WORDS)],
+        marked: &mut room.marked[..cut(k.marked, WORDS)],
+        sizes: &mut room.sizes[..cut(k.sizes, SLOTS)],
+        sent: &mut room.sent[..cut(k.sent, SLOTS)],
+        evs: &mut room.evs[..cut(k.evs, WORDS)],
+    };
+    let got = lent.answer(call, e);
+    Verdict {
+        number: got.number,
+        choice: got.choice,
+        as_wanted: room.shown().is_left(call, e, fill, got),
+    }
 }
