@@ -1,8 +1,9 @@
 // What a word of a case does to its world.
 use crate::fields::narrow;
 use crate::phrase::Phrase;
-use crate::worlds::World;
-use crate::{calls, fields, make, say, slots, words, worlds};
+use crate::words::{Number, Word};
+use crate::worlds::{Call, World};
+use crate::{calls, make, say};
 use std::io;
 
 // The world, the one before its last call or to compare it with, and the time of calls.
@@ -13,118 +14,80 @@ pub struct Bench {
     pub time: u64,
 }
 
-fn at(world: World, time: u64) -> Bench {
-    Bench {
-        before: world,
-        world,
-        time,
-    }
-}
-
-// Where every case begins.
-pub(crate) fn start() -> Bench {
-    at(make::mixed(), make::CLOCK)
-}
-
-fn set_number(b: Bench, p: Phrase) -> Bench {
-    let before = b.before;
-    let n = p.numbers;
-    Bench {
-        before,
-        world: fields::with_number(b.world, p.word, n[0]),
-        time: fields::time_with(b.time, p.word, n[0]),
-    }
-}
-
-fn set_slot(b: Bench, p: Phrase) -> Bench {
-    let before = b.before;
-    let n = p.numbers;
-    Bench {
-        before,
-        world: slots::with_slot(b.world, p.word, n[0], n[1]),
-        time: b.time,
-    }
-}
-
-// Writes whether the world has changed, and turns back.
-fn compare(out: &impl Print, b: Bench) -> io::Result<Bench> {
-    say::comparison(out, b.before, b.world)?;
-    Ok(at(b.before, b.time))
-}
-
-// Writes what a look finds.
-fn look(out: &impl Print, b: Bench, p: Phrase) -> io::Result<Bench> {
-    let n = p.numbers;
-    let status = p.word == words::STATUS_OF;
-    say::look(out, worlds::look(b.world, status, narrow(n[0])))?;
-    Ok(b)
-}
-
-// Writes the flow's record.
-fn record(out: &impl Print, b: Bench) -> io::Result<Bench> {
-    say::record(out, b.world)?;
-    Ok(b)
-}
-
-// Another world, or the same to compare with.
-fn set_world(out: &impl Print, b: Bench, p: Phrase) -> io::Result<Bench> {
-    let n = p.numbers;
-    let word = p.word;
-    match word {
-        words::FULL => Ok(at(make::full(), make::CLOCK)),
-        words::EMPTY => Ok(at(make::empty(narrow(n[0]), narrow(n[1])), make::CLOCK)),
-        words::FLOWN => Ok(at(make::flown(narrow(n[0]), narrow(n[1])), make::CLOCK)),
-        words::PAIR => Ok(at(make::pair(), make::CLOCK)),
-        words::KEEP => Ok(at(b.world, b.time)),
-        _ => compare(out, b),
-    }
-}
-
-fn clock_of(w: World) -> u64 {
-    let state = w.state;
-    state.clock
-}
-
-// The time after a call: setting up starts a clock of its own.
-fn time_after(word: u32, world: World, time: u64) -> u64 {
-    if word == words::SET_UP {
-        return clock_of(world);
-    }
-    time
-}
-
-fn call(b: Bench, p: Phrase) -> Bench {
-    let before = b.world;
-    let numbers = p.numbers;
-    let world = calls::call(before, b.time, p.word, numbers);
-    Bench {
-        before,
-        world,
-        time: time_after(p.word, world, b.time),
-    }
-}
-
-// Writes what a choice answers, so that a case may have several.
-fn choose(out: &impl Print, b: Bench, p: Phrase) -> io::Result<Bench> {
-    let c = call(b, p);
-    say::choice(out, c.before, c.world)?;
-    Ok(c)
-}
-
-pub(crate) fn act(out: &impl Print, b: Bench, p: Phrase) -> io::Result<Bench> {
-    let word = p.word;
-    match word {
-        words::MTU..=words::TIME => Ok(set_number(b, p)),
-        words::STATUS..=words::EV_TIME => Ok(set_slot(b, p)),
-        words::FULL..=words::COMPARE => set_world(out, b, p),
-        words::STATUS_OF..=words::NEXT_MARKED => look(out, b, p),
-        words::RECORD => record(out, b),
-        words::CHOOSE => choose(out, b, p),
-        words::NEW_DATA..=words::SET_UP => Ok(call(b, p)),
-        words::UNKNOWN => {
-            say::text(out, b" unknown")?;
-            Ok(b)
+impl Bench {
+    fn at(world: World, time: u64) -> Bench {
+        Bench {
+            before: world,
+            world,
+            time,
         }
-        _ => Ok(b),
+    }
+
+    // Where every case begins.
+    pub(crate) fn start() -> Bench {
+        Bench::at(make::mixed(), make::CLOCK)
+    }
+
+    // The time of a call is as the word says, and the clock's where the clock is set.
+    fn set_number(&mut self, number: Number, n: u64) {
+        self.world.set_number(number, n);
+        if matches!(number, Number::Time | Number::Clock) {
+            self.time = n;
+        }
+    }
+
+    // Another world, to compare with too.
+    fn set_world(&mut self, world: World) {
+        *self = Bench::at(world, make::CLOCK);
+    }
+
+    // Writes whether the world has changed, and turns back.
+    fn compare(&mut self, out: &impl Print) -> io::Result<()> {
+        say::comparison(out, &self.before, &self.world)?;
+        self.world = self.before;
+        Ok(())
+    }
+
+    fn call(&mut self, call: Call) {
+        self.before = self.world;
+        self.world = self.before.after(self.time, call);
+    }
+
+    // Setting up takes the world's settings, on memory that holds whatever it held, and starts a clock of its own.
+    fn set_up(&mut self) {
+        self.before = self.world;
+        let settings = self.before.state.settings;
+        self.world = make::unset(self.before.table).after(self.time, Call::SetUp(settings));
+        self.time = self.world.state.clock;
+    }
+
+    // Writes what a choice answers, so that a case may have several.
+    fn choose(&mut self, out: &impl Print) -> io::Result<()> {
+        self.call(Call::Choose);
+        say::choice(out, &self.before, &self.world)
+    }
+
+    pub(crate) fn act(&mut self, out: &impl Print, p: Phrase) -> io::Result<()> {
+        let n = p.numbers;
+        match p.word {
+            Word::Number(number) => self.set_number(number, n[0]),
+            Word::Slot(slot) => self.world.set_slot(slot, n[0], n[1]),
+            Word::Full => self.set_world(make::full()),
+            Word::Empty => self.set_world(make::empty(narrow(n[0]), narrow(n[1]))),
+            Word::Flown => self.set_world(make::flown(narrow(n[0]), narrow(n[1]))),
+            Word::Pair => self.set_world(make::pair()),
+            Word::Keep => self.before = self.world,
+            Word::Compare => self.compare(out)?,
+            Word::StatusOf => say::look(out, self.world.status_of(narrow(n[0])))?,
+            Word::NextMarked => say::look(out, self.world.next_marked(narrow(n[0])))?,
+            Word::Record => say::record(out, &self.world)?,
+            Word::Choose => self.choose(out)?,
+            Word::Event(event) => self.call(calls::call_of(event, n)),
+            Word::SetUp => self.set_up(),
+            Word::Unknown => print!(out; " unknown")?,
+            // These only say what is written at the end of the case.
+            Word::Events | Word::Row | Word::Ledger | Word::Nothing => {}
+        }
+        Ok(())
     }
 }

@@ -1,8 +1,8 @@
 // The calls by their words and numbers.
 use crate::fields::narrow;
 use crate::phrase::Numbers;
-use crate::worlds::{Call, World};
-use crate::{make, words, worlds};
+use crate::words::Event;
+use crate::worlds::Call;
 use sender::{Ack, Loss, Nack, Send};
 
 fn a_send(n: Numbers, resend: bool) -> Send {
@@ -57,25 +57,14 @@ fn a_loss(n: Numbers) -> Loss {
     }
 }
 
-fn a_call(word: u32, n: Numbers) -> Call {
-    match word {
-        words::NEW_DATA => Call::NewData(n[0]),
-        words::SEND => Call::Send(a_send(n, false)),
-        words::RESEND => Call::Send(a_send(n, true)),
-        words::ACK => Call::Ack(an_ack(n)),
-        words::NACK => Call::Nack(a_nack(n)),
-        words::LOSS => Call::Loss(a_loss(n)),
-        words::CHOOSE => Call::Choose,
-        _ => Call::Path,
+pub(crate) fn call_of(event: Event, n: Numbers) -> Call {
+    match event {
+        Event::NewData => Call::NewData(n[0]),
+        Event::Send => Call::Send(a_send(n, false)),
+        Event::Resend => Call::Send(a_send(n, true)),
+        Event::Ack => Call::Ack(an_ack(n)),
+        Event::Nack => Call::Nack(a_nack(n)),
+        Event::Loss => Call::Loss(a_loss(n)),
+        Event::Path => Call::Path,
     }
-}
-
-// Setting up takes the world's settings, on memory that holds whatever it held.
-pub(crate) fn call(w: World, time: u64, word: u32, n: Numbers) -> World {
-    if word == words::SET_UP {
-        let state = w.state;
-        let settings = state.settings;
-        return worlds::after(make::unset(w.table), time, Call::SetUp(settings));
-    }
-    worlds::after(w, time, a_call(word, n))
 }

@@ -1,57 +1,49 @@
 // The cases, a line each.
 use crate::bench::Bench;
 use crate::phrase::Phrase;
-use crate::{bench, read, report, say, words};
+use crate::words::Word;
+use crate::{read, report, words};
 use std::io;
 
-// A word is acted on when the next one comes.
-fn act_before(out: &impl Print, b: Bench, p: Phrase, number: bool) -> io::Result<Bench> {
-    if number {
-        return Ok(b);
+// The phrase that goes on after a part of the line: a number joins the word before it, and a word is acted on when the next one comes.
+fn with_part(
+    out: &impl Print,
+    bench: &mut Bench,
+    phrase: Phrase,
+    part: &[u8],
+) -> io::Result<Phrase> {
+    if read::is_number(part) {
+        return Ok(phrase.with_number(read::number(part)));
     }
-    bench::act(out, b, p)
+    bench.act(out, phrase)?;
+    Ok(Phrase::new(words::word_of(part)))
 }
 
-// With the word or the number that stands in a part of the line.
-fn phrase_with(p: Phrase, line: &[u8], from: usize, end: usize, number: bool) -> Phrase {
-    if number {
-        return p.number(line, from, end);
-    }
-    Phrase::new(words::place(line, from, end), true)
-}
-
-fn finish(out: &impl Print, b: Bench, p: Phrase) -> io::Result<()> {
-    let c = bench::act(out, b, p)?;
-    report::write(out, p.word, c.before, c.world, c.time)
-}
-
-// One case: what stands before the parenthesis is its name.
+// One case: what stands before the parenthesis is its name, and no phrase.
 fn case(out: &impl Print, line: &[u8]) -> io::Result<()> {
-    let mut bench = bench::start();
-    let mut phrase = Phrase::new(words::NONE, false);
-    let mut from = 0;
-    while from < line.len() {
-        let end = read::end_of(line, from, true);
-        if phrase.open {
-            let number = read::is_number(read::byte_at(line, from));
-            bench = act_before(out, bench, phrase, number)?;
-            phrase = phrase_with(phrase, line, from, end, number);
+    let mut bench = Bench::start();
+    let mut phrase = None;
+    for piece in line.split_inclusive(|b| read::is_stop(*b)) {
+        let (part, stop) = read::part_of(piece);
+        if let Some(before) = phrase {
+            phrase = Some(with_part(out, &mut bench, before, part)?);
         }
-        phrase = phrase.stop(read::byte_at(line, end));
-        from = end + 1;
+        if stop == b'(' {
+            phrase = Some(Phrase::new(Word::Nothing));
+        }
     }
-    finish(out, bench, phrase)
+    let last = phrase.unwrap_or(Phrase::new(Word::Nothing));
+    bench.act(out, last)?;
+    report::write(out, last.word, &bench)
 }
 
 pub(crate) fn run(out: &impl Print, s: &[u8]) -> io::Result<()> {
-    let mut from = 0;
-    while from < s.len() {
-        let end = read::end_of(s, from, false);
-        say::text(out, &s[from..end])?;
-        say::text(out, b":")?;
-        case(out, &s[from..end])?;
-        say::text(out, b"\n")?;
-        from = end + 1;
+    for piece in s.split_inclusive(|b| *b == b'\n') {
+        let line = piece.strip_suffix(b"\n").unwrap_or(piece);
+        out.write_all(line)?;
+        print!(out; ":")?;
+        case(out, line)?;
+        println!(out; "")?;
     }
     Ok(())
 }

@@ -13,7 +13,6 @@ mod phrase;
 mod read;
 mod report;
 mod ring;
-mod same;
 mod say;
 mod slots;
 mod words;

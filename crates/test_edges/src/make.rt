@@ -1,6 +1,6 @@
 // Worlds to start from, each built by hand and not by calls.
+use crate::worlds;
 use crate::worlds::World;
-use crate::{flows, slots, worlds};
 use context::Controller;
 use context::choice::Choice;
 use ledger::{Flow, Totals};
@@ -119,41 +119,24 @@ fn fresh_state(settings: Settings) -> Controller {
     quiet(settings, 0, 0, sender::IDLE)
 }
 
-// Zeros in every slot that is lent, and no other.
-fn cleared(w: World) -> World {
-    let end = worlds::slot_count(w.table, w.wide);
-    let mut v = w;
-    for slot in 0..576 {
-        if slot < end {
-            v = slots::zero(v, slot);
-        }
-    }
-    v
-}
-
-// Every flow that is lent from the same PSN on, and no other.
-fn numbered(w: World, psn: u32) -> World {
-    let end = worlds::count(w.table);
-    let f = Flow {
-        low: psn,
-        next: psn,
-        held: 0,
-        backlog: 0,
-    };
-    let mut v = w;
-    for k in 0..9 {
-        if k < end {
-            v = flows::put(flows::at(v, k as u64), f);
-        }
-    }
-    v
-}
-
-// What an accepted setting up must leave.
+// What an accepted setting up must leave: zeros in every slot that is lent, every flow that is lent from the first PSN on, and no other.
 pub(crate) fn fresh(settings: Settings, table: usize) -> World {
     let mut w = lend(fresh_state(settings), OLD, table, true);
     w.evs = [0; 256];
-    numbered(cleared(w), settings.first_psn)
+    for slot in 0..w.slot_count() {
+        w.clear(slot);
+    }
+    let flow = Flow {
+        low: settings.first_psn,
+        next: settings.first_psn,
+        held: 0,
+        backlog: 0,
+    };
+    for k in 0..w.flow_count().min(worlds::FLOWS_MOST) {
+        w.flow = k as u64;
+        w.set_flow(flow);
+    }
+    w
 }
 
 // No state, which a refused setting up answers too, and lent memory that holds whatever it held.
@@ -170,7 +153,9 @@ pub(crate) fn empty(low: u32, next: u32) -> World {
         backlog: 8192,
     };
     let state = quiet(settings(), flow.backlog, CLOCK, sender::READY);
-    flows::put(lend(state, 0, flow_table::FLOW_WORDS, false), flow)
+    let mut w = lend(state, 0, flow_table::FLOW_WORDS, false);
+    w.set_flow(flow);
+    w
 }
 
 // Low 5, next 10: 5 flying, 6 marked, 7 done, 8 and 9 flying. Every event has one that is accepted here.
@@ -202,35 +187,32 @@ pub(crate) fn pair() -> World {
         held: 3,
         backlog: 1000,
     };
-    let mut w = flows::at(flows::put(flows::at(mixed(), 1), flow), 0);
+    let mut w = mixed();
+    w.flow = 1;
+    w.set_flow(flow);
+    w.flow = 0;
     w.table = 2 * flow_table::FLOW_WORDS;
     w.state.totals.flying = 5;
     w.state.totals.marked = 2;
     w.state.totals.marked_bytes = 350;
     w.state.totals.backlog = 9192;
-    w = slots::flying(w, 84, 100, 940);
-    w = slots::flying(w, 85, 150 + RESEND, 950);
-    w = slots::flying(w, 86, 250, 960);
+    w.set_flying(84, 100, 940);
+    w.set_flying(85, 150 + RESEND, 950);
+    w.set_flying(86, 250, 960);
     w.marked[1] = 1 << 21;
     w
 }
 
-// Whether a slot is one of low..next-1.
-fn is_between(slot: usize, low: u32, next: u32, wide: bool) -> bool {
-    let cap = worlds::capacity(flow_table::FLOW_WORDS, wide);
-    let age = std::num::wrapping_sub_usize(slot, low as usize) % cap;
-    (slot < cap) & (age < std::num::wrapping_sub_u32(next, low) as usize)
-}
-
 // Low..next-1 fly, of 41 bytes each, sent at one time.
 fn flying(low: u32, next: u32, sent: u64, wide: bool) -> World {
-    let count = std::num::wrapping_sub_u32(next, low);
+    let count = next.wrapping_sub(low);
     let mut w = empty(low, next);
     w.wide = wide;
     w.state.totals.flying = count;
-    for slot in 0..128 {
-        if is_between(slot, low, next, wide) {
-            w = slots::flying(w, slot, 41, sent);
+    for slot in 0..w.capacity() {
+        let age = slot.wrapping_sub(low as usize) % w.capacity();
+        if age < count as usize {
+            w.set_flying(slot, 41, sent);
         }
     }
     w

@@ -1,55 +1,37 @@
 // A word of a case with the numbers that follow it.
-use crate::{read, words};
+use crate::words::Word;
 
 // The most numbers that a word takes.
 const MOST: usize = 8;
 
 pub type Numbers = [u64; 8];
 
-// `open` is whether the parenthesis of the case was read.
+// A number that is left out is 0. The count stands beside the room since memory is fixed here: a Vec would take the heap.
 #[derive(Clone, Copy)]
 pub struct Phrase {
-    pub word: u32,
+    pub word: Word,
     pub numbers: Numbers,
-    pub count: usize,
-    pub open: bool,
+    count: usize,
 }
 
 impl Phrase {
-    pub(crate) fn new(word: u32, open: bool) -> Phrase {
+    pub(crate) fn new(word: Word) -> Phrase {
         Phrase {
             word,
             numbers: [0; 8],
             count: 0,
-            open,
         }
     }
 
-    fn with_number(self, n: u64) -> Phrase {
-        let k = self.count;
-        if k < MOST {
-            let mut phrase = self;
-            phrase.numbers[k] = n;
-            phrase.count = k + 1;
-            return phrase;
+    // With a number more; one that can't be read, or is too many, leaves no word.
+    pub(crate) fn with_number(mut self, number: Option<u64>) -> Phrase {
+        match number {
+            Some(n) if self.count < MOST => {
+                self.numbers[self.count] = n;
+                self.count += 1;
+                self
+            }
+            _ => Phrase::new(Word::Unknown),
         }
-        Phrase::new(words::UNKNOWN, true)
-    }
-
-    // With the number that stands in a part of the line.
-    pub(crate) fn number(self, line: &[u8], from: usize, end: usize) -> Phrase {
-        let n = read::number(line, from, end);
-        if n.good {
-            return self.with_number(n.value());
-        }
-        Phrase::new(words::UNKNOWN, true)
-    }
-
-    // What is read next after a part of the line: a parenthesis opens the case.
-    pub(crate) fn stop(self, b: u8) -> Phrase {
-        if b == b'(' {
-            return Phrase::new(words::NONE, true);
-        }
-        self
     }
 }

@@ -4,7 +4,8 @@ ghost use Rattle.std.specs.Prelude.{◌≤◌, length, IfOk};
 use std::io;
 use std::io::Read;
 
-// Reads until buf is full or the input ends, and answers how many bytes it put at buf's front.
+// Reads until buf is full or the input ends, and answers how many bytes it put at buf's front. The loop stands written out since std fills a
+// buffer whole or not at all (`read_exact`), or one on the heap, and memory is fixed here.
 pub(crate) fn full<R: Read>(input: &mut R, buf: &mut [u8]) -> io::Result<usize>
     ensures { IfOk result (λ n. n ≤ length buf.new) }
 {
@@ -19,141 +20,109 @@ pub(crate) fn full<R: Read>(input: &mut R, buf: &mut [u8]) -> io::Result<usize>
     Ok(done)
 }
 
-// What stands at a place; past the end, the end of a line.
-pub(crate) fn byte_at(s: &[u8], at: usize) -> u8 {
-    if at < s.len() {
-        return s[at];
+// A byte that ends a word or a number.
+pub(crate) fn is_stop(b: u8) -> bool {
+    matches!(b, b' ' | b'(' | b')')
+}
+
+// A piece of a line without the byte that ends it, and that byte; where the line ends, the end of a line.
+pub(crate) fn part_of(piece: &[u8]) -> (&[u8], u8) {
+    match piece.split_last() {
+        Some((last, part)) if is_stop(*last) => (part, *last),
+        _ => (piece, b'\n'),
     }
-    b'\n'
-}
-
-fn is_end(b: u8, word: bool) -> bool {
-    (b == b'\n') | (word & ((b == b' ') | (b == b'(') | (b == b')')))
-}
-
-// Where the line that goes on at a place ends, or the word or number that starts there.
-pub(crate) fn end_of(s: &[u8], from: usize, word: bool) -> usize
-    requires { from ≤ length s.now }
-    ensures { (from ≤ result) × (result ≤ length s.now) }
-{
-    let mut at = from;
-    while at < s.len() {
-        if is_end(s[at], word) {
-            return at;
-        }
-        at += 1;
-    }
-    at
-}
-
-// A number as far as it is read: what stands before the last sign, that sign, and what follows it, alone or as a power of two; and whether
-// it is written as the cases write numbers.
-#[derive(Clone, Copy)]
-pub struct Sum {
-    pub total: u64,
-    pub minus: bool,
-    pub power: bool,
-    pub term: u64,
-    pub good: bool,
-}
-
-fn is_digit(b: u8) -> bool {
-    (b'0' <= b) & (b <= b'9')
 }
 
 // A number begins with a digit or with a minus.
-pub(crate) fn is_number(b: u8) -> bool {
-    is_digit(b) | (b == b'-')
+pub(crate) fn is_number(part: &[u8]) -> bool {
+    matches!(part, [b'0'..=b'9' | b'-', ..])
 }
 
-fn wide(b: u8) -> u64 {
-    b as u64
+// A number without its sign.
+#[derive(Clone, Copy)]
+enum Term {
+    Number(u64),
+    // Two to the power of a number.
+    Power(u64),
 }
 
-// A number with a digit more.
-fn append(n: u64, digit: u8) -> u64 {
-    let two = std::num::wrapping_add_u64(n, n);
-    let four = std::num::wrapping_add_u64(two, two);
-    let five = std::num::wrapping_add_u64(four, n);
-    let ten = std::num::wrapping_add_u64(five, five);
-    std::num::wrapping_add_u64(ten, std::num::wrapping_sub_u64(wide(digit), wide(b'0')))
-}
-
-// 2^n; 2^64 wraps to 0.
-fn power_of_two(n: u64) -> u64 {
-    if n < 64 {
-        return 1 << n;
+impl Term {
+    // 2^64 wraps to 0.
+    fn value(self) -> u64 {
+        match self {
+            Term::Number(n) => n,
+            Term::Power(n) if n < 64 => 1 << n,
+            Term::Power(_) => 0,
+        }
     }
-    0
+
+    fn with_digit(self, digit: u8) -> Term {
+        let append = |n: u64| n.wrapping_mul(10).wrapping_add(u64::from(digit));
+        match self {
+            Term::Number(n) => Term::Number(append(n)),
+            Term::Power(n) => Term::Power(append(n)),
+        }
+    }
+
+    // Only of 2 powers are written.
+    fn raised(self) -> Option<Term> {
+        match self {
+            Term::Number(2) | Term::Power(2) => Some(Term::Power(0)),
+            _ => None,
+        }
+    }
+}
+
+// A number as far as it is read: what stands before the last sign, that sign, and what follows it.
+#[derive(Clone, Copy)]
+struct Sum {
+    total: u64,
+    minus: bool,
+    term: Term,
 }
 
 impl Sum {
-    pub(crate) fn value(self) -> u64 {
-        let term = if self.power {
-            power_of_two(self.term)
-        } else {
-            self.term
-        };
+    fn value(self) -> u64 {
+        let term = self.term.value();
         if self.minus {
-            return std::num::wrapping_sub_u64(self.total, term);
+            return self.total.wrapping_sub(term);
         }
-        std::num::wrapping_add_u64(self.total, term)
+        self.total.wrapping_add(term)
     }
 
-    fn with_digit(self, b: u8) -> Sum {
-        Sum {
-            total: self.total,
-            minus: self.minus,
-            power: self.power,
-            term: append(self.term, b),
-            good: self.good,
-        }
+    fn with_term(self, term: Term) -> Sum {
+        Sum { term, ..self }
     }
 
-    fn with_power(self) -> Sum {
-        Sum {
-            total: self.total,
-            minus: self.minus,
-            power: true,
-            term: 0,
-            good: self.good & (self.term == 2),
-        }
-    }
-
-    fn with_sign(self, b: u8) -> Sum {
+    fn with_sign(self, minus: bool) -> Sum {
         Sum {
             total: self.value(),
-            minus: b == b'-',
-            power: false,
-            term: 0,
-            good: self.good & ((b == b'-') | (b == b'+')),
+            minus,
+            term: Term::Number(0),
         }
     }
 
-    fn next(self, b: u8) -> Sum {
-        if is_digit(b) {
-            return self.with_digit(b);
+    // With a byte more, where cases write numbers so.
+    fn next(self, b: u8) -> Option<Sum> {
+        match b {
+            b'0'..=b'9' => Some(self.with_term(self.term.with_digit(b - b'0'))),
+            b'^' => Some(self.with_term(self.term.raised()?)),
+            b'-' | b'+' => Some(self.with_sign(b == b'-')),
+            _ => None,
         }
-        if b == b'^' {
-            return self.with_power();
-        }
-        self.with_sign(b)
     }
 }
 
-// A number as the cases write it: decimals and powers of two with signs between, as `2^48-1` and `-2^24`. It wraps at 64 bits.
-pub(crate) fn number(s: &[u8], from: usize, end: usize) -> Sum {
-    let mut n = Sum {
+// A number as the cases write it: decimals and powers of two with signs between, as `2^48-1` and `-2^24`. It wraps at 64 bits. None where
+// it is written otherwise.
+pub(crate) fn number(part: &[u8]) -> Option<u64> {
+    let mut sum = Sum {
         total: 0,
         minus: false,
-        power: false,
-        term: 0,
-        good: true,
+        term: Term::Number(0),
     };
-    let mut at = from;
-    while at < end {
-        n = n.next(byte_at(s, at));
-        at += 1;
+    for b in part {
+        sum = sum.next(*b)?;
     }
-    n
+    Some(sum.value())
 }

@@ -3,18 +3,35 @@
 ghost use Rattle.std.specs.Prelude.{◌<◌, ◌≤◌};
 
 use context::choice::{Choice, Chosen};
-use context::{Answer, Controller, Heard, Routed, choice, entry};
+use context::{Answer, Controller, Heard, Routed, choice, entry, look};
 use rules::verdict::number_of;
 use sender::look::Look;
 use sender::{Ack, Loss, Nack, Send};
 use window::Settings;
 
 // The memory has room for nine flows, one more than a context may have, and for a ring of 64 slots for each.
+pub const FLOWS_MOST: usize = 9;
+
 pub const TABLE_MOST: usize = 36;
 
 pub const WORDS_MOST: usize = 9;
 
 pub const SLOTS_MOST: usize = 576;
+
+// The slots of a ring that is not wide.
+pub const RING: usize = 64;
+
+// An element of the memory; 0 past its end.
+pub(crate) fn at<T: Copy + Default>(xs: &[T], k: usize) -> T {
+    xs.get(k).copied().unwrap_or_default()
+}
+
+// Writes one; past the end there is none.
+pub(crate) fn put<T: Copy>(xs: &mut [T], k: usize, x: T) {
+    if k < xs.len() {
+        xs[k] = x;
+    }
+}
 
 // The first `table` words of `flows` are lent, and so much of the other memory as these flows have rings: of 64 slots, or one of 128
 // where it is wide. `flow` is the one that the case is at, `number` what the last call answered, `choice` whom it named.
@@ -96,247 +113,217 @@ fn of_chosen(chosen: Chosen) -> Got {
     }
 }
 
-// How many flows are lent.
-pub(crate) fn count(table: usize) -> usize {
-    table / flow_table::FLOW_WORDS
-}
-
-// The capacity of each ring.
-pub(crate) fn capacity(table: usize, wide: bool) -> usize
-    ensures { (0 < result) × (result ≤ 128) }
-{
-    if wide & (count(table) < 2) { 128 } else { 64 }
-}
-
-// The words of each kind of bits that are lent: one for each flow, and with no flow still one ring.
-fn word_count(table: usize, wide: bool) -> usize
-    ensures { result ≤ 9 }
-{
-    let least = if wide { 2 } else { 1 };
-    cut(most(count(table), least), WORDS_MOST)
-}
-
-// The slots that are lent.
-pub(crate) fn slot_count(table: usize, wide: bool) -> usize
-    ensures { result ≤ 576 }
-{
-    64 * word_count(table, wide)
-}
-
-fn most(a: usize, b: usize) -> usize {
-    if a < b { b } else { a }
-}
-
-// So much of what is there.
-fn cut(n: usize, len: usize) -> usize
-    ensures { result ≤ len }
-{
-    if n < len { n } else { len }
-}
-
-// The calls that only read the rings and the EV times.
-fn reading<'a, 'b>(
-    call: Call,
-    c: Controller,
-    time: u64,
-    flow: usize,
+// What is lent to a call.
+#[derive(Drop)]
+struct Lent<'a> {
     flows: &'a mut [u64],
-    out: &'b [u64],
-    marked: &'b [u64],
-    sizes: &'b [u32],
-    sent: &'b [u64],
-    evs: &'b [u64],
-) -> Got {
-    match call {
-        Call::NewData(n) => {
-            let answer = entry::new_data(c, flows, out, marked, sizes, sent, evs, time, flow, n);
-            of_answer(answer)
+    outstanding: &'a mut [u64],
+    marked: &'a mut [u64],
+    sizes: &'a mut [u32],
+    sent: &'a mut [u64],
+    evs: &'a mut [u64],
+}
+
+impl Lent<'_> {
+    // What a call answers, of a flow and at a time where it is an event.
+    fn answer(self, call: Call, c: Controller, at: u64, k: usize) -> Got {
+        let Lent {
+            flows,
+            outstanding,
+            marked,
+            sizes,
+            sent,
+            evs,
+        } = self;
+        match call {
+            Call::SetUp(s) => {
+                of_answer(context::start::set_up(s, flows, outstanding, marked, sizes, sent, evs))
+            }
+            Call::NewData(n) => {
+                of_answer(entry::new_data(
+                    c,
+                    flows,
+                    outstanding,
+                    marked,
+                    sizes,
+                    sent,
+                    evs,
+                    at,
+                    k,
+                    n,
+                ))
+            }
+            Call::Send(a) => {
+                of_answer(entry::send(c, flows, outstanding, marked, sizes, sent, evs, at, k, a))
+            }
+            Call::Ack(a) => {
+                of_heard(entry::ack(c, flows, outstanding, marked, sizes, sent, evs, at, k, a))
+            }
+            Call::Nack(a) => {
+                of_heard(entry::nack(c, flows, outstanding, marked, sizes, sent, evs, at, k, a))
+            }
+            Call::Loss(a) => {
+                of_answer(entry::loss(c, flows, outstanding, marked, sizes, sent, evs, at, k, a))
+            }
+            Call::Path => of_routed(entry::path(
+                c,
+                flows,
+                outstanding,
+                marked,
+                sizes,
+                sent,
+                evs,
+                at,
+                k,
+            )),
+            Call::Choose => of_chosen(choice::choose(
+                c,
+                flows,
+                outstanding,
+                marked,
+                sizes,
+                sent,
+                evs,
+            )),
         }
-        Call::Choose => of_chosen(choice::choose(c, flows, out, marked, sizes, sent, evs)),
-        _ => of_routed(entry::path(c, flows, out, marked, sizes, sent, evs, time, flow)),
     }
 }
 
-// Those that change marks and EV times, and those that only read.
-fn marking<'a, 'b, 'c, 'd>(
-    call: Call,
-    c: Controller,
-    time: u64,
-    flow: usize,
-    flows: &'a mut [u64],
-    out: &'d [u64],
-    marked: &'b mut [u64],
-    sizes: &'d [u32],
-    sent: &'d [u64],
-    evs: &'c mut [u64],
-) -> Got {
-    match call {
-        Call::Nack(a) => {
-            let heard = entry::nack(c, flows, out, marked, sizes, sent, evs, time, flow, a);
-            of_heard(heard)
-        }
-        Call::Loss(a) => {
-            let answer = entry::loss(c, flows, out, marked, sizes, sent, evs, time, flow, a);
-            of_answer(answer)
-        }
-        _ => reading(call, c, time, flow, flows, out, marked, sizes, sent, evs),
-    }
-}
-
-// All of them.
-fn answered<'a, 'b, 'c, 'd, 'e, 'f>(
-    call: Call,
-    c: Controller,
-    time: u64,
-    flow: usize,
-    flows: &'a mut [u64],
-    out: &'b mut [u64],
-    marked: &'c mut [u64],
-    sizes: &'d mut [u32],
-    sent: &'e mut [u64],
-    evs: &'f mut [u64],
-) -> Got {
-    match call {
-        Call::SetUp(s) => {
-            let answer = context::start::set_up(s, flows, out, marked, sizes, sent, evs);
-            of_answer(answer)
-        }
-        Call::Send(a) => {
-            let answer = entry::send(c, flows, out, marked, sizes, sent, evs, time, flow, a);
-            of_answer(answer)
-        }
-        Call::Ack(a) => {
-            let heard = entry::ack(c, flows, out, marked, sizes, sent, evs, time, flow, a);
-            of_heard(heard)
-        }
-        _ => marking(call, c, time, flow, flows, out, marked, sizes, sent, evs),
-    }
-}
-
-// A call on the part of the memory that is lent.
-fn lent<'a, 'b, 'c, 'd, 'e, 'f>(
-    call: Call,
-    before: Controller,
-    table: usize,
-    wide: bool,
-    time: u64,
-    flow: usize,
-    flows: &'a mut [u64],
-    outstanding: &'b mut [u64],
-    marked: &'c mut [u64],
-    sizes: &'d mut [u32],
-    sent: &'e mut [u64],
-    evs: &'f mut [u64],
-) -> Got {
-    let t = cut(table, flows.len());
-    let a = cut(word_count(table, wide), outstanding.len());
-    let b = cut(word_count(table, wide), marked.len());
-    let c = cut(slot_count(table, wide), sizes.len());
-    let d = cut(slot_count(table, wide), sent.len());
-    answered(
-        call,
-        before,
-        time,
-        flow,
-        &mut flows[0..t],
-        &mut outstanding[0..a],
-        &mut marked[0..b],
-        &mut sizes[0..c],
-        &mut sent[0..d],
-        evs,
-    )
-}
-
-// The world after a call.
-pub(crate) fn after(w: World, time: u64, call: Call) -> World {
-    let mut flows = w.flows;
-    let mut outstanding = w.outstanding;
-    let mut marked = w.marked;
-    let mut sizes = w.sizes;
-    let mut sent = w.sent;
-    let mut evs = w.evs;
-    let got = lent(
-        call,
-        w.state,
-        w.table,
-        w.wide,
-        time,
-        w.flow as usize,
-        &mut flows,
-        &mut outstanding,
-        &mut marked,
-        &mut sizes,
-        &mut sent,
-        &mut evs,
-    );
-    let state = got.state;
-    let choice = got.choice;
-    World {
-        state,
-        choice,
-        flows,
-        outstanding,
-        marked,
-        sizes,
-        sent,
-        evs,
-        table: w.table,
-        wide: w.wide,
-        flow: w.flow,
-        number: got.number,
-    }
-}
-
-// A look at the part of the memory that is lent: the status of a PSN, or the first marked one from it on.
-fn seen<'a>(
-    status: bool,
-    state: Controller,
-    table: usize,
-    wide: bool,
-    flow: usize,
-    psn: u32,
+// The same, only looked at.
+#[derive(Clone, Copy)]
+struct Shown<'a> {
     flows: &'a [u64],
     outstanding: &'a [u64],
     marked: &'a [u64],
     sizes: &'a [u32],
     sent: &'a [u64],
     evs: &'a [u64],
-) -> Look {
-    let t = cut(table, flows.len());
-    let a = cut(word_count(table, wide), outstanding.len());
-    let b = cut(word_count(table, wide), marked.len());
-    let c = cut(slot_count(table, wide), sizes.len());
-    let d = cut(slot_count(table, wide), sent.len());
-    let records = &flows[0..t];
-    let out = &outstanding[0..a];
-    let mark = &marked[0..b];
-    let size = &sizes[0..c];
-    let time = &sent[0..d];
-    if status {
-        return context::look::status(state, records, out, mark, size, time, evs, flow, psn);
-    }
-    context::look::next_marked(state, records, out, mark, size, time, evs, flow, psn)
 }
 
-pub(crate) fn look(w: World, status: bool, psn: u32) -> Look {
-    let flows = w.flows;
-    let outstanding = w.outstanding;
-    let marked = w.marked;
-    let sizes = w.sizes;
-    let sent = w.sent;
-    let evs = w.evs;
-    seen(
-        status,
-        w.state,
-        w.table,
-        w.wide,
-        w.flow as usize,
-        psn,
-        &flows,
-        &outstanding,
-        &marked,
-        &sizes,
-        &sent,
-        &evs,
-    )
+impl World {
+    // How many flows are lent.
+    pub(crate) fn flow_count(&self) -> usize {
+        self.table / flow_table::FLOW_WORDS
+    }
+
+    // The capacity of each ring.
+    pub(crate) fn capacity(&self) -> usize
+        ensures { (0 < result) × (result ≤ 128) }
+    {
+        if self.wide & (self.flow_count() < 2) {
+            2 * RING
+        } else {
+            RING
+        }
+    }
+
+    // The words of each kind of bits that are lent: one for each flow, and with no flow still one ring.
+    fn word_count(&self) -> usize
+        ensures { result ≤ 9 }
+    {
+        let least = if self.wide { 2 } else { 1 };
+        self.flow_count().max(least).min(WORDS_MOST)
+    }
+
+    // The slots that are lent.
+    pub(crate) fn slot_count(&self) -> usize
+        ensures { result ≤ 576 }
+    {
+        RING * self.word_count()
+    }
+
+    // The world after a call on the part of the memory that is lent.
+    pub(crate) fn after(mut self, time: u64, call: Call) -> World {
+        let table = self.table.min(TABLE_MOST);
+        let words = self.word_count();
+        let slots = self.slot_count();
+        let lent = Lent {
+            flows: &mut self.flows[..table],
+            outstanding: &mut self.outstanding[..words],
+            marked: &mut self.marked[..words],
+            sizes: &mut self.sizes[..slots],
+            sent: &mut self.sent[..slots],
+            evs: &mut self.evs,
+        };
+        let got = lent.answer(call, self.state, time, self.flow as usize);
+        self.state = got.state;
+        self.choice = got.choice;
+        self.number = got.number;
+        self
+    }
+
+    // The part of the memory that is lent.
+    fn shown(&self) -> Shown<'_> {
+        let words = self.word_count();
+        let slots = self.slot_count();
+        Shown {
+            flows: &self.flows[..self.table.min(TABLE_MOST)],
+            outstanding: &self.outstanding[..words],
+            marked: &self.marked[..words],
+            sizes: &self.sizes[..slots],
+            sent: &self.sent[..slots],
+            evs: &self.evs,
+        }
+    }
+
+    // The status of a PSN.
+    pub(crate) fn status_of(&self, psn: u32) -> Look {
+        let Shown {
+            flows,
+            outstanding,
+            marked,
+            sizes,
+            sent,
+            evs,
+        } = self.shown();
+        let k = self.flow as usize;
+        look::status(
+            self.state,
+            flows,
+            outstanding,
+            marked,
+            sizes,
+            sent,
+            evs,
+            k,
+            psn,
+        )
+    }
+
+    // The first marked PSN from one on.
+    pub(crate) fn next_marked(&self, psn: u32) -> Look {
+        let Shown {
+            flows,
+            outstanding,
+            marked,
+            sizes,
+            sent,
+            evs,
+        } = self.shown();
+        let k = self.flow as usize;
+        look::next_marked(
+            self.state,
+            flows,
+            outstanding,
+            marked,
+            sizes,
+            sent,
+            evs,
+            k,
+            psn,
+        )
+    }
+
+    // Whether state, table, rings and EV times are those of another; what the last call answered is no part of it. Two states are the same
+    // where their words are: that words hold every field is proved in crates/c_state, but in-flight is cut to its range there.
+    pub(crate) fn is_as(&self, other: &World) -> bool {
+        (c_state::pack(self.state) == c_state::pack(other.state))
+            & (self.state.totals.in_flight == other.state.totals.in_flight)
+            & (self.flows == other.flows)
+            & (self.outstanding == other.outstanding)
+            & (self.marked == other.marked)
+            & (self.sizes == other.sizes)
+            & (self.sent == other.sent)
+            & (self.evs == other.evs)
+    }
 }

@@ -1,9 +1,0 @@
--- Each turn of `numbered` passes one of nine flows.
-use Rattle.std.proofs.Common.{◌-◌, ◌≤◌}
-use Rattle.test_edges.proofs.make.numbered.Given as goal
-
-abbrev pub invariant-loop-k : goal.invariant-loop-k
-invariant-loop-k l = l.k ≤ 9
-
-abbrev pub decreases-loop-k : goal.decreases-loop-k
-decreases-loop-k l = 9 - l.k
