@@ -48,7 +48,8 @@ const REASON_MOST: usize = 320;
 // The system's number of a name that is too long.
 const NAME_TOO_LONG: i32 = 36;
 
-// Writes to standard error, whose own failures nobody could be told.
+// Writes to standard error, whose own failures nobody could be told. A message is written in pieces of bytes, with no format: a log's name
+// need not be text.
 fn say(messages: &impl Print, text: &[u8]) {
     let _ = messages.write_all(text);
 }

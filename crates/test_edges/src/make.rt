@@ -104,7 +104,7 @@ fn lend(state: Controller, fill: u32, table: usize, wide: bool) -> World {
         marked: [fill as u64; worlds::WORDS_MOST],
         sizes: [fill; worlds::SLOTS_MOST],
         sent: [fill as u64; worlds::SLOTS_MOST],
-        evs: [fill as u64; 256],
+        evs: [fill as u64; worlds::EVS],
         table,
         wide,
         flow: 0,
@@ -122,7 +122,7 @@ fn fresh_state(settings: Settings) -> Controller {
 // What an accepted setting up must leave: zeros in every slot that is lent, every flow that is lent from the first PSN on, and no other.
 pub(crate) fn fresh(settings: Settings, table: usize) -> World {
     let mut w = lend(fresh_state(settings), OLD, table, true);
-    w.evs = [0; 256];
+    w.evs = [0; worlds::EVS];
     for slot in 0..w.slot_count() {
         w.clear(slot);
     }

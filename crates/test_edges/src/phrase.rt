@@ -4,7 +4,7 @@ use crate::words::Word;
 // The most numbers that a word takes.
 const MOST: usize = 8;
 
-pub type Numbers = [u64; 8];
+pub type Numbers = [u64; MOST];
 
 // A number that is left out is 0. The count stands beside the room since memory is fixed here: a Vec would take the heap.
 #[derive(Clone, Copy)]
@@ -18,7 +18,7 @@ impl Phrase {
     pub(crate) fn new(word: Word) -> Phrase {
         Phrase {
             word,
-            numbers: [0; 8],
+            numbers: [0; MOST],
             count: 0,
         }
     }

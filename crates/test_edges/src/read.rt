@@ -4,8 +4,8 @@ ghost use Rattle.std.specs.Prelude.{◌≤◌, length, IfOk};
 use std::io;
 use std::io::Read;
 
-// Reads until buf is full or the input ends, and answers how many bytes it put at buf's front. The loop stands written out since std fills a
-// buffer whole or not at all (`read_exact`), or one on the heap, and memory is fixed here.
+// Reads until buf is full or the input ends, and answers how many bytes it put at buf's front. The loop stands written out since
+// std fills a buffer whole or not at all (`read_exact`), or one on the heap, and memory is fixed here.
 pub(crate) fn full<R: Read>(input: &mut R, buf: &mut [u8]) -> io::Result<usize>
     ensures { IfOk result (λ n. n ≤ length buf.new) }
 {

@@ -3,20 +3,24 @@ use crate::bench::Bench;
 use crate::words::Word;
 use crate::worlds::World;
 use crate::{events, make, ring, say};
+use ledger::Totals;
 use std::io;
 use window::Settings;
 
 // A line of document 01's worked example: none of its records leaves in-flight below zero.
 fn row(out: &impl Print, w: &World) -> io::Result<()> {
-    let totals = w.state.totals;
-    say::also(out, w.number as u64)?;
-    say::also(out, u64::try_from(totals.in_flight).unwrap_or(u64::MAX))?;
-    say::also(out, w.state.window.cwnd)?;
-    say::also(out, totals.flying as u64)?;
-    say::also(out, totals.marked as u64)?;
-    say::also(out, totals.backlog)?;
+    let Totals {
+        flying,
+        marked,
+        backlog,
+        in_flight,
+        ..
+    } = w.state.totals;
+    let bytes = u64::try_from(in_flight).unwrap_or(u64::MAX);
+    let number = w.number;
+    let cwnd = w.state.window.cwnd;
     let name = say::name_of(w.state.phase);
-    print!(out; " {name}")
+    print!(out; " {number} {bytes} {cwnd} {flying} {marked} {backlog} {name}")
 }
 
 // What setting up must leave, by the number that it answered.

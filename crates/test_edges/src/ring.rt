@@ -1,8 +1,8 @@
 // A flow's ledger as it is written: what a call answered, low, next, the totals of flying packets, marked packets and marked bytes; then
 // its ring from low on, slot by slot, equal ones together with their number: f flying, m marked, d done, e empty, x what no slot may be.
 use crate::slots::is_set;
-use crate::worlds::World;
-use crate::{say, worlds};
+use crate::worlds::{RING, World, at};
+use ledger::{Flow, Totals};
 use std::{fmt, io};
 
 // What a slot holds.
@@ -34,7 +34,7 @@ fn kind_of(w: &World, slot: usize) -> Kind {
         (true, true) => Kind::Marked,
         (true, false) => Kind::Flying,
         (false, true) => Kind::Neither,
-        (false, false) if (w.number_at(slot) == 0) & (w.sent_at(slot) == 0) => Kind::Empty,
+        (false, false) if (at(&w.sizes, slot) == 0) & (at(&w.sent, slot) == 0) => Kind::Empty,
         (false, false) => Kind::Done,
     }
 }
@@ -42,7 +42,7 @@ fn kind_of(w: &World, slot: usize) -> Kind {
 // The slot k after low: of several flows each has 64 slots, and one that the memory has not has none.
 fn slot_after(w: &World, k: usize) -> usize {
     let low = w.record().low as usize;
-    let start = (w.flow as usize).saturating_mul(worlds::RING);
+    let start = (w.flow as usize).saturating_mul(RING);
     start.saturating_add(low.wrapping_add(k) % w.capacity())
 }
 
@@ -82,13 +82,14 @@ fn slots(out: &impl Print, w: &World) -> io::Result<()> {
 }
 
 pub(crate) fn write(out: &impl Print, w: &World) -> io::Result<()> {
-    let totals = w.state.totals;
-    let flow = w.record();
-    say::also(out, w.number as u64)?;
-    say::also(out, flow.low as u64)?;
-    say::also(out, flow.next as u64)?;
-    say::also(out, totals.flying as u64)?;
-    say::also(out, totals.marked as u64)?;
-    say::also(out, totals.marked_bytes)?;
+    let Totals {
+        flying,
+        marked,
+        marked_bytes,
+        ..
+    } = w.state.totals;
+    let Flow { low, next, .. } = w.record();
+    let number = w.number;
+    print!(out; " {number} {low} {next} {flying} {marked} {marked_bytes}")?;
     slots(out, w)
 }

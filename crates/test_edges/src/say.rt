@@ -5,8 +5,16 @@ use rules::verdict::number_of;
 use sender::look::Look;
 use std::io;
 
+// The words of a record, as they are written.
+const RECORD: [usize; 4] = [
+    flow_table::LOW,
+    flow_table::NEXT,
+    flow_table::HELD,
+    flow_table::BACKLOG,
+];
+
 // A space and a number.
-pub(crate) fn also(out: &impl Print, n: u64) -> io::Result<()> {
+fn also(out: &impl Print, n: u64) -> io::Result<()> {
     print!(out; " {n}")
 }
 
@@ -32,10 +40,10 @@ pub(crate) fn comparison(out: &impl Print, before: &World, after: &World) -> io:
 
 // Low, next, the held count and the backlog of the flow that the case is at.
 pub(crate) fn record(out: &impl Print, w: &World) -> io::Result<()> {
-    also(out, w.word_at(flow_table::LOW))?;
-    also(out, w.word_at(flow_table::NEXT))?;
-    also(out, w.word_at(flow_table::HELD))?;
-    also(out, w.word_at(flow_table::BACKLOG))
+    for word in RECORD {
+        also(out, w.word_at(word))?;
+    }
+    Ok(())
 }
 
 // The number that a look answered, and what it found.
@@ -47,8 +55,9 @@ pub(crate) fn look(out: &impl Print, a: Look) -> io::Result<()> {
 
 // The number that a call answered; where it is a refusal, whether state and lent memory are as they were.
 pub(crate) fn answer(out: &impl Print, before: &World, after: &World) -> io::Result<()> {
-    also(out, after.number as u64)?;
-    if after.number == 0 {
+    let number = after.number;
+    print!(out; " {number}")?;
+    if number == 0 {
         return Ok(());
     }
     comparison(out, before, after)

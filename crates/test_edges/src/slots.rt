@@ -33,14 +33,6 @@ impl World {
         set_bit(&mut self.marked, slot, n == 2);
     }
 
-    pub(crate) fn number_at(&self, slot: usize) -> u32 {
-        at(&self.sizes, slot)
-    }
-
-    pub(crate) fn sent_at(&self, slot: usize) -> u64 {
-        at(&self.sent, slot)
-    }
-
     // A slot with a packet that was never resent.
     pub(crate) fn set_flying(&mut self, slot: usize, size: u32, sent: u64) {
         put(&mut self.sizes, slot, size);
@@ -58,7 +50,7 @@ impl World {
     // A slot's bit or number, or an EV's time.
     pub(crate) fn set_slot(&mut self, word: Slot, slot: u64, n: u64) {
         let k = slot as usize;
-        let number = self.number_at(k);
+        let number = at(&self.sizes, k);
         match word {
             Slot::Status => self.set_status(k, n),
             Slot::Size => put(&mut self.sizes, k, (number & !HALF) | (narrow(n) & HALF)),

@@ -3,7 +3,7 @@
 ghost use Rattle.std.specs.Prelude.{◌<◌, ◌≤◌};
 
 use context::choice::{Choice, Chosen};
-use context::{Answer, Controller, Heard, Routed, choice, entry, look};
+use context::{Answer, Controller, Heard, Routed, choice, entry, look, start};
 use rules::verdict::number_of;
 use sender::look::Look;
 use sender::{Ack, Loss, Nack, Send};
@@ -17,6 +17,9 @@ pub const TABLE_MOST: usize = 36;
 pub const WORDS_MOST: usize = 9;
 
 pub const SLOTS_MOST: usize = 576;
+
+// The EV times, which are all lent.
+pub const EVS: usize = 256;
 
 // The slots of a ring that is not wide.
 pub const RING: usize = 64;
@@ -38,7 +41,7 @@ pub(crate) fn put<T: Copy>(xs: &mut [T], k: usize, x: T) {
 #[derive(Clone, Copy)]
 pub struct World {
     pub flows: [u64; TABLE_MOST],
-    pub evs: [u64; 256],
+    pub evs: [u64; EVS],
     pub outstanding: [u64; WORDS_MOST],
     pub marked: [u64; WORDS_MOST],
     pub sizes: [u32; SLOTS_MOST],
@@ -51,7 +54,8 @@ pub struct World {
     pub state: Controller,
 }
 
-// An entry point, with what is handed to it.
+// An entry point, with what is handed to it: a value, and no closure, since a case's text says which it is, and closures of several calls
+// would be one type in a box alone, on the heap.
 #[derive(Clone, Copy)]
 pub enum Call {
     SetUp(Settings),
@@ -113,7 +117,8 @@ fn of_chosen(chosen: Chosen) -> Got {
     }
 }
 
-// What is lent to a call.
+// What is lent to a call. `test_lengths` has this and the next too: each of the two programs stands alone, and a crate between them would
+// be longer than what they share.
 #[derive(Drop)]
 struct Lent<'a> {
     flows: &'a mut [u64],
@@ -129,62 +134,31 @@ impl Lent<'_> {
     fn answer(self, call: Call, c: Controller, at: u64, k: usize) -> Got {
         let Lent {
             flows,
-            outstanding,
+            outstanding: out,
             marked,
             sizes,
             sent,
             evs,
         } = self;
         match call {
-            Call::SetUp(s) => {
-                of_answer(context::start::set_up(s, flows, outstanding, marked, sizes, sent, evs))
-            }
+            Call::SetUp(s) => { of_answer(start::set_up(s, flows, out, marked, sizes, sent, evs)) }
             Call::NewData(n) => {
-                of_answer(entry::new_data(
-                    c,
-                    flows,
-                    outstanding,
-                    marked,
-                    sizes,
-                    sent,
-                    evs,
-                    at,
-                    k,
-                    n,
-                ))
+                of_answer(entry::new_data(c, flows, out, marked, sizes, sent, evs, at, k, n))
             }
             Call::Send(a) => {
-                of_answer(entry::send(c, flows, outstanding, marked, sizes, sent, evs, at, k, a))
+                of_answer(entry::send(c, flows, out, marked, sizes, sent, evs, at, k, a))
             }
             Call::Ack(a) => {
-                of_heard(entry::ack(c, flows, outstanding, marked, sizes, sent, evs, at, k, a))
+                of_heard(entry::ack(c, flows, out, marked, sizes, sent, evs, at, k, a))
             }
             Call::Nack(a) => {
-                of_heard(entry::nack(c, flows, outstanding, marked, sizes, sent, evs, at, k, a))
+                of_heard(entry::nack(c, flows, out, marked, sizes, sent, evs, at, k, a))
             }
             Call::Loss(a) => {
-                of_answer(entry::loss(c, flows, outstanding, marked, sizes, sent, evs, at, k, a))
+                of_answer(entry::loss(c, flows, out, marked, sizes, sent, evs, at, k, a))
             }
-            Call::Path => of_routed(entry::path(
-                c,
-                flows,
-                outstanding,
-                marked,
-                sizes,
-                sent,
-                evs,
-                at,
-                k,
-            )),
-            Call::Choose => of_chosen(choice::choose(
-                c,
-                flows,
-                outstanding,
-                marked,
-                sizes,
-                sent,
-                evs,
-            )),
+            Call::Path => of_routed(entry::path(c, flows, out, marked, sizes, sent, evs, at, k)),
+            Call::Choose => of_chosen(choice::choose(c, flows, out, marked, sizes, sent, evs)),
         }
     }
 }

@@ -10,7 +10,8 @@ use sender::{Ack, Loss, Nack, Send};
 use window::Settings;
 
 // An entry point; the events are calls on empty rings that no row but 2, 10 or, by its EV, 23 or, by its flow, 25 refuses, and a choice is
-// refused by 2 alone.
+// refused by 2 alone. A value, and no closure: a line goes through the events one after another, a call says what it must leave, and a
+// closure that takes what is lent gets no proof, since it can't pass on what holds a `&mut [T]`.
 #[derive(Clone, Copy)]
 pub enum Call {
     SetUp(Settings),
@@ -35,7 +36,8 @@ impl Call {
     ];
 }
 
-// What is lent to a call.
+// What is lent to a call. `test_edges` has this and the next too: each of the two programs stands alone, and a crate between them would
+// be longer than what they share.
 #[derive(Drop)]
 pub struct Lent<'a> {
     pub flows: &'a mut [u64],
@@ -146,74 +148,43 @@ fn a_nack(ev: u32) -> Nack {
     }
 }
 
+fn a_loss(ev: u32) -> Loss {
+    Loss { psn: 5, ev }
+}
+
 impl Lent<'_> {
     // What a call answers: of an event, of the given flow at the clock.
     pub(crate) fn answer(self, call: Call, e: Given) -> Got {
         let Lent {
             flows,
-            outstanding,
+            outstanding: out,
             marked,
             sizes,
             sent,
             evs,
         } = self;
+        let Given { flow: k, ev, .. } = e;
         let c = make::empty(e);
         let at = c.clock;
-        let k = e.flow;
         match call {
-            Call::SetUp(s) => {
-                of_answer(start::set_up(s, flows, outstanding, marked, sizes, sent, evs))
-            }
+            Call::SetUp(s) => { of_answer(start::set_up(s, flows, out, marked, sizes, sent, evs)) }
             Call::NewData => {
-                of_answer(entry::new_data(
-                    c,
-                    flows,
-                    outstanding,
-                    marked,
-                    sizes,
-                    sent,
-                    evs,
-                    at,
-                    k,
-                    1,
-                ))
+                of_answer(entry::new_data(c, flows, out, marked, sizes, sent, evs, at, k, 1))
             }
             Call::Send => {
-                let a = a_send();
-                of_answer(entry::send(c, flows, outstanding, marked, sizes, sent, evs, at, k, a))
+                of_answer(entry::send(c, flows, out, marked, sizes, sent, evs, at, k, a_send()))
             }
             Call::Ack => {
-                let a = an_ack(e.ev);
-                of_heard(entry::ack(c, flows, outstanding, marked, sizes, sent, evs, at, k, a))
+                of_heard(entry::ack(c, flows, out, marked, sizes, sent, evs, at, k, an_ack(ev)))
             }
             Call::Nack => {
-                let a = a_nack(e.ev);
-                of_heard(entry::nack(c, flows, outstanding, marked, sizes, sent, evs, at, k, a))
+                of_heard(entry::nack(c, flows, out, marked, sizes, sent, evs, at, k, a_nack(ev)))
             }
             Call::Loss => {
-                let a = Loss { psn: 5, ev: e.ev };
-                of_answer(entry::loss(c, flows, outstanding, marked, sizes, sent, evs, at, k, a))
+                of_answer(entry::loss(c, flows, out, marked, sizes, sent, evs, at, k, a_loss(ev)))
             }
-            Call::Path => of_routed(entry::path(
-                c,
-                flows,
-                outstanding,
-                marked,
-                sizes,
-                sent,
-                evs,
-                at,
-                k,
-            )),
-            Call::Choose => of_chosen(choice::choose(
-                c,
-                flows,
-                outstanding,
-                marked,
-                sizes,
-                sent,
-                evs,
-            )),
+            Call::Path => of_routed(entry::path(c, flows, out, marked, sizes, sent, evs, at, k)),
+            Call::Choose => of_chosen(choice::choose(c, flows, out, marked, sizes, sent, evs)),
         }
     }
 }

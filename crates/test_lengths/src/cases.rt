@@ -70,8 +70,8 @@ const DIFFERING_SLOTS: [(&str, [usize; 5]); 15] = [
     ("sizes and sent of 256 slots", [4, 2, 2, 256, 256]),
 ];
 
-// Numbers of EVs: one that is not allowed is refusal 1 of setting up, whatever is lent; of one that is allowed exactly so many times must be
-// lent. How many there are, and how many times are lent.
+// Numbers of EVs: one that is not allowed is refusal 1 of setting up, whatever is lent; of one that is allowed exactly so many times must
+// be lent. How many there are, and how many times are lent.
 const COUNTS: [(&str, u64, usize); 11] = [
     ("255 EVs, 255 times", 255, 255),
     ("256 EVs, 256 times", 256, 256),

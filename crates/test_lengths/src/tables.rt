@@ -113,8 +113,8 @@ const TIMES: [(&str, u64, usize); 4] = [
     ("8 flows, 2048 EVs, 2048 times", 2048, 2048),
 ];
 
-// "A flow out of range is refusal 25", and 2 comes before it. The flow that is called, the one that has the backlog, the words of the table,
-// and the slots.
+// "A flow out of range is refusal 25", and 2 comes before it. The flow that is called, the one that has the backlog, the words of the
+// table, and the slots.
 const CALLED: [(&str, usize, usize, usize, usize); 14] = [
     ("flow 0 of 1", 0, 0, 4, 64),
     ("flow 1 of 1", 1, 0, 4, 64),
@@ -132,8 +132,8 @@ const CALLED: [(&str, usize, usize, usize, usize); 14] = [
     ("order 2 25 backlog", 8, 8, 32, 512),
 ];
 
-// "A held turn that names no flow is refusal 2": for each number of flows the last turn that it allows, and one past it. The turn, the words of
-// the table, and the slots.
+// "A held turn that names no flow is refusal 2": for each number of flows the last turn that it allows, and one past it. The turn, the
+// words of the table, and the slots.
 const TURNS: [(&str, u64, usize, usize); 18] = [
     ("turn 0 of 1", 0, 4, 64),
     ("turn 1 of 1", 1, 4, 64),

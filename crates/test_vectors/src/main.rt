@@ -20,14 +20,14 @@ const LOG_MOST: usize = 64 << 10;
 fn complain(rt: &impl Print, input: Input) -> io::Result<()> {
     match input {
         Input::Done => Ok(()),
-        Input::Long => rt.write_all(b"reaches 2^48 bytes\n"),
-        Input::Failed(_) => rt.write_all(b"not read\n"),
+        Input::Long => println!(rt; "reaches 2^48 bytes"),
+        Input::Failed(_) => println!(rt; "not read"),
         Input::Unwritten(why) => Err(why),
     }
 }
 
-// Reads until buf is full or the input ends, and answers how many bytes it put at buf's front. The loop stands written out since std fills a
-// buffer whole or not at all (`read_exact`), or one on the heap, and memory is fixed here.
+// Reads until buf is full or the input ends, and answers how many bytes it put at buf's front. The loop stands written out since
+// std fills a buffer whole or not at all (`read_exact`), or one on the heap, and memory is fixed here.
 fn read_full<L: Read>(log: &mut L, buf: &mut [u8]) -> io::Result<usize>
     ensures { IfOk result (λ n. n ≤ length buf.new) }
 {
@@ -64,11 +64,11 @@ fn back_one<R: Print + Files>(rt: &R, name: &[u8]) -> io::Result<()> {
     let mut room = [0u8; LOG_MOST];
     let length = read_log(rt, name, &mut log)?;
     if length == log.len() {
-        return rt.write_all(b"not written back: longer than its room\n");
+        return println!(rt; "not written back: longer than its room");
     }
     let count = write_back(&log[..length], &mut room).count();
     if log[..count] != room[..count] {
-        return rt.write_all(b"written back with another byte\n");
+        return println!(rt; "written back with another byte");
     }
     println!(rt; "back {count} of {length}")
 }
@@ -82,9 +82,9 @@ fn replay_lines<L: Read, R: Print + Eprint>(rt: &R, log: &mut L) -> io::Result<(
 // One log: its name, what its replay writes, and how much of it is written back. One that can't be opened has the header only, and is not
 // read.
 fn replay_one<R: Print + Eprint + Files>(rt: &R, name: &[u8]) -> io::Result<()> {
-    rt.write_all(b"log ")?;
+    print!(rt; "log ")?;
     rt.write_all(name)?;
-    rt.write_all(b"\n")?;
+    println!(rt; "")?;
     match open(rt, name) {
         Ok(mut log) => replay_lines(rt, &mut log)?,
         Err(why) => {
