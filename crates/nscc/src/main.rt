@@ -147,10 +147,11 @@ fn replay_input<R: Print + Eprint + Input>(
 
 // Opens the file that a word names. A name is text.
 fn open<R: Files>(rt: &R, word: &[u8]) -> io::Result<R::File> {
-    match std::str::from_utf8(word) {
-        Ok(name) => fs::open(rt, name),
-        Err(_) => Err(io::Error::new(ErrorKind::InvalidInput, "its name is not UTF-8")),
-    }
+    let name = std::str::from_utf8(word).map_err(|_| io::Error::new(
+        ErrorKind::InvalidInput,
+        "its name is not UTF-8",
+    ))?;
+    fs::open(rt, name)
 }
 
 // Opens the log that a word names, and replays it.

@@ -36,6 +36,7 @@ fn settings() -> Settings {
     }
 }
 
+// These and the window are written out in `test_lengths` too: a test says its values itself, and takes no default for them.
 fn no_settings() -> Settings {
     Settings {
         mtu: 0,

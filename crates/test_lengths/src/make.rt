@@ -61,6 +61,7 @@ pub(crate) fn settings(mtu: u64, ev_count: u64) -> Settings {
     }
 }
 
+// These and the window are written out in `test_edges` too: a test says its values itself, and takes no default for them.
 fn no_settings() -> Settings {
     Settings {
         mtu: 0,
