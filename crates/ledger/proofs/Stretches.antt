@@ -1,6 +1,6 @@
 -- Stretches of slots that lie beside each other, and words of bits: how their tests and sums go on slot by slot and word by word.
 -- Assumes nothing.
-use Rattle.std.proofs.Common.{◌≡◌, ℕ, zero, suc, ◌+◌, ◌-◌, ◌*◌, ◌/◌, ◌%◌, ◌^◌, ◌<◌, ◌≤◌, min, Bool, true, false, not, ◌&&◌, eqb, ltb, leb, List, get_or, sym, refl, ap, ◌∙◌, ap₂, ⊎_elim, zero-le, not-suc-le-zero, add-zero, eq-or-lt_of_le, pow-suc, arith, lit<, pow_pos, pow_mono, shl_exact, ltb-true, le-ltb, lt-ltb, eq-eqb, ne_eqb, eqb-true, le-leb, leb-false, leb-true}
+use Rattle.std.proofs.Common.{◌≡◌, ℕ, zero, suc, ◌+◌, ◌-◌, ◌*◌, ◌/◌, ◌%◌, ◌^◌, ◌<◌, ◌≤◌, min, Bool, true, false, not, ◌&&◌, eqb, ltb, leb, List, get_or, take, drop, sym, refl, ap, ◌∙◌, ap₂, ⊎_elim, zero-le, not-suc-le-zero, add-zero, eq-or-lt_of_le, pow-suc, arith, lit<, pow_pos, pow_mono, shl_exact, get_or-take, get_or-drop, ltb-true, le-ltb, lt-ltb, eq-eqb, ne_eqb, eqb-true, le-leb, leb-false, leb-true}
 use mathlib.Core.Bool.{and-true, and-false}
 use mathlib.Core.Logic.{by_cases}
 use native.Mathlib.Decide.{dec_lt}
@@ -34,6 +34,10 @@ module _ (f : ℕ → Bool) (from : ℕ) where
       let here : i ≡ from + (i - from) = omega arith in
       rw next (rw (e, q ∙ ap f here) (sym (all_more (λ k. f (from + k)) (i - from))))
 
+  -- the same at place k of the stretch
+  pub in_next : (k : ℕ) (s t : Bool) → s ≡ all_in f from (from + k) → t ≡ f (from + k) → (s && t) ≡ all_in f from (from + (k + 1))
+  in_next k s t e q = in_more (from + k) (omega arith) s t e q ∙ ap (all_in f from) (omega arith)
+
   pub in_at : (to : ℕ) → all_in f from to ≡ true → (i : ℕ) → from ≤ i → i < to → f i ≡ true
   unfolding all_in
   in_at to e i h l =
@@ -43,6 +47,10 @@ module _ (f : ℕ → Bool) (from : ℕ) where
   pub in_of : (to : ℕ) → ((i : ℕ) → from ≤ i → i < to → f i ≡ true) → all_in f from to ≡ true
   unfolding all_in
   in_of to h = all_of (λ k. f (from + k)) (to - from) (λ k l. h (from + k) (omega arith) (omega arith))
+
+-- place k of the stretch, taken out
+pub cut_at : (xs : List ℕ) (from to k : ℕ) → k < to - from → get_or (take (to - from) (drop from xs)) k 0 ≡ get_or xs (from + k) 0
+cut_at xs from to k h = get_or-take (to - from) (drop from xs) k 0 h ∙ get_or-drop from xs k 0
 
 -- a stretch, and the one behind it
 pub in_join : (f : ℕ → Bool) (from i to : ℕ) → from ≤ i → i ≤ to → (all_in f from i && all_in f i to) ≡ all_in f from to

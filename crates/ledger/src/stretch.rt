@@ -44,10 +44,8 @@ pub(crate) fn sizes_within(
 {
     let top = top_of(high);
     let mut all = true;
-    let mut i = from;
-    while i < to {
-        all = all & is_within(sizes[i], low, top, most);
-        i += 1;
+    for &w in &sizes[from..to] {
+        all = all & is_within(w, low, top, most);
     }
     all
 }
@@ -58,10 +56,8 @@ fn sizes_zero_in(sizes: &[u32], from: usize, to: usize) -> bool
     ensures { result ≡ all_in (sized_at 0 0 0 sizes.now) from to }
 {
     let mut any: u32 = 0;
-    let mut i = from;
-    while i < to {
-        any = any | sizes[i];
-        i += 1;
+    for &w in &sizes[from..to] {
+        any = any | w;
     }
     any == 0
 }
@@ -88,10 +84,8 @@ fn times_zero_in(sent: &[u64], from: usize, to: usize) -> bool
     ensures { result ≡ all_in (timed_at 0 sent.now) from to }
 {
     let mut any: u64 = 0;
-    let mut i = from;
-    while i < to {
-        any = any | sent[i];
-        i += 1;
+    for &x in &sent[from..to] {
+        any = any | x;
     }
     any == 0
 }
@@ -124,10 +118,8 @@ fn times_counted(sent: &[u64], most: u64, from: usize, to: usize) -> bool
     ensures { result ≡ all_in (timed_at most sent.now) from to }
 {
     let mut late: u64 = 0;
-    let mut i = from;
-    while i < to {
-        late += one_late(sent[i], most);
-        i += 1;
+    for &x in &sent[from..to] {
+        late += one_late(x, most);
     }
     late == 0
 }
@@ -138,11 +130,8 @@ fn times_below_top(sent: &[u64], most: u64, from: usize, to: usize) -> bool
     ensures { result ≡ all_in (timed_at most sent.now) from to }
 {
     let mut late: u64 = 0;
-    let mut i = from;
-    while i < to {
-        let x = sent[i];
+    for &x in &sent[from..to] {
         late = late | (x | std::num::wrapping_sub_u64(most, x));
-        i += 1;
     }
     late < TOP
 }
@@ -180,11 +169,9 @@ fn none_in(words: &[u64], from: usize, to: usize) -> bool
     ensures { result ≡ all_in (clear_at words.now) from to }
 {
     let mut all = true;
-    let mut q = from / bits::WORD_BITS;
-    while q * bits::WORD_BITS < to {
+    for q in from / bits::WORD_BITS..to.div_ceil(bits::WORD_BITS) {
         let others = bits::clear(words[q], below(from, q));
         all = all & (others & below(to, q) == 0);
-        q += 1;
     }
     all
 }
@@ -195,10 +182,8 @@ fn none_whole(words: &[u64], from: usize, to: usize) -> bool
     ensures { result ≡ all_in (clear_at words.now) (from * word_bits) (to * word_bits) }
 {
     let mut any: u64 = 0;
-    let mut q = from;
-    while q < to {
-        any = any | words[q];
-        q += 1;
+    for &w in &words[from..to] {
+        any = any | w;
     }
     any == 0
 }
@@ -224,10 +209,8 @@ pub(crate) fn marks_within<'a>(outstanding: &'a [u64], marked: &'a [u64]) -> boo
     ensures { result ≡ all_to (mark_ok outstanding.now marked.now) (length outstanding.now * word_bits) }
 {
     let mut all = true;
-    let mut q: usize = 0;
-    while q < outstanding.len() {
-        all = all & (bits::clear(marked[q], outstanding[q]) == 0);
-        q += 1;
+    for (q, &out) in outstanding.iter().enumerate() {
+        all = all & (bits::clear(marked[q], out) == 0);
     }
     all
 }
@@ -238,13 +221,10 @@ pub(crate) fn ones(words: &[u64]) -> u32
     ensures { (result ≡ ones_of words.now) × (result ≤ 4096) }
 {
     let mut count: u32 = 0;
-    let mut q: usize = 0;
-    while q < words.len() {
-        let w = words[q];
+    for &w in words {
         if w != 0 {
             count += bits::count(w, w);
         }
-        q += 1;
     }
     count
 }
@@ -270,10 +250,8 @@ pub(crate) fn marked_sum<'a>(marked: &'a [u64], sizes: &'a [u32]) -> u64
     ensures { (result ≡ bytes_of marked.now sizes.now) × (result ≤ 2 ^ 28) }
 {
     let mut bytes: u64 = 0;
-    let mut q: usize = 0;
-    while q < marked.len() {
-        bytes += bytes_in(sizes, q, marked[q]);
-        q += 1;
+    for (q, &hit) in marked.iter().enumerate() {
+        bytes += bytes_in(sizes, q, hit);
     }
     bytes
 }

@@ -6,20 +6,16 @@ use Rattle.ledger.proofs.Stretches.{sum_none, bytes_word}
 use Rattle.ledger.proofs.stretch.marked_sum.Goals as goal
 
 pub loop-q-init : goal.loop-q-init
-loop-q-init c = (omega arith, sum_none _, omega arith)
-
-pub overflow_add-bytes : goal.overflow_add-bytes
-overflow_add-bytes c = omega arith
+loop-q-init c = (sum_none _, omega arith)
 
 pub loop-q-preserved : goal.loop-q-preserved
 loop-q-preserved c =
     let l = c.loop-q in
     let a = c.args in (
-      omega arith,
-      ap (λ (x : ℕ). l.bytes + x) c.bytes_in-bytes.ensures.0 ∙ bytes_word a.marked.now a.sizes.now l.q l.bytes l.invariant.1,
+      ap (λ (x : ℕ). l.bytes + x) c.bytes_in-bytes.ensures.0 ∙ bytes_word a.marked.now a.sizes.now l.q l.bytes l.invariant.0,
       omega (arith, c.bytes_in-bytes.ensures.1),
     )
 
 pub returns : goal.returns
 unfolding bytes_of
-returns c = (c.loop-q.invariant.1 ∙ ap (sum_to _) (omega arith), omega arith)
+returns c = (c.loop-q.invariant.0 ∙ ap (sum_to _) (omega arith), omega arith)

@@ -6,15 +6,13 @@ use Rattle.ledger.proofs.Walks.{all_none}
 use Rattle.ledger.proofs.stretch.marks_within.Goals as goal
 
 pub loop-q-init : goal.loop-q-init
-loop-q-init c = (omega arith, sym (all_none _))
+loop-q-init c = sym (all_none _)
 
 pub loop-q-preserved : goal.loop-q-preserved
 loop-q-preserved c =
     let l = c.loop-q in
-    let a = c.args in (
-      omega arith,
-      ap (λ (x : ℕ). l.all && eqb x 0) c.clear.ensures ∙ mark_word a.outstanding.now a.marked.now l.q l.all l.invariant.1,
-    )
+    let a = c.args in
+    ap (λ (x : ℕ). l.all && eqb x 0) c.clear.ensures ∙ mark_word a.outstanding.now a.marked.now l.q l.all l.invariant
 
 pub returns : goal.returns
-returns c = c.loop-q.invariant.1 ∙ ap (all_to _) (omega arith)
+returns c = c.loop-q.invariant ∙ ap (all_to _) (omega arith)

@@ -1,10 +1,7 @@
 -- `sizes_zero_in` puts them together: by its invariant they are 0 so far exactly where each is, and a turn is `or_zero`.
-use Rattle.std.proofs.Common.{◌≡◌, ◌-◌, ◌≤◌, eqb}
+use Rattle.std.proofs.Common.{◌≡◌, ◌+◌, eqb}
 use Rattle.ledger.specs.Stretch.{all_in, sized_at}
 use Rattle.ledger.proofs.stretch.sizes_zero_in.Given as goal
 
-abbrev pub invariant-loop-i : goal.invariant-loop-i
-invariant-loop-i l = (l.from ≤ l.i) × (l.i ≤ l.to) × (eqb l.any 0 ≡ all_in (sized_at 0 0 0 l.sizes) l.from l.i)
-
-abbrev pub decreases-loop-i : goal.decreases-loop-i
-decreases-loop-i l = l.to - l.i
+abbrev pub invariant-loop-w : goal.invariant-loop-w
+invariant-loop-w l = eqb l.any 0 ≡ all_in (sized_at 0 0 0 l.sizes) l.from (l.from + l.w-index)
