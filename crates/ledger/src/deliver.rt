@@ -78,6 +78,7 @@ fn cover<'a, 'b, 'c>(
     let cap = sent.len();
     let mut left = totals;
     let mut k: u32 = 0;
+    // A `while`: k goes on by what is left of low's word first, and by whole words after it, which no range does.
     while k < far {
         let psn = serial::psn_plus(flow.low, k);
         let i = place(cap, psn);
@@ -104,17 +105,15 @@ fn retire<'a, 'b, 'c>(
         (shown (plus flow.low result) flow.next (memory_after outstanding.now marked.now sizes.new sent.new)) }
 {
     let cap = sent.len();
-    let mut gone: u32 = 0;
-    while gone < n {
+    for gone in 0..n {
         let i = place(cap, serial::psn_plus(flow.low, gone));
         if bits::is_set(outstanding, i) {
             return gone;
         }
         sizes[i] = 0;
         sent[i] = 0;
-        gone += 1;
     }
-    gone
+    n
 }
 
 // The same after an ACK that covers none beyond the first `far`. One that reaches no packet leaves low where it is: in a ledger that holds

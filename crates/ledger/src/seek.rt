@@ -18,6 +18,7 @@ pub(crate) fn front(words: &[u64], low: u32, n: u32) -> u32
 {
     let cap = words.len() * bits::WORD_BITS;
     let mut k: u32 = 0;
+    // A `while`: k goes on by what is left of low's word first, and by whole words after it, which no range does.
     while k < n {
         let i = place(cap, serial::psn_plus(low, k));
         let r = i % bits::WORD_BITS;

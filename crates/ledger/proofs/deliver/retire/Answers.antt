@@ -1,5 +1,5 @@
 -- `deliver::retire` meets its contract: the loop's invariant is `Gone` of proofs/Retiring, whose laws give its start, a turn and the end.
-use Rattle.std.proofs.Common.{ℕ, ◌%◌, ◌<◌, sym, ap, ◌∙◌, arith}
+use Rattle.std.proofs.Common.{◌≡◌, ℕ, ◌%◌, ◌<◌, sym, ap, ◌∙◌, arith}
 use Rattle.bits.specs.Bits.{bit_at}
 use Rattle.serial.specs.Psn.{psns}
 use Rattle.ledger.specs.Memory.{memory}
@@ -70,12 +70,6 @@ pub bounds-sent-i : goal.bounds-sent-i
 bounds-sent-i c =
     omega (arith, (slot (goal.at.bounds-sent-i c).After-place-i).inside, c.loop-gone.invariant.sent_cut.long, c.requires.standing.lengths.sent)
 
-pub overflow_add-gone : goal.overflow_add-gone
-overflow_add-gone c = omega (arith, c.loop-gone-test.true)
-
-pub loop-gone-smaller : goal.loop-gone-smaller
-loop-gone-smaller c = omega (arith, c.loop-gone-test.true)
-
 pub loop-gone-preserved : goal.loop-gone-preserved
 loop-gone-preserved c =
     again c.requires.standing c.loop-gone.invariant (slot (goal.at.loop-gone-preserved c).After-place-i).place (omega (arith, c.loop-gone-test.true, c.requires.n_value))
@@ -89,4 +83,7 @@ shape_of-sent c = c.loop-gone.invariant.sent_cut.long
 
 pub returns : goal.returns
 returns c =
-    ends c.requires.standing c.loop-gone.invariant (low_fits (goal.at.returns c).Start) c.requires.n_value (λ h. absurd (omega (arith, c.loop-gone-test.false, c.requires.n_value)))
+    let all : c.args.n ≡ c.loop-gone.gone = omega (arith, c.loop-gone.invariant.most, c.requires.n_value) in
+    rw all
+    (ends c.requires.standing c.loop-gone.invariant (low_fits (goal.at.returns c).Start) (sym all ∙ c.requires.n_value)
+    (λ h. absurd (omega (arith, c.loop-gone-test.false, c.requires.n_value))))

@@ -1,5 +1,4 @@
 -- `deliver::retire` meets its contract: the loop's invariant is `Gone` of proofs/Retiring, whose laws give its start, a turn and the end.
-use Rattle.std.proofs.Common.{◌-◌}
 use Rattle.ledger.specs.Memory.{memory}
 use Rattle.ledger.proofs.Retiring.{Gone}
 use Rattle.ledger.proofs.deliver.retire.Given as goal
@@ -7,6 +6,3 @@ use Rattle.ledger.proofs.deliver.retire.Given as goal
 abbrev pub invariant-loop-gone : goal.invariant-loop-gone
 invariant-loop-gone l =
     Gone (memory l.outstanding l.marked l.initial.sizes l.initial.sent) l.flow l.gone l.sizes l.sent
-
-abbrev pub decreases-loop-gone : goal.decreases-loop-gone
-decreases-loop-gone l = l.n - l.gone
