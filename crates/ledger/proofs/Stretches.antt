@@ -49,8 +49,14 @@ module _ (f : ℕ → Bool) (from : ℕ) where
   in_of to h = all_of (λ k. f (from + k)) (to - from) (λ k l. h (from + k) (omega arith) (omega arith))
 
 -- place k of the stretch, taken out
-pub cut_at : (xs : List ℕ) (from to k : ℕ) → k < to - from → get_or (take (to - from) (drop from xs)) k 0 ≡ get_or xs (from + k) 0
-cut_at xs from to k h = get_or-take (to - from) (drop from xs) k 0 h ∙ get_or-drop from xs k 0
+pub cut_at : {A : Type 0} (xs : List A) (from to k : ℕ) (d : A) → k < to - from
+    → get_or (take (to - from) (drop from xs)) k d ≡ get_or xs (from + k) d
+cut_at xs from to k d h = get_or-take (to - from) (drop from xs) k d h ∙ get_or-drop from xs k d
+
+-- two tests that answer alike
+pub in_same : (f g : ℕ → Bool) (from to : ℕ) → ((i : ℕ) → f i ≡ g i) → all_in f from to ≡ all_in g from to
+unfolding all_in
+in_same f g from to h = all_same (λ k. f (from + k)) (λ k. g (from + k)) (to - from) (λ k l. h (from + k))
 
 -- a stretch, and the one behind it
 pub in_join : (f : ℕ → Bool) (from i to : ℕ) → from ≤ i → i ≤ to → (all_in f from i && all_in f i to) ≡ all_in f from to

@@ -10,7 +10,7 @@ ghost use Rattle.ledger.specs.Stretch.{all_in, live_at, zero_at, slot_at, tally_
 
 use crate::slots::{long, place};
 use crate::stretch::{
-    marked_sum, marks_within, none_set, ones, sizes_within, sizes_zero, times_until, times_zero,
+    all_are, marked_sum, marks_within, none_set, ones, sizes_within, times_until,
 };
 use crate::{Flow, Totals};
 
@@ -58,7 +58,7 @@ fn zero_run<'a>(
     requires to_in_bounds { (to ≤ length sizes.now) × (to ≤ length sent.now) }
     ensures { result ≡ all_in (zero_at outstanding.now sizes.now sent.now) from to }
 {
-    none_set(outstanding, from, to) & sizes_zero(sizes, from, to) & times_zero(sent, from, to)
+    none_set(outstanding, from, to) & all_are(sizes, 0, from, to) & all_are(sent, 0, from, to)
 }
 
 // Every slot, but for the marked bits: those of the n packets from low on are one run, or one up to the ring's end and one from its start

@@ -1,7 +1,7 @@
 // Tests and sums over slots that lie beside each other, from..to-1, and over whole words of bits: what number 2's test is made of. Each
 // looks at one of the ring's slices, so that the compiler takes as many elements at a time as their width allows. Inner steps: the caller
 // proves that there are the slots.
-ghost use Rattle.std.specs.Prelude.{◌≡◌, ◌+◌, ◌-◌, ◌*◌, ◌^◌, ◌<◌, ◌≤◌, min, length, ◌==◌, nat_le, nat_lt};
+ghost use Rattle.std.specs.Prelude.{◌≡◌, ◌+◌, ◌-◌, ◌*◌, ◌^◌, ◌<◌, ◌≤◌, min, length, ◌==◌, nat_le, nat_lt, slice_index_or};
 ghost use Rattle.bits.specs.Bits.{word_bits, bit, word_of};
 ghost use Rattle.ledger.specs.Sound.{all_to};
 ghost use Rattle.ledger.specs.Delivery.{sizes_of};
@@ -50,59 +50,32 @@ pub(crate) fn sizes_within(
     all
 }
 
-// Whether every slot's number is 0: all of them together are.
-fn sizes_zero_in(sizes: &[u32], from: usize, to: usize) -> bool
-    requires { (from ≤ to) × (to ≤ length sizes.now) }
-    ensures { result ≡ all_in (sized_at 0 0 0 sizes.now) from to }
+// Whether every slot has x: no turn ends the loop.
+fn run_is<T: Copy + PartialEq>(slots: &[T], x: T, from: usize, to: usize) -> bool
+    requires { (from ≤ to) × (to ≤ length slots.now) }
+    ensures { result ≡ all_in (λ i. T.eq (slice_index_or slots.now i x) x) from to }
 {
-    let mut any: u32 = 0;
-    for &w in &sizes[from..to] {
-        any = any | w;
+    let mut all = true;
+    for &y in &slots[from..to] {
+        all = all & (y == x);
     }
-    any == 0
+    all
 }
 
 // The same, as many slots at a time as a word has bits: of a loop whose number of turns it knows the compiler makes straight code. A slot
-// that is not 0 ends the walk at its block.
-pub(crate) fn sizes_zero(sizes: &[u32], from: usize, to: usize) -> bool
-    requires { (from ≤ to) × (to ≤ length sizes.now) }
-    ensures { result ≡ all_in (sized_at 0 0 0 sizes.now) from to }
+// that has not x ends the walk at its block.
+pub(crate) fn all_are<T: Copy + PartialEq>(slots: &[T], x: T, from: usize, to: usize) -> bool
+    requires { (from ≤ to) × (to ≤ length slots.now) }
+    ensures { result ≡ all_in (λ i. T.eq (slice_index_or slots.now i x) x) from to }
 {
     let mut i = from;
     while bits::WORD_BITS <= to - i {
-        if !sizes_zero_in(sizes, i, i + bits::WORD_BITS) {
+        if !run_is(slots, x, i, i + bits::WORD_BITS) {
             return false;
         }
         i += bits::WORD_BITS;
     }
-    sizes_zero_in(sizes, i, to)
-}
-
-// Whether every time is 0: all of them together are.
-fn times_zero_in(sent: &[u64], from: usize, to: usize) -> bool
-    requires { (from ≤ to) × (to ≤ length sent.now) }
-    ensures { result ≡ all_in (timed_at 0 sent.now) from to }
-{
-    let mut any: u64 = 0;
-    for &x in &sent[from..to] {
-        any = any | x;
-    }
-    any == 0
-}
-
-// The same, as many slots at a time as a word has bits, as `sizes_zero`.
-pub(crate) fn times_zero(sent: &[u64], from: usize, to: usize) -> bool
-    requires { (from ≤ to) × (to ≤ length sent.now) }
-    ensures { result ≡ all_in (timed_at 0 sent.now) from to }
-{
-    let mut i = from;
-    while bits::WORD_BITS <= to - i {
-        if !times_zero_in(sent, i, i + bits::WORD_BITS) {
-            return false;
-        }
-        i += bits::WORD_BITS;
-    }
-    times_zero_in(sent, i, to)
+    run_is(slots, x, i, to)
 }
 
 // 1 for a time past `most`.

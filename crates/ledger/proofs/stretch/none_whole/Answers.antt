@@ -12,7 +12,7 @@ loop-w-preserved c =
     let l = c.loop-w in
     let a = c.args in
     let q = a.from + l.w-index in
-    rw (cut_at a.words.now a.from a.to l.w-index (omega arith))
+    rw (cut_at a.words.now a.from a.to l.w-index 0 (omega arith))
     (whole_word a.words.now a.from q l.any (omega arith) (c.type_inv.words q).fits l.invariant
     ∙ ap (λ (x : ℕ). all_in (clear_at a.words.now) (a.from * 64) (x * 64)) (omega arith))
 

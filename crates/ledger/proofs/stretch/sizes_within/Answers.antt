@@ -15,7 +15,7 @@ loop-w-preserved c =
       in_next (sized_at a.low a.high a.most a.sizes.now) a.from l.w-index _ _ l.invariant.0
           (c.is_within-all.ensures.0
           ∙ top_sized a.low a.high _ a.most _ c.is_within-all.ensures.1 l.invariant.1
-          ∙ ap (sized_in a.low a.high a.most) (cut_at a.sizes.now a.from a.to l.w-index (omega arith))),
+          ∙ ap (sized_in a.low a.high a.most) (cut_at a.sizes.now a.from a.to l.w-index 0 (omega arith))),
       l.invariant.1,
     )
 

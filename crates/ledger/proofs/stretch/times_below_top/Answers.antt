@@ -14,7 +14,7 @@ loop-x-preserved c =
     let a = c.args in
     let w = c.wrapping_sub_u64 in
     let x = get_or a.sent.now (a.from + l.x-index) 0 in
-    let here = cut_at a.sent.now a.from a.to l.x-index (omega arith) in
+    let here = cut_at a.sent.now a.from a.to l.x-index 0 (omega arith) in
     rw here
     (top_more l.late x w.result a.most _ (c.type_inv.sent (a.from + l.x-index)).fits (omega arith) c.requires.2 (rw here at w.ensures.value)
     l.invariant

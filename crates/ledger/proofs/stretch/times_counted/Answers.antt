@@ -15,7 +15,7 @@ loop-x-preserved c =
       omega (arith, c.one_late-late.ensures.1),
       no_sum l.late c.one_late-late.result
           ∙ in_next (timed_at a.most a.sent.now) a.from l.x-index _ _ l.invariant.1
-          (c.one_late-late.ensures.0 ∙ ap (λ (x : ℕ). leb x a.most) (cut_at a.sent.now a.from a.to l.x-index (omega arith))),
+          (c.one_late-late.ensures.0 ∙ ap (λ (x : ℕ). leb x a.most) (cut_at a.sent.now a.from a.to l.x-index 0 (omega arith))),
     )
 
 pub returns : goal.returns
