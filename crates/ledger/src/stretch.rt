@@ -68,14 +68,14 @@ pub(crate) fn all_are<T: Copy + PartialEq>(slots: &[T], x: T, from: usize, to: u
     requires { (from ≤ to) × (to ≤ length slots.now) }
     ensures { result ≡ all_in (λ i. T.eq (slice_index_or slots.now i x) x) from to }
 {
-    let mut i = from;
-    while bits::WORD_BITS <= to - i {
-        if !run_is(slots, x, i, i + bits::WORD_BITS) {
+    let blocks = (to - from) / bits::WORD_BITS;
+    for block in 0..blocks {
+        let at = from + block * bits::WORD_BITS;
+        if !run_is(slots, x, at, at + bits::WORD_BITS) {
             return false;
         }
-        i += bits::WORD_BITS;
     }
-    run_is(slots, x, i, to)
+    run_is(slots, x, from + blocks * bits::WORD_BITS, to)
 }
 
 // 1 for a time past `most`.
