@@ -27,16 +27,12 @@ module _ (f : ℕ → Bool) (from : ℕ) where
   unfolding all_in
   in_none i h = sym (ap (all_to (λ k. f (from + k))) (omega arith) ∙ all_none (λ k. f (from + k)))
 
-  pub in_more : (i : ℕ) → from ≤ i → (s t : Bool) → s ≡ all_in f from i → t ≡ f i → (s && t) ≡ all_in f from (i + 1)
-  unfolding all_in
-  in_more i h s t e q =
-      let next : i + 1 - from ≡ i - from + 1 = omega arith in
-      let here : i ≡ from + (i - from) = omega arith in
-      rw next (rw (e, q ∙ ap f here) (sym (all_more (λ k. f (from + k)) (i - from))))
-
-  -- the same at place k of the stretch
   pub in_next : (k : ℕ) (s t : Bool) → s ≡ all_in f from (from + k) → t ≡ f (from + k) → (s && t) ≡ all_in f from (from + (k + 1))
-  in_next k s t e q = in_more (from + k) (omega arith) s t e q ∙ ap (all_in f from) (omega arith)
+  unfolding all_in
+  in_next k s t e q =
+      let here : from + k - from ≡ k = omega arith in
+      let next : from + (k + 1) - from ≡ k + 1 = omega arith in
+      rw next (rw (rw here at e, q) (sym (all_more (λ j. f (from + j)) k)))
 
   pub in_at : (to : ℕ) → all_in f from to ≡ true → (i : ℕ) → from ≤ i → i < to → f i ≡ true
   unfolding all_in

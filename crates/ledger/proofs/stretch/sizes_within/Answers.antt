@@ -1,4 +1,4 @@
--- `sizes_within` looks at every slot's number: by its invariant those before i are told by `all`, and a turn is `in_more`.
+-- `sizes_within` looks at every slot's number: by its invariant those so far are told by `all`, and a turn is `in_next`.
 use Rattle.std.proofs.Common.{ap, ◌∙◌, arith}
 use Rattle.ledger.specs.Stretch.{all_in, sized_in, sized_at}
 use Rattle.ledger.proofs.Stretches.{in_none, in_next, cut_at, top_sized}

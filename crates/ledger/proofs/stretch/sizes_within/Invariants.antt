@@ -1,4 +1,4 @@
--- `sizes_within` looks at every slot's number: by its invariant those before i are told by `all`, and a turn is `in_more`.
+-- `sizes_within` looks at every slot's number: by its invariant those so far are told by `all`, and a turn is `in_next`.
 use Rattle.std.proofs.Common.{◌≡◌, ◌+◌, ◌-◌, ◌^◌, min}
 use Rattle.ledger.specs.Stretch.{all_in, sized_at}
 use Rattle.ledger.proofs.stretch.sizes_within.Given as goal
