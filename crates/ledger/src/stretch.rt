@@ -1,13 +1,14 @@
 // Tests and sums over slots that lie beside each other, from..to-1, and over whole words of bits: what number 2's test is made of. Each
 // looks at one of the ring's slices, so that the compiler takes as many elements at a time as their width allows. Inner steps: the caller
 // proves that there are the slots.
-ghost use Rattle.std.specs.Prelude.{◌≡◌, ◌+◌, ◌-◌, ◌*◌, ◌^◌, ◌<◌, ◌≤◌, min, length, ◌==◌, nat_le, nat_lt, slice_index_or};
+ghost use Rattle.std.specs.Prelude.{◌≡◌, true, ◌&&◌, ◌+◌, ◌-◌, ◌*◌, ◌^◌, ◌<◌, ◌≤◌, min, length, ◌==◌, nat_le, nat_lt, slice_index_or};
 ghost use Rattle.bits.specs.Bits.{word_bits, bit, word_of};
 ghost use Rattle.ledger.specs.Sound.{all_to};
 ghost use Rattle.ledger.specs.Delivery.{sizes_of};
 ghost use Rattle.ledger.specs.Stretch.{all_in, sized_in, sized_at, timed_at, clear_at, mark_ok, ones_of, bytes_of};
 
 use crate::slots::size_in;
+use std::ops::BitOr;
 
 // The top bit of a time.
 const TOP: u64 = 1 << 63;
@@ -50,32 +51,48 @@ pub(crate) fn sizes_within(
     all
 }
 
-// Whether every slot has x: no turn ends the loop.
-fn run_is<T: Copy + PartialEq>(slots: &[T], x: T, from: usize, to: usize) -> bool
-    requires { (from ≤ to) × (to ≤ length slots.now) }
-    ensures { result ≡ all_in (λ i. T.eq (slice_index_or slots.now i x) x) from to }
+// Whether every slot's number is `zero`: all of them together are.
+fn run_is<T: Copy + PartialEq + BitOr<Output = T>>(
+    slots: &[T],
+    zero: T,
+    from: usize,
+    to: usize,
+) -> bool
+    requires span { (from ≤ to) × (to ≤ length slots.now) }
+    requires none { T.eq zero zero ≡ true }
+    requires can { (a b : T) → T.can_bitor a b }
+    requires both { (a b c : T) → T.bitor_gives a b c → T.eq c zero ≡ (T.eq a zero && T.eq b zero) }
+    ensures { result ≡ all_in (λ i. T.eq (slice_index_or slots.now i zero) zero) from to }
 {
-    let mut all = true;
-    for &y in &slots[from..to] {
-        all = all & (y == x);
+    let mut any = zero;
+    for &x in &slots[from..to] {
+        any = any | x;
     }
-    all
+    any == zero
 }
 
 // The same, as many slots at a time as a word has bits: of a loop whose number of turns it knows the compiler makes straight code. A slot
-// that has not x ends the walk at its block.
-pub(crate) fn all_are<T: Copy + PartialEq>(slots: &[T], x: T, from: usize, to: usize) -> bool
-    requires { (from ≤ to) × (to ≤ length slots.now) }
-    ensures { result ≡ all_in (λ i. T.eq (slice_index_or slots.now i x) x) from to }
+// that is not `zero` ends the walk at its block.
+pub(crate) fn all_are<T: Copy + PartialEq + BitOr<Output = T>>(
+    slots: &[T],
+    zero: T,
+    from: usize,
+    to: usize,
+) -> bool
+    requires span { (from ≤ to) × (to ≤ length slots.now) }
+    requires none { T.eq zero zero ≡ true }
+    requires can { (a b : T) → T.can_bitor a b }
+    requires both { (a b c : T) → T.bitor_gives a b c → T.eq c zero ≡ (T.eq a zero && T.eq b zero) }
+    ensures { result ≡ all_in (λ i. T.eq (slice_index_or slots.now i zero) zero) from to }
 {
     let blocks = (to - from) / bits::WORD_BITS;
     for block in 0..blocks {
         let at = from + block * bits::WORD_BITS;
-        if !run_is(slots, x, at, at + bits::WORD_BITS) {
+        if !run_is(slots, zero, at, at + bits::WORD_BITS) {
             return false;
         }
     }
-    run_is(slots, x, from + blocks * bits::WORD_BITS, to)
+    run_is(slots, zero, from + blocks * bits::WORD_BITS, to)
 }
 
 // 1 for a time past `most`.

@@ -1,9 +1,16 @@
 -- `zero_run` looks at the bits, the numbers and the times; `in_and` puts them together. A number that is 0 has size and resend count 0
 -- (`none_sized`), and a time that is 0 is not past 0 (`none_timed`).
-use Rattle.std.proofs.Common.{Bool, ◌&&◌, eqb, get_or, sym, refl, ◌∙◌, ap₂}
+use Rattle.std.proofs.Common.{ℕ, Bool, ◌&&◌, eqb, get_or, sym, refl, ap, ◌∙◌, ap₂}
+use Rattle.bits.proofs.Words.{or_zero}
 use Rattle.ledger.specs.Stretch.{sized_at, timed_at, clear_at, zero_at}
 use Rattle.ledger.proofs.Stretches.{in_and, in_same, none_sized, none_timed}
 use Rattle.ledger.proofs.sound.zero_run.Goals as goal
+
+pub all_are-requires-clause-both : goal.all_are-requires-clause-both
+all_are-requires-clause-both c a b r e = ap (λ (x : ℕ). eqb x 0) e ∙ or_zero a b
+
+pub all_are-requires-2-clause-both : goal.all_are-requires-2-clause-both
+all_are-requires-2-clause-both c a b r e = ap (λ (x : ℕ). eqb x 0) e ∙ or_zero a b
 
 pub returns : goal.returns
 unfolding zero_at sized_at timed_at

@@ -1,4 +1,4 @@
--- `all_are` goes block by block: by its invariant each slot of those before has x. A block is `in_last` or `in_stop`.
+-- `all_are` goes block by block: by its invariant each slot of those before is `zero`. A block is `in_last` or `in_stop`.
 use Rattle.std.proofs.Common.{◌+◌, ◌-◌, ◌*◌, ◌/◌, sym, ap, ◌∙◌, arith}
 use Rattle.ledger.specs.Stretch.{all_in}
 use Rattle.ledger.proofs.Stretches.{in_none, in_last, in_stop}
