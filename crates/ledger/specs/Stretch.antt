@@ -1,6 +1,6 @@
 -- Tests and sums over slots that lie beside each other, and over words of bits: what number 2's test is made of.
 -- Assumes nothing.
-use Rattle.std.specs.Prelude.{ℕ, ◌+◌, ◌-◌, ◌*◌, Bool, not, ◌&&◌, List, length, ◌==◌, nat_le, nat_lt, slice_index}
+use Rattle.std.specs.Prelude.{◌≡◌, ℕ, ◌+◌, ◌-◌, ◌*◌, Bool, true, not, ◌&&◌, List, length, ◌==◌, nat_le, nat_lt, slice_index}
 use Rattle.rules.specs.Branch.{if_so}
 use Rattle.rules.specs.Test.{inside}
 use Rattle.bits.specs.Bits.{word_bits, bit_at, one, sum_to}
@@ -15,6 +15,12 @@ use Rattle.ledger.specs.declared.sound.Tally.{Tally}
 -- a test that holds at each of from .. to - 1
 unfoldable pub all_in : (ℕ → Bool) → ℕ → ℕ → Bool
 all_in f from to = all_to (λ k. f (from + k)) (to - from)
+
+-- numbers that a `|`, by what it asks and what it gives, puts together: the whole is `zero` exactly where each is
+pub record Joined {A : Type 0} (eq : A → A → Bool) (can : A → A → Type 0) (gives : A → A → A → Type 0) (zero : A) : Type 0 where
+  pub none : eq zero zero ≡ true
+  pub any : (a b : A) → can a b
+  pub both : (a b c : A) → gives a b c → eq c zero ≡ (eq a zero && eq b zero)
 
 -- a slot's number: a size in low..high, and a resend count of at most `most`
 unfoldable pub sized_in : ℕ → ℕ → ℕ → ℕ → Bool

@@ -1,11 +1,11 @@
 // Tests and sums over slots that lie beside each other, from..to-1, and over whole words of bits: what number 2's test is made of. Each
 // looks at one of the ring's slices, so that the compiler takes as many elements at a time as their width allows. Inner steps: the caller
 // proves that there are the slots.
-ghost use Rattle.std.specs.Prelude.{◌≡◌, true, ◌&&◌, ◌+◌, ◌-◌, ◌*◌, ◌^◌, ◌<◌, ◌≤◌, min, length, ◌==◌, nat_le, nat_lt, slice_index_or};
+ghost use Rattle.std.specs.Prelude.{◌≡◌, ◌+◌, ◌-◌, ◌*◌, ◌^◌, ◌<◌, ◌≤◌, min, length, ◌==◌, nat_le, nat_lt, slice_index_or};
 ghost use Rattle.bits.specs.Bits.{word_bits, bit, word_of};
 ghost use Rattle.ledger.specs.Sound.{all_to};
 ghost use Rattle.ledger.specs.Delivery.{sizes_of};
-ghost use Rattle.ledger.specs.Stretch.{all_in, sized_in, sized_at, timed_at, clear_at, mark_ok, ones_of, bytes_of};
+ghost use Rattle.ledger.specs.Stretch.{Joined, all_in, sized_in, sized_at, timed_at, clear_at, mark_ok, ones_of, bytes_of};
 
 use crate::slots::size_in;
 use std::ops::BitOr;
@@ -59,9 +59,7 @@ fn run_is<T: Copy + PartialEq + BitOr<Output = T>>(
     to: usize,
 ) -> bool
     requires span { (from ≤ to) × (to ≤ length slots.now) }
-    requires none { T.eq zero zero ≡ true }
-    requires can { (a b : T) → T.can_bitor a b }
-    requires both { (a b c : T) → T.bitor_gives a b c → T.eq c zero ≡ (T.eq a zero && T.eq b zero) }
+    requires joined { Joined T.eq T.can_bitor T.bitor_gives zero }
     ensures { result ≡ all_in (λ i. T.eq (slice_index_or slots.now i zero) zero) from to }
 {
     let mut any = zero;
@@ -80,9 +78,7 @@ pub(crate) fn all_are<T: Copy + PartialEq + BitOr<Output = T>>(
     to: usize,
 ) -> bool
     requires span { (from ≤ to) × (to ≤ length slots.now) }
-    requires none { T.eq zero zero ≡ true }
-    requires can { (a b : T) → T.can_bitor a b }
-    requires both { (a b c : T) → T.bitor_gives a b c → T.eq c zero ≡ (T.eq a zero && T.eq b zero) }
+    requires joined { Joined T.eq T.can_bitor T.bitor_gives zero }
     ensures { result ≡ all_in (λ i. T.eq (slice_index_or slots.now i zero) zero) from to }
 {
     let blocks = (to - from) / bits::WORD_BITS;

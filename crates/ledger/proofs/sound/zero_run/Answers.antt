@@ -6,11 +6,13 @@ use Rattle.ledger.specs.Stretch.{sized_at, timed_at, clear_at, zero_at}
 use Rattle.ledger.proofs.Stretches.{in_and, in_same, none_sized, none_timed}
 use Rattle.ledger.proofs.sound.zero_run.Goals as goal
 
-pub all_are-requires-clause-both : goal.all_are-requires-clause-both
-all_are-requires-clause-both c a b r e = ap (λ (x : ℕ). eqb x 0) e ∙ or_zero a b
+pub all_are-requires-clause-joined : goal.all_are-requires-clause-joined
+all_are-requires-clause-joined c =
+    record { none = refl; any = λ a b. tt; both = λ a b r e. ap (λ (x : ℕ). eqb x 0) e ∙ or_zero a b }
 
-pub all_are-requires-2-clause-both : goal.all_are-requires-2-clause-both
-all_are-requires-2-clause-both c a b r e = ap (λ (x : ℕ). eqb x 0) e ∙ or_zero a b
+pub all_are-requires-2-clause-joined : goal.all_are-requires-2-clause-joined
+all_are-requires-2-clause-joined c =
+    record { none = refl; any = λ a b. tt; both = λ a b r e. ap (λ (x : ℕ). eqb x 0) e ∙ or_zero a b }
 
 pub returns : goal.returns
 unfolding zero_at sized_at timed_at
