@@ -1,5 +1,4 @@
 -- The laws that the proofs of `text` share, and what crates above it cite of texts that were put.
-pub mod Copy
 pub mod Puts
 pub mod Digits
 pub mod Signs
