@@ -2,13 +2,13 @@
 -- Assumes nothing.
 use mathlib.Core.Path.{◌≡◌, refl, sym}
 use mathlib.Core.List.{List, [], ◌∷◌, ◌++◌}
-use Prim.Native.Nat.{ℕ, ◌+◌, ◌*◌, ◌≤◌, ◌<◌}
-use lib.ListN.{length, get_or}
+use Prim.Native.Nat.{ℕ, ◌+◌, ◌*◌, ◌≤◌}
+use lib.ListN.{get_or}
 use native.Mathlib.Numerals.{add-one}
 use native.Mathlib.Omega.{arith}
 use Rattle.rules.specs.Branch.{eq_yes, eq_no}
 use Rattle.text.specs.Decimal.{newline, column, Put}
-use Rattle.text.proofs.Puts.{then, put_long}
+use Rattle.text.proofs.Puts.{then}
 use Rattle.report_text.specs.Sheet.{count_line, count_lines, line_most}
 
 -- ---- one count
@@ -28,37 +28,21 @@ count_some label number n e = eq_no n 0 _ _ _ e refl
 -- ---- one after another
 
 -- k of them are put
-pub record Listed (out₀ : List ℕ) (at : ℕ) (label : List ℕ) (number place : ℕ) (figures : List ℕ) (count : ℕ) (out : List ℕ) (p k : ℕ) :
-    Type 0 where
-  pub within : k ≤ count
+pub record Listed (out₀ : List ℕ) (at : ℕ) (label : List ℕ) (number place : ℕ) (figures out : List ℕ) (p k : ℕ) : Type 0 where
   pub words : Put out₀ at (count_lines label number place figures k) out p
   pub most : p ≤ at + k * line_most
 
 module _ (label : List ℕ) (number place : ℕ) (figures : List ℕ) where
-  pub listed_none : (out : List ℕ) (at count : ℕ) → Listed out at label number place figures count out at 0
+  pub listed_none : (out : List ℕ) (at : ℕ) → Listed out at label number place figures out at 0
   unfolding count_lines
-  listed_none out at count = record { within = omega arith; words = put_none out at; most = omega arith }
+  listed_none out at = record { words = put_none out at; most = omega arith }
 
-  pub listed_more : {out₀ : List ℕ} {at count : ℕ} {out : List ℕ} {p k : ℕ} → Listed out₀ at label number place figures count out p k
-      → k < count
+  pub listed_more : {out₀ : List ℕ} {at : ℕ} {out : List ℕ} {p k : ℕ} → Listed out₀ at label number place figures out p k
       → {after : List ℕ} {next : ℕ} → Put out p (count_line label (number + k) (get_or figures (place + k) 0)) after next → next ≤ p + line_most
-      → Listed out₀ at label number place figures count after next (k + 1)
+      → Listed out₀ at label number place figures after next (k + 1)
   unfolding count_lines
-  listed_more {out₀} {at} {count} {out} {p} {k} g h {after} {next} line short =
+  listed_more {out₀} {at} {out} {p} {k} g {after} {next} line short =
       record {
-        within = omega arith;
         words = rw (add-one k) (then g.words line);
         most = omega (arith, g.most);
       }
-
-pub listed_long : {out₀ : List ℕ} {at : ℕ} {label : List ℕ} {number place : ℕ} {figures : List ℕ} {count : ℕ} {out : List ℕ} {p k : ℕ}
-    → Listed out₀ at label number place figures count out p k → length out ≡ length out₀
-listed_long g = put_long g.words
-
--- all of them
-pub listed_all : {out₀ : List ℕ} {at : ℕ} {label : List ℕ} {number place : ℕ} {figures : List ℕ} {count : ℕ} {out : List ℕ} {p k : ℕ}
-    → Listed out₀ at label number place figures count out p k → count ≤ k
-    → Put out₀ at (count_lines label number place figures count) out p × (p ≤ at + count * line_most)
-listed_all {out₀} {at} {label} {number} {place} {figures} {count} {out} {p} {k} g h =
-    let all : k ≡ count = omega (arith, g.within) in
-    (rw all at g.words, rw all at g.most)

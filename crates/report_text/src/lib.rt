@@ -69,10 +69,8 @@ fn put_counts(
         × (result ≤ at + count * line_most) }
 {
     let mut p = at;
-    let mut k = 0;
-    while k < count {
+    for k in 0..count {
         p = put_count(out, p, label, (number + k) as u64, figures[place + k]);
-        k += 1;
     }
     p
 }
