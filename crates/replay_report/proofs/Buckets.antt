@@ -1,12 +1,7 @@
--- Buckets: the highest set bit, by halving. Assumes nothing.
-use mathlib.Core.Path.{◌≡◌, refl, sym, ap, ◌∙◌}
-use mathlib.Core.Bool.{Bool, true, false, ◌&&◌}
-use Prim.Native.Nat.{ℕ, zero, suc, ◌+◌, ◌-◌, ◌/◌, ◌≤◌, ◌<◌}
-use lib.Dec.{ltb, leb}
-use borrow.Author.Tests.{ltb-true, ltb-false, leb-true, leb-false}
-use native.Mathlib.Omega.{arith}
+-- Buckets: halvings count up to the highest set bit. Assumes nothing.
+use Rattle.std.proofs.Common.{◌≡◌, ℕ, zero, suc, ◌*◌, ◌/◌, ◌^◌, ◌≤◌, ◌<◌, min, lit<, refl, sym, ◌∙◌, pow-suc, arith}
+use Rattle.std.proofs.lemmas.Nat.{pow_pos}
 use Rattle.rules.specs.Branch.{lt_yes, lt_no, lt_both}
-use Rattle.rules.specs.Test.{both}
 use Rattle.report_text.specs.Places.{buckets}
 use Rattle.replay_report.specs.Figures.{halvings, bucket_of}
 
@@ -21,53 +16,22 @@ pub bucket_most : (ticks : ℕ) → bucket_of ticks < buckets
 unfolding bucket_of
 bucket_most ticks = omega (arith, halvings_most 31 ticks)
 
--- ---- the loop: so many halvings are made, and what is left makes the rest
+-- ---- the highest set bit of a sample is how often it is halved, of as many halvings as there may be
 
-pub record Halving (ticks n k : ℕ) : Type 0 where
-  pub few : k ≤ 31
-  pub is : k + halvings (31 - k) n ≡ bucket_of ticks
+pub halvings_bit : (most k n : ℕ) → 2 ^ k ≤ n → n < 2 * 2 ^ k → halvings most n ≡ min k most
+unfolding halvings
+halvings_bit zero k n low high = omega arith
+halvings_bit (suc most) zero n low high = sym (lt_yes n 2 0 _ _ (omega arith) refl) ∙ omega arith
+halvings_bit (suc most) (suc k) n low high =
+    let power : 2 ^ suc k ≡ 2 ^ k * 2 = pow-suc 2 k in
+    let half : halvings most (n / 2) ≡ min k most = halvings_bit most k (n / 2) (omega arith) (omega arith) in
+    let some : 0 < 2 ^ k = pow_pos k in
+    sym (lt_no n 2 _ 0 _ (omega arith) refl) ∙ omega arith
 
-pub halving_none : (ticks : ℕ) → Halving ticks ticks 0
+pub bucket_none : 0 ≡ bucket_of 0
+unfolding bucket_of halvings
+bucket_none = lt_yes 0 2 0 0 _ (lit< tt) refl
+
+pub bucket_bit : (k ticks : ℕ) → 2 ^ k ≤ ticks → ticks < 2 * 2 ^ k → min k 31 ≡ bucket_of ticks
 unfolding bucket_of
-halving_none ticks = record { few = omega arith; is = omega arith }
-
-halvings_more : (most n : ℕ) → 1 ≤ most → 2 ≤ n → halvings most n ≡ suc (halvings (most - 1) (n / 2))
-unfolding halvings
-halvings_more zero n m h = absurd (let no : ⊥ = omega arith in no)
-halvings_more (suc most) n m h =
-    let e : suc most - 1 ≡ most = omega arith in
-    sym (lt_no n 2 _ 0 _ h refl) ∙ ap (λ (i : ℕ). suc (halvings i (n / 2))) (sym e)
-
-halvings_none : (most n : ℕ) → n < 2 → halvings most n ≡ 0
-unfolding halvings
-halvings_none zero n h = refl
-halvings_none (suc most) n h = sym (lt_yes n 2 0 0 _ h refl)
-
--- the loop's test
-pub halving_test : (k n : ℕ) → (ltb k 31 && leb 2 n) ≡ true → (k < 31) × (2 ≤ n)
-halving_test k n e = let t = both (ltb k 31) (leb 2 n) e in (ltb-true k 31 t.0, leb-true 2 n t.1)
-
-module _ {ticks n k : ℕ} (g : Halving ticks n k) where
-  pub halving_more : k < 31 → 2 ≤ n → Halving ticks (n / 2) (k + 1)
-  halving_more l h =
-      let e : 31 - k - 1 ≡ 31 - (k + 1) = omega arith in
-      record {
-        few = omega arith;
-        is = omega (arith, g.is, halvings_more (31 - k) n (omega arith) h, ap (λ (i : ℕ). halvings i (n / 2)) e);
-      }
-
-  halving_full : 31 ≤ k → k ≡ bucket_of ticks
-  unfolding halvings
-  halving_full l =
-      let e : 31 - k ≡ 0 = omega (arith, g.few) in
-      omega (arith, g.is, ap (λ (i : ℕ). halvings i n) e)
-
-  halving_low : n < 2 → k ≡ bucket_of ticks
-  halving_low l = omega (arith, g.is, halvings_none (31 - k) n l)
-
-  pub halving_over : (ltb k 31 && leb 2 n) ≡ false → k ≡ bucket_of ticks
-  halving_over = by (ltb k 31) refl
-    where
-      by : (t : Bool) → ltb k 31 ≡ t → (t && leb 2 n) ≡ false → k ≡ bucket_of ticks
-      by true e f = halving_low (omega (arith, leb-false 2 n f))
-      by false e f = halving_full (ltb-false k 31 e)
+bucket_bit k ticks low high = sym (halvings_bit 31 k ticks low high)

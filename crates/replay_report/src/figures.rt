@@ -60,17 +60,15 @@ fn kind_at(sampling: Sampling) -> usize
     }
 }
 
-// The bucket of a sample: its highest set bit.
+// The bucket of a sample: its highest set bit, and the last bucket for those above.
 fn bucket(ticks: u64) -> usize
     ensures { result ≡ bucket_of ticks }
 {
-    let mut n = ticks;
-    let mut k = 0;
-    while (k < BUCKETS - 1) & (n >= 2) {
-        n /= 2;
-        k += 1;
+    if ticks == 0 {
+        return 0;
     }
-    k
+    let highest = ticks.ilog2() as usize;
+    highest.min(BUCKETS - 1)
 }
 
 // The least sample with one more.

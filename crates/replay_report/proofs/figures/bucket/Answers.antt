@@ -1,17 +1,13 @@
--- `bucket` halves: `Halving` is the loop's invariant.
-use native.Mathlib.Omega.{arith}
-use Rattle.replay_report.proofs.Buckets.{halving_none, halving_test, halving_more, halving_over}
+-- `bucket` asks for the highest set bit, which a sample of 0 lacks.
+use Rattle.std.proofs.Common.{sym, ◌∙◌, ap}
+use Rattle.replay_report.specs.Figures.{bucket_of}
+use Rattle.replay_report.proofs.Buckets.{bucket_none, bucket_bit}
 use Rattle.replay_report.proofs.figures.bucket.Goals as goal
 
-pub loop-k-init : goal.loop-k-init
-loop-k-init c = halving_none _
-
-pub loop-k-smaller : goal.loop-k-smaller
-loop-k-smaller c = omega (arith, halving_test c.loop-k.k c.loop-k.n c.loop-k-test.true)
-
-pub loop-k-preserved : goal.loop-k-preserved
-loop-k-preserved c = let t = halving_test c.loop-k.k c.loop-k.n c.loop-k-test.true in
-    halving_more c.loop-k.invariant t.0 t.1
+pub returns-then-ticks-eq0 : goal.returns-then-ticks-eq0
+returns-then-ticks-eq0 c = bucket_none ∙ ap bucket_of (sym c.if-ticks-eq0.true)
 
 pub returns : goal.returns
-returns c = halving_over c.loop-k.invariant c.loop-k-test.false
+returns c =
+    let bit = c.ilog2-highest.ensures in
+    c.min.ensures ∙ bucket_bit c.ilog2-highest.result c.args.ticks bit.power_le bit.next_power_gt
