@@ -1,5 +1,4 @@
 -- The laws that the proofs of `replay_stream` share.
-pub mod Moving
 pub mod Behind
 pub mod Opened
 pub mod PlayLines
