@@ -20,8 +20,7 @@ fn period_passed(s: Settings, time: u64, w: Window) -> bool
     requires { w.last_adjust ≤ time }
     ensures { result ≡ period_passed s time w }
 {
-    let last_adjust = w.last_adjust;
-    time - last_adjust >= s.adjust_period
+    time - w.last_adjust >= s.adjust_period
 }
 
 // cwnd += inc_bytes/cwnd + extra, up to max_wnd; inc_bytes and received 0.
@@ -32,13 +31,12 @@ fn fulfill_adjustment(s: Settings, extra: u64, w: Window) -> Window
         × (w.base ≤ s.config_base_rtt) }
     ensures { result ≡ fulfill_adjustment_of s extra w }
 {
-    let cwnd = w.cwnd;
-    let inc_bytes = w.inc_bytes;
-    let mut n = w;
-    n.cwnd = least(cwnd + inc_bytes / cwnd + extra, max_wnd(s, w.base));
-    n.inc_bytes = 0;
-    n.received = 0;
-    n
+    Window {
+        cwnd: least(w.cwnd + w.inc_bytes / w.cwnd + extra, max_wnd(s, w.base)),
+        inc_bytes: 0,
+        received: 0,
+        ..w
+    }
 }
 
 // If received ≥ adjust_bytes or now - last_adjust ≥ adjust_period, fulfil the adjustment; if the period has passed, with eta,
@@ -52,9 +50,10 @@ pub(crate) fn adjust(s: Settings, time: u64, w: Window) -> Window
     let passed = period_passed(s, time, w);
     if enough_received(s, w) | passed {
         if passed {
-            let mut n = fulfill_adjustment(s, s.eta, w);
-            n.last_adjust = time;
-            return n;
+            return Window {
+                last_adjust: time,
+                ..fulfill_adjustment(s, s.eta, w)
+            };
         }
         return fulfill_adjustment(s, 0, w);
     }

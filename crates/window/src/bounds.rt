@@ -14,9 +14,7 @@ pub(crate) fn max_wnd(s: Settings, base: u64) -> u64
     requires base_bound { base ≤ s.config_base_rtt }
     ensures { result ≡ max_wnd_of s base }
 {
-    let maxwnd = s.maxwnd;
-    let rtt = s.config_base_rtt;
-    most(s.mtu, maxwnd * base / rtt)
+    most(s.mtu, s.maxwnd * base / s.config_base_rtt)
 }
 
 // Whether a number of EVs is allowed, by request M-110.

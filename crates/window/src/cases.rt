@@ -25,21 +25,23 @@ pub(crate) fn count_newly(newly: u64, w: Window) -> Window
     requires { (w.ignored ≤ tally_stop) × (w.received ≤ tally_stop) × (w.achieved ≤ tally_stop) × (newly < newly_end) }
     ensures { result ≡ count_newly_of newly w }
 {
-    let mut n = w;
-    n.ignored = add_to_tally(w.ignored, newly);
-    n.received = add_to_tally(w.received, newly);
-    n.achieved = add_to_tally(w.achieved, newly);
-    n
+    Window {
+        ignored: add_to_tally(w.ignored, newly),
+        received: add_to_tally(w.received, newly),
+        achieved: add_to_tally(w.achieved, newly),
+        ..w
+    }
 }
 
 // Fast mode off, fi_count 0.
 fn leave_fast_mode(w: Window) -> Window
     ensures { result ≡ leave_fast_mode_of w }
 {
-    let mut n = w;
-    n.fast = OFF;
-    n.fi_count = 0;
-    n
+    Window {
+        fast: OFF,
+        fi_count: 0,
+        ..w
+    }
 }
 
 // cwnd += newly, up to max_wnd.
@@ -48,10 +50,10 @@ fn raise_cwnd(s: Settings, newly: u64, w: Window) -> Window
     requires cwnd_le_window_most { (w.cwnd ≤ window_most) × (newly < newly_end) × (w.base ≤ s.config_base_rtt) }
     ensures { result ≡ raise_cwnd_of s newly w }
 {
-    let cwnd = w.cwnd;
-    let mut n = w;
-    n.cwnd = least(cwnd + newly, max_wnd(s, w.base));
-    n
+    Window {
+        cwnd: least(w.cwnd + newly, max_wnd(s, w.base)),
+        ..w
+    }
 }
 
 // delay ≤ base/8.
@@ -73,16 +75,17 @@ fn fast_increase(s: Settings, newly: u64, delay: u64, w: Window) -> Window
             return raise_cwnd(s, newly, w);
         }
         let more = add_to_tally(w.fi_count, newly);
-        let cwnd = w.cwnd;
-        if more > cwnd {
-            let mut n = raise_cwnd(s, newly, w);
-            n.fi_count = more;
-            n.fast = ON;
-            return n;
+        if more > w.cwnd {
+            return Window {
+                fi_count: more,
+                fast: ON,
+                ..raise_cwnd(s, newly, w)
+            };
         }
-        let mut n = w;
-        n.fi_count = more;
-        return n;
+        return Window {
+            fi_count: more,
+            ..w
+        };
     }
     leave_fast_mode(w)
 }
@@ -92,10 +95,10 @@ fn add_inc_bytes(n: u64, w: Window) -> Window
     requires { (w.inc_bytes ≤ inc_stop) × (n ≤ inc_stop) }
     ensures { result ≡ add_inc_bytes_of n w }
 {
-    let inc_bytes = w.inc_bytes;
-    let mut v = w;
-    v.inc_bytes = least(inc_bytes + n, crate::INC_STOP);
-    v
+    Window {
+        inc_bytes: least(w.inc_bytes + n, crate::INC_STOP),
+        ..w
+    }
 }
 
 // Fast increase; then, where the mode is off, inc_bytes += alpha·newly·(target - delay).
@@ -110,9 +113,7 @@ fn proportional_increase(s: Settings, newly: u64, delay: u64, w: Window) -> Wind
     if is_on(v.fast) {
         return v;
     }
-    let alpha = s.alpha;
-    let target = s.target_qdelay;
-    add_inc_bytes(alpha * newly * (target - delay), v)
+    add_inc_bytes(s.alpha * newly * (s.target_qdelay - delay), v)
 }
 
 // Mode off, fi_count 0; inc_bytes += fi·newly. UET 3.6.13.6, fair_increase.
@@ -121,8 +122,7 @@ fn fair_increase(s: Settings, newly: u64, w: Window) -> Window
     requires inc_bytes_bound { (w.inc_bytes ≤ inc_stop) × (newly < newly_end) }
     ensures { result ≡ fair_increase_of s newly w }
 {
-    let fi = s.fi;
-    add_inc_bytes(fi * newly, leave_fast_mode(w))
+    add_inc_bytes(s.fi * newly, leave_fast_mode(w))
 }
 
 // max(1,024 - gamma·(avg - target)/avg, max_md_jump): how many parts of 1,024 a cut leaves of the window.
@@ -130,9 +130,10 @@ fn factor(s: Settings, avg: u64) -> u64
     requires { (s.gamma ≤ parts) × (s.target_qdelay < avg) × (avg ≤ avg_most) }
     ensures { result ≡ factor_of s avg }
 {
-    let gamma = s.gamma;
-    let target = s.target_qdelay;
-    most(crate::PARTS - gamma * (avg - target) / avg, s.max_md_jump)
+    most(
+        crate::PARTS - s.gamma * (avg - s.target_qdelay) / avg,
+        s.max_md_jump,
+    )
 }
 
 // Not ignored < bytes_to_ignore, and avg > target, and now - last_dec > base.
@@ -140,11 +141,9 @@ fn may_decrease(s: Settings, time: u64, w: Window) -> bool
     requires { w.last_dec ≤ time }
     ensures { result ≡ may_decrease s time w }
 {
-    let ignored = w.ignored;
-    let bytes_to_ignore = w.bytes_to_ignore;
-    let last_dec = w.last_dec;
-    let base = w.base;
-    !(ignored < bytes_to_ignore) & (avg_delay(w.avg) > s.target_qdelay) & (time - last_dec > base)
+    !(w.ignored < w.bytes_to_ignore)
+        & (avg_delay(w.avg) > s.target_qdelay)
+        & (time - w.last_dec > w.base)
 }
 
 // Mode off, fi_count 0; then, if the window may decrease, cwnd = max(cwnd·factor/1,024, MTU), last_dec = now.
@@ -154,13 +153,14 @@ fn multiplicative_decrease(s: Settings, time: u64, w: Window) -> Window
     requires sound_window { SoundWindow s time w }
     ensures { result ≡ multiplicative_decrease_of s time w }
 {
-    let mut n = leave_fast_mode(w);
+    let n = leave_fast_mode(w);
     if may_decrease(s, time, w) {
-        let cwnd = w.cwnd;
         let left = factor(s, avg_delay(w.avg));
-        n.cwnd = most(cwnd * left / crate::PARTS, s.mtu);
-        n.last_dec = time;
-        return n;
+        return Window {
+            cwnd: most(w.cwnd * left / crate::PARTS, s.mtu),
+            last_dec: time,
+            ..n
+        };
     }
     n
 }

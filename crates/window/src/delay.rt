@@ -108,10 +108,11 @@ pub(crate) fn update_base_rtt(s: Settings, sample: Option<u64>, w: Window) -> Wi
     if w.base <= t {
         return w;
     }
-    let mut n = w;
-    n.base = t;
-    n.cwnd = least(w.cwnd, max_wnd(s, t));
-    n
+    Window {
+        base: t,
+        cwnd: least(w.cwnd, max_wnd(s, t)),
+        ..w
+    }
 }
 
 // Sample and filter of an ACK: delay = sample - base. Without a sample the delay is the average, and the filter is not fed (H).
@@ -129,10 +130,10 @@ pub(crate) fn measure(s: Settings, marked: bool, sample: Option<u64>, w: Window)
         };
     };
     let v = update_base_rtt(s, sample, w);
-    let base = v.base;
-    let delay = t - base;
-    let avg = update_delay(w.avg, feed(s.target_qdelay, base, marked, delay));
-    let mut n = v;
-    n.avg = avg;
-    Delayed { window: n, delay }
+    let delay = t - v.base;
+    let window = Window {
+        avg: update_delay(w.avg, feed(s.target_qdelay, v.base, marked, delay)),
+        ..v
+    };
+    Delayed { window, delay }
 }

@@ -52,10 +52,10 @@ fn shrink(s: Settings, size: u64, a: Adapted) -> Window
     if a.fired {
         return w;
     }
-    let cwnd = w.cwnd;
-    let mut n = w;
-    n.cwnd = most(cwnd - size, s.mtu);
-    n
+    Window {
+        cwnd: most(w.cwnd - size, s.mtu),
+        ..w
+    }
 }
 
 // The window after the loss of a packet of size bytes, or once it is trimmed: ignored += size, trigger on, quick adapt, and unless it fired
@@ -66,9 +66,11 @@ pub fn loss(s: Settings, time: u64, size: u64, in_flight: i64, w: Window) -> Win
     requires size_le_mtu { (size ≤ s.mtu) × (time < time_end) × (above_zero in_flight ≤ s.maxwnd) }
     ensures { Kept s time (loss_of s time size in_flight w) result }
 {
-    let mut n = w;
-    n.ignored = add_to_tally(w.ignored, size);
-    n.trigger = ON;
+    let n = Window {
+        ignored: add_to_tally(w.ignored, size),
+        trigger: ON,
+        ..w
+    };
     shrink(s, size, quick_adapt(s, time, true, true, 0, in_flight, n))
 }
 
@@ -98,8 +100,10 @@ pub fn nack(
 {
     let v = update_base_rtt(s, sample, w);
     if is_trimmed(reason) {
-        let mut n = v;
-        n.avg = update_delay(v.avg, s.config_base_rtt);
+        let n = Window {
+            avg: update_delay(v.avg, s.config_base_rtt),
+            ..v
+        };
         return loss(s, time, size, in_flight, n);
     }
     v

@@ -28,14 +28,15 @@ fn fires(s: Settings, loss: bool, marked: bool, delay: u64, w: Window) -> bool
 fn fire(s: Settings, in_flight: i64, w: Window) -> Window
     ensures { result ≡ fire_of s in_flight w }
 {
-    let mut n = w;
-    n.cwnd = most(w.achieved, s.mtu);
-    n.bytes_to_ignore = above_zero(in_flight);
-    n.ignored = 0;
-    n.trigger = OFF;
-    n.fast = OFF;
-    n.fi_count = 0;
-    n
+    Window {
+        cwnd: most(w.achieved, s.mtu),
+        bytes_to_ignore: above_zero(in_flight),
+        ignored: 0,
+        trigger: OFF,
+        fast: OFF,
+        fi_count: 0,
+        ..w
+    }
 }
 
 // achieved 0, end = now + base + target: the next round.
@@ -43,11 +44,11 @@ fn restart(s: Settings, time: u64, w: Window) -> Window
     requires { (time < time_end) × (w.base ≤ delay_most) × (s.target_qdelay ≤ delay_most) }
     ensures { result ≡ restart_of s time w }
 {
-    let base = w.base;
-    let mut n = w;
-    n.achieved = 0;
-    n.qa_end = time + base + s.target_qdelay;
-    n
+    Window {
+        achieved: 0,
+        qa_end: time + w.base + s.target_qdelay,
+        ..w
+    }
 }
 
 // Nothing if disabled or now < end; else it fires or not, and starts its next round. On a loss or not, with the M flag and the delay.

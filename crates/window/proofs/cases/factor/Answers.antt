@@ -6,13 +6,13 @@ use Rattle.window.specs.Cases.{factor_of}
 use Rattle.window.proofs.Numbers.{product, share}
 use Rattle.window.proofs.cases.factor.Goals as goal
 
-pub overflow_mul-gamma : goal.overflow_mul-gamma
-overflow_mul-gamma c =
+pub overflow_mul-s : goal.overflow_mul-s
+overflow_mul-s c =
     let left : c.args.avg - c.args.s.target_qdelay ≤ avg_most = omega arith in
     omega (arith, product parts avg_most (2 ^ 40) c.requires.0 left tt)
 
-pub overflow_sub-gamma : goal.overflow_sub-gamma
-overflow_sub-gamma c =
+pub overflow_sub-s : goal.overflow_sub-s
+overflow_sub-s c =
     omega (arith, share c.args.s.gamma (c.args.avg - c.args.s.target_qdelay) c.args.avg (omega arith))
 
 pub returns : goal.returns

@@ -4,8 +4,8 @@ use Rattle.window.specs.Cases.{leave_fast_mode_of, fair_increase_of}
 use Rattle.window.proofs.Numbers.{fi_fits}
 use Rattle.window.proofs.cases.fair_increase.Goals as goal
 
-pub overflow_mul-fi : goal.overflow_mul-fi
-overflow_mul-fi c = omega (arith, fi_fits c.args.s.fi c.args.newly c.requires.in_range.fi_high c.requires.inc_bytes_bound.1)
+pub overflow_mul-s : goal.overflow_mul-s
+overflow_mul-s c = omega (arith, fi_fits c.args.s.fi c.args.newly c.requires.in_range.fi_high c.requires.inc_bytes_bound.1)
 
 pub add_inc_bytes-requires : goal.add_inc_bytes-requires
 unfolding leave_fast_mode_of

@@ -9,17 +9,17 @@ returns-then-is_on c =
     simp (← c.is_near.ensures, ← c.is_on.ensures, ← c.raise_cwnd.ensures)
     (search (branches, c.if-is_near.true, c.if-is_on.true) depth 12)
 
-pub returns-then-more-cwnd : goal.returns-then-more-cwnd
+pub returns-then-more-w : goal.returns-then-more-w
 unfolding fast_increase_of
-returns-then-more-cwnd c =
-    simp (← c.is_near.ensures, ← c.is_on.ensures, ← c.add_to_tally-more.ensures, ← c.raise_cwnd-n.ensures)
-    (search (branches, c.if-is_near.true, c.if-is_on.false, c.if-more-cwnd.true) depth 12)
+returns-then-more-w c =
+    simp (← c.is_near.ensures, ← c.is_on.ensures, ← c.add_to_tally-more.ensures, ← c.raise_cwnd-then-more-w.ensures)
+    (search (branches, c.if-is_near.true, c.if-is_on.false, c.if-more-w.true) depth 12)
 
 pub returns-then-is_near : goal.returns-then-is_near
 unfolding fast_increase_of
 returns-then-is_near c =
     simp (← c.is_near.ensures, ← c.is_on.ensures, ← c.add_to_tally-more.ensures)
-    (search (branches, c.if-is_near.true, c.if-is_on.false, c.if-more-cwnd.false) depth 12)
+    (search (branches, c.if-is_near.true, c.if-is_on.false, c.if-more-w.false) depth 12)
 
 pub returns : goal.returns
 unfolding fast_increase_of

@@ -16,8 +16,8 @@ factor-left-requires c =
     let above = may_decrease_above _ _ _ (sym c.may_decrease.ensures ∙ c.if-may_decrease.true) in
     omega (arith, above, c.avg_delay.ensures, c.requires.in_range.gamma_high, c.requires.sound_window.avg_high)
 
-pub overflow_mul-cwnd : goal.overflow_mul-cwnd
-overflow_mul-cwnd c =
+pub overflow_mul-w : goal.overflow_mul-w
+overflow_mul-w c =
     let q = c.requires in
     let left : c.factor-left.result ≤ parts = rw c.factor-left.ensures (factor_high q.in_range _) in
     omega (arith, product window_most parts (2 ^ 36) (cwnd_most q.in_range q.sound_window) left tt)

@@ -20,11 +20,11 @@ pub returns-then-is_on : goal.returns-then-is_on
 unfolding proportional_increase_of
 returns-then-is_on c = simp (← c.fast_increase-v.ensures, ← c.is_on.ensures) (search (branches, c.if-is_on.true) depth 12)
 
-pub overflow_mul-alpha : goal.overflow_mul-alpha
-overflow_mul-alpha c = omega (arith, rise c.requires.in_range c.args.newly c.args.delay c.requires.cwnd_le_window_most.1)
+pub overflow_mul-s : goal.overflow_mul-s
+overflow_mul-s c = omega (arith, rise c.requires.in_range c.args.newly c.args.delay c.requires.cwnd_le_window_most.1)
 
-pub overflow_mul-alpha-2 : goal.overflow_mul-alpha-2
-overflow_mul-alpha-2 c = omega (arith, rise c.requires.in_range c.args.newly c.args.delay c.requires.cwnd_le_window_most.1)
+pub overflow_mul-s-2 : goal.overflow_mul-s-2
+overflow_mul-s-2 c = omega (arith, rise c.requires.in_range c.args.newly c.args.delay c.requires.cwnd_le_window_most.1)
 
 pub add_inc_bytes-requires : goal.add_inc_bytes-requires
 add_inc_bytes-requires c =

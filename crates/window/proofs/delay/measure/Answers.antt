@@ -26,8 +26,8 @@ feed-requires c =
     let base = base_is c.args.s c.in-Some.t c.args.w c.update_base_rtt-v.ensures in
     omega (arith, base, c.requires.in_range.rtt_high, c.requires.base_bound.0)
 
-pub update_delay-avg-requires : goal.update_delay-avg-requires
-update_delay-avg-requires c =
+pub update_delay-requires : goal.update_delay-requires
+update_delay-requires c =
     let high = c.requires.sampled.high _ c.in-Some.is in
     let base = base_is c.args.s c.in-Some.t c.args.w c.update_base_rtt-v.ensures in
     (c.requires.base_bound.2, rw c.feed.ensures (feed_under _ _ _ _ _ (omega (arith, base, high)) (omega (arith, high))))
@@ -36,4 +36,4 @@ pub returns : goal.returns
 returns c =
     let a = c.args in
     measure_by a.s a.sample a.w a.marked c.in-Some.t c.update_base_rtt-v.result _ _
-    c.in-Some.is c.update_base_rtt-v.ensures c.feed.ensures c.update_delay-avg.ensures
+    c.in-Some.is c.update_base_rtt-v.ensures c.feed.ensures c.update_delay.ensures
