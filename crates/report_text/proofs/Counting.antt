@@ -38,7 +38,8 @@ module _ (label : List ℕ) (number place : ℕ) (figures : List ℕ) where
   listed_none out at = record { words = put_none out at; most = omega arith }
 
   pub listed_more : {out₀ : List ℕ} {at : ℕ} {out : List ℕ} {p k : ℕ} → Listed out₀ at label number place figures out p k
-      → {after : List ℕ} {next : ℕ} → Put out p (count_line label (number + k) (get_or figures (place + k) 0)) after next → next ≤ p + line_most
+      → {after : List ℕ} {next : ℕ} → Put out p (count_line label (number + k) (get_or figures (place + k) 0)) after next
+      → next ≤ p + line_most
       → Listed out₀ at label number place figures after next (k + 1)
   unfolding count_lines
   listed_more {out₀} {at} {out} {p} {k} g {after} {next} line short =
