@@ -1,7 +1,9 @@
 -- The ring's memory as contracts name it: the four lent slices as they are given, before the call and after it.
 -- Assumes nothing.
-use Rattle.std.specs.Prelude.{ℕ, List}
+use Rattle.std.specs.Prelude.{◌≡◌, ℕ, List}
 use Rattle.ledger.specs.Memory.{Memory, memory}
+use Rattle.ledger.specs.declared.ring.Ring.{Ring}
+use Rattle.ledger.specs.declared.ring.RingMut.{RingMut}
 
 -- what a lent slice holds, as a `requires` sees it: `.now` of one that is lent to be read, else `.old`
 abbrev pub Slice : Type 0
@@ -19,3 +21,19 @@ memory_before outstanding marked sizes sent = memory_given outstanding marked si
 
 abbrev pub memory_after : LentSlice → LentSlice → LentSlice → LentSlice → Memory
 memory_after outstanding marked sizes sent = memory_given outstanding marked sizes sent
+
+-- ---- the ring that is lent as one value: `ring` or `ring.entry` of one that is lent to be read, `ring.old` and `ring.new` of another
+
+abbrev pub memory_of : Ring → Memory
+memory_of r = memory r.outstanding.now r.marked.now r.sizes.now r.sent.now
+
+abbrev pub memory_of_mut : RingMut → Memory
+memory_of_mut r = memory r.outstanding.now r.marked.now r.sizes.now r.sent.now
+
+-- its slices are still those that were lent: what is written to them reaches whoever lent them
+abbrev pub IsSameLoan : RingMut → RingMut → Type 0
+IsSameLoan before after =
+    (after.outstanding.ghost_name ≡ before.outstanding.ghost_name)
+    × (after.marked.ghost_name ≡ before.marked.ghost_name)
+    × (after.sizes.ghost_name ≡ before.sizes.ghost_name)
+    × (after.sent.ghost_name ≡ before.sent.ghost_name)

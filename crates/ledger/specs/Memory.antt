@@ -98,6 +98,10 @@ kept f t m = record { flow = f; totals = t; slots = m }
 unfoldable pub kept_of : Ledger → Kept
 kept_of l = kept l.flow l.totals (stored l.slots)
 
+-- every number has 64 bits
+abbrev pub AreWords : List ℕ → Type 0
+AreWords words = (q : ℕ) → q < length words → is_word (slice_index words q) ≡ true
+
 -- every word of the bits has 64 bits
 pub record Words (m : Memory) : Type 0 where
   pub outstanding : (q : ℕ) → q < length m.outstanding → is_word (slice_index m.outstanding q) ≡ true

@@ -4,7 +4,7 @@ ghost use Rattle.std.specs.Prelude.{◌≡◌, ◌+◌, ◌-◌, ◌*◌, ◌<�
 ghost use Rattle.rules.specs.Rows.{first_of};
 ghost use Rattle.bits.specs.Bits.{word_bits, without};
 ghost use Rattle.serial.specs.Psn.{plus};
-ghost use Rattle.ledger.specs.Lent.{memory_given, memory_before, memory_after};
+ghost use Rattle.ledger.specs.Lent.{memory_given, memory_before, memory_after, memory_of_mut, IsSameLoan};
 ghost use Rattle.ledger.specs.Packets.{done_run};
 ghost use Rattle.ledger.specs.Memory.{shown, ledger_shown, kept, kept_of};
 ghost use Rattle.ledger.specs.Ring.{queue_of, long_of};
@@ -14,6 +14,7 @@ ghost use Rattle.ledger.specs.Rows.{ack_rows};
 ghost use Rattle.ledger.specs.Delivery.{lessened, Counted, Standing, Reached, Covered, Retired};
 
 use crate::judge::{less, newly};
+use crate::ring::RingMut;
 use crate::slots::{long, place};
 use crate::stretch::bytes_in;
 use crate::{Books, Flow, Totals};
@@ -162,21 +163,17 @@ fn held_after(count: u32, held: u64) -> u64
 }
 
 // The ledger after an ACK. An inner step: the caller proves that the ledger holds together and that no row refuses the ACK.
-pub fn acknowledge<'a, 'b, 'c, 'd>(
-    cum: u32,
-    map: u64,
-    count: u32,
-    books: Books,
-    outstanding: &'a mut [u64],
-    marked: &'b mut [u64],
-    sizes: &'c mut [u32],
-    sent: &'d mut [u64],
-) -> Books
-    requires sound_ledger { SoundLedger (ledger_shown books.flow books.totals (memory_given outstanding.old marked.old sizes.old sent.old)) }
+pub fn acknowledge(cum: u32, map: u64, count: u32, books: Books, ring: &mut RingMut<'_>) -> Books
+    requires sound_ledger { SoundLedger (ledger_shown books.flow books.totals (memory_of_mut ring.old)) }
     requires count_value { first_of (ack_rows books.flow books.totals.in_flight cum map count) ≡ 0 }
-    ensures { kept result.flow result.totals (memory_after outstanding.new marked.new sizes.new sent.new)
-        ≡ kept_of (acknowledge_of cum map count (ledger_shown books.flow books.totals (memory_before outstanding.old marked.old sizes.old sent.old))) }
+    ensures same_loan { IsSameLoan ring.old ring.new }
+    ensures kept { kept result.flow result.totals (memory_of_mut ring.new)
+        ≡ kept_of (acknowledge_of cum map count (ledger_shown books.flow books.totals (memory_of_mut ring.old))) }
 {
+    let outstanding: &mut [u64] = ring.outstanding;
+    let marked: &mut [u64] = ring.marked;
+    let sizes: &mut [u32] = ring.sizes;
+    let sent: &mut [u64] = ring.sent;
     let mut flow = books.flow;
     let low = flow.low;
     let held = flow.held;

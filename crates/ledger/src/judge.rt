@@ -3,13 +3,14 @@
 ghost use Rattle.std.specs.Prelude.{◌≡◌, ◌*◌, ◌^◌, ◌<◌, pos, ◌-ℤ◌};
 ghost use Rattle.rules.specs.Rows.{first_of};
 ghost use Rattle.rules.specs.Verdict.{number_of};
-ghost use Rattle.ledger.specs.Lent.{memory_given, memory_before};
+ghost use Rattle.ledger.specs.Lent.{memory_of};
 ghost use Rattle.ledger.specs.Memory.{shown};
 ghost use Rattle.ledger.specs.Bounds.{sinks, Flown};
 ghost use Rattle.ledger.specs.Sound.{Lengths};
 ghost use Rattle.ledger.specs.Steps.{newly_of};
 ghost use Rattle.ledger.specs.Rows.{new_rows, resend_rows, ack_rows, mark_rows};
 
+use crate::ring::Ring;
 use crate::slots::{find, long};
 use crate::{Books, Flow};
 use rules::verdict::{Refusal, Verdict};
@@ -58,20 +59,12 @@ pub fn judge_new(flow: Flow, cap: usize, psn: u32, size: u32) -> Verdict
 }
 
 // A resend: 8.
-pub fn judge_resend<'a>(
-    flow: Flow,
-    outstanding: &'a [u64],
-    marked: &'a [u64],
-    sizes: &'a [u32],
-    sent: &'a [u64],
-    psn: u32,
-    bytes: u32,
-) -> Verdict
-    requires { Lengths (memory_given outstanding.now marked.now sizes.now sent.now) }
+pub fn judge_resend(flow: Flow, ring: Ring<'_>, psn: u32, bytes: u32) -> Verdict
+    requires { Lengths (memory_of ring) }
     ensures { number_of result
-        ≡ first_of (resend_rows flow (shown flow.low flow.next (memory_before outstanding.now marked.now sizes.now sent.now)) psn bytes) }
+        ≡ first_of (resend_rows flow (shown flow.low flow.next (memory_of ring.entry)) psn bytes) }
 {
-    let x = find(flow, outstanding, marked, sizes, sent, psn);
+    let x = find(flow, ring, psn);
     if (x.status != crate::MARKED) | (bytes != x.size) {
         return Err(Refusal::WrongPsn);
     }
@@ -95,22 +88,15 @@ pub fn judge_ack(books: Books, cum: u32, map: u64, count: u32) -> Verdict
 }
 
 // A NACK or a loss: 10, 11.
-pub fn judge_mark<'a>(
-    books: Books,
-    outstanding: &'a [u64],
-    marked: &'a [u64],
-    sizes: &'a [u32],
-    sent: &'a [u64],
-    psn: u32,
-) -> Verdict
-    requires lengths { Lengths (memory_given outstanding.now marked.now sizes.now sent.now) }
+pub fn judge_mark(books: Books, ring: Ring<'_>, psn: u32) -> Verdict
+    requires lengths { Lengths (memory_of ring) }
     requires flown { Flown (2 ^ 26) books.totals.in_flight }
     ensures { number_of result ≡ first_of (mark_rows books.flow books.totals.in_flight
-        (shown books.flow.low books.flow.next (memory_before outstanding.now marked.now sizes.now sent.now)) psn) }
+        (shown books.flow.low books.flow.next (memory_of ring.entry)) psn) }
 {
     let flow = books.flow;
     let totals = books.totals;
-    let x = find(flow, outstanding, marked, sizes, sent, psn);
+    let x = find(flow, ring, psn);
     if x.status != crate::FLYING {
         return Err(Refusal::NotFlying);
     }

@@ -1,10 +1,11 @@
-// The ledger of sent packets: document 01, "The ledger". The ring is lent as four slices (request M-109): a bit a slot of those outstanding
-// and one of those marked, in words of 64; a slot's size and resend count in one number; its send time. PSN p lives at p mod capacity.
+// The ledger of sent packets: document 01, "The ledger". The ring is lent as four slices (request M-109), which `ring` holds together. PSN p
+// lives at p mod capacity.
 #![tactic(auto)]
 
 pub mod deliver;
 pub mod judge;
 pub mod mark;
+pub mod ring;
 pub mod seek;
 pub mod send;
 pub mod slots;

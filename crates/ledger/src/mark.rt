@@ -10,6 +10,7 @@ ghost use Rattle.ledger.specs.Steps.{mark_of};
 
 use crate::Books;
 use crate::judge::less;
+use crate::ring::Ring;
 use crate::slots::{find, place};
 
 // Flying becomes marked; in-flight falls by the recorded size.
@@ -33,7 +34,13 @@ pub fn mark<'a, 'b>(
     let flying = totals.flying;
     let waiting = totals.marked;
     let marked_bytes = totals.marked_bytes;
-    let x = find(flow, outstanding, marked, sizes, sent, psn);
+    let ring = Ring {
+        outstanding,
+        marked,
+        sizes,
+        sent,
+    };
+    let x = find(flow, ring, psn);
     let bytes = x.size as u64;
     let i = place(sent.len(), psn);
     bits::put(marked, i, true);

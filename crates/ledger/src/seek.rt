@@ -1,13 +1,14 @@
 // Packets looked for by their bits, a word at a time. Inner steps: the caller proves that the ledger holds together.
 ghost use Rattle.std.specs.Prelude.{◌≡◌, ◌*◌, ◌≤◌, true, length};
 ghost use Rattle.bits.specs.Bits.{word_bits, bit_at, lowest};
-ghost use Rattle.ledger.specs.Lent.{memory_given, memory_before};
+ghost use Rattle.ledger.specs.Lent.{memory_of};
 ghost use Rattle.ledger.specs.Memory.{shown, ledger_shown};
 ghost use Rattle.ledger.specs.Ring.{place_of};
 ghost use Rattle.ledger.specs.Seek.{next_marked_of};
 ghost use Rattle.ledger.specs.Sound.{is_capacity, SoundLedger};
 
 use crate::Books;
+use crate::ring::Ring;
 use crate::slots::{long, place};
 
 // How many of the n packets from low on stand before the first whose bit is set.
@@ -36,23 +37,16 @@ pub(crate) fn front(words: &[u64], low: u32, n: u32) -> u32
 }
 
 // The first marked PSN from psn on; next where there is none, or where psn is not one of low..next-1.
-pub fn next_marked<'a>(
-    books: Books,
-    outstanding: &'a [u64],
-    marked: &'a [u64],
-    sizes: &'a [u32],
-    sent: &'a [u64],
-    psn: u32,
-) -> u32
-    requires { SoundLedger (ledger_shown books.flow books.totals (memory_given outstanding.now marked.now sizes.now sent.now)) }
+pub fn next_marked(books: Books, ring: Ring<'_>, psn: u32) -> u32
+    requires { SoundLedger (ledger_shown books.flow books.totals (memory_of ring)) }
     ensures { result ≡ next_marked_of books.flow
-        (shown books.flow.low books.flow.next (memory_before outstanding.now marked.now sizes.now sent.now)) psn }
+        (shown books.flow.low books.flow.next (memory_of ring.entry)) psn }
 {
     let flow = books.flow;
     let n = long(flow);
     let offset = serial::psn_minus(psn, flow.low);
     if offset < n {
-        return serial::psn_plus(psn, front(marked, psn, n - offset));
+        return serial::psn_plus(psn, front(ring.marked, psn, n - offset));
     }
     flow.next
 }

@@ -1,6 +1,6 @@
 // New data, a new packet, and a resend. Inner steps: the caller proves that the ledger holds together and that no row refuses the event.
 ghost use Rattle.std.specs.Prelude.{◌≡◌, ◌+◌, ◌^◌, ◌<◌, ◌≤◌, min, true, pos, ◌+ℤ◌};
-ghost use Rattle.ledger.specs.Lent.{memory_given, memory_before, memory_after};
+ghost use Rattle.ledger.specs.Lent.{memory_of_mut, IsSameLoan};
 ghost use Rattle.ledger.specs.Memory.{size_end, slots_of, shown, ledger_shown, kept, kept_of};
 ghost use Rattle.ledger.specs.Packets.{is_marked};
 ghost use Rattle.ledger.specs.Bounds.{backlog_most, resent_most, Flown};
@@ -9,6 +9,7 @@ ghost use Rattle.ledger.specs.Sound.{SoundLedger};
 ghost use Rattle.ledger.specs.Steps.{supplied, supplied_totals, push_of, resend_of};
 
 use crate::Books;
+use crate::ring::RingMut;
 use crate::slots::{find, fly, place};
 
 // New data: the backlog rises, and the total over all flows with it.
@@ -35,20 +36,13 @@ fn more(in_flight: i64, bytes: u64) -> i64
 }
 
 // A new packet behind the others.
-pub fn push<'a, 'b, 'c, 'd>(
-    time: u64,
-    bytes: u32,
-    books: Books,
-    outstanding: &'a mut [u64],
-    marked: &'b mut [u64],
-    sizes: &'c mut [u32],
-    sent: &'d mut [u64],
-) -> Books
-    requires sound_ledger { SoundLedger (ledger_shown books.flow books.totals (memory_given outstanding.old marked.old sizes.old sent.old)) }
+pub fn push(time: u64, bytes: u32, books: Books, ring: &mut RingMut<'_>) -> Books
+    requires sound_ledger { SoundLedger (ledger_shown books.flow books.totals (memory_of_mut ring.old)) }
     requires bytes_le_backlog { (bytes ≤ books.flow.backlog) × (bytes < size_end) }
-    requires flow_bound { long_of books.flow < slots_of (memory_given outstanding.old marked.old sizes.old sent.old) }
-    ensures { kept result.flow result.totals (memory_after outstanding.new marked.new sizes.new sent.new)
-        ≡ kept_of (push_of time bytes (ledger_shown books.flow books.totals (memory_before outstanding.old marked.old sizes.old sent.old))) }
+    requires flow_bound { long_of books.flow < slots_of (memory_of_mut ring.old) }
+    ensures same_loan { IsSameLoan ring.old ring.new }
+    ensures kept { kept result.flow result.totals (memory_of_mut ring.new)
+        ≡ kept_of (push_of time bytes (ledger_shown books.flow books.totals (memory_of_mut ring.old))) }
 {
     let mut flow = books.flow;
     let mut totals = books.totals;
@@ -56,8 +50,8 @@ pub fn push<'a, 'b, 'c, 'd>(
     let backlog = flow.backlog;
     let all = totals.backlog;
     let flying = totals.flying;
-    let i = place(sent.len(), next);
-    fly(outstanding, marked, sizes, sent, i, bytes, 0, time);
+    let i = place(ring.sent.len(), next);
+    fly(ring, i, bytes, 0, time);
     flow.next = serial::psn_plus(next, 1);
     flow.backlog = backlog - bytes as u64;
     totals.backlog = all - bytes as u64;
@@ -78,40 +72,24 @@ fn once_more(resent: u32) -> u32
 }
 
 // A marked packet flies again.
-pub fn resend<'a, 'b, 'c, 'd>(
-    time: u64,
-    psn: u32,
-    books: Books,
-    outstanding: &'a mut [u64],
-    marked: &'b mut [u64],
-    sizes: &'c mut [u32],
-    sent: &'d mut [u64],
-) -> Books
-    requires sound_ledger { SoundLedger (ledger_shown books.flow books.totals (memory_given outstanding.old marked.old sizes.old sent.old)) }
+pub fn resend(time: u64, psn: u32, books: Books, ring: &mut RingMut<'_>) -> Books
+    requires sound_ledger { SoundLedger (ledger_shown books.flow books.totals (memory_of_mut ring.old)) }
     requires psn_value { is_marked (packet_of books.flow (shown books.flow.low books.flow.next
-        (memory_given outstanding.old marked.old sizes.old sent.old)) psn)
+        (memory_of_mut ring.old)) psn)
         ≡ true }
-    ensures { kept result.flow result.totals (memory_after outstanding.new marked.new sizes.new sent.new)
-        ≡ kept_of (resend_of time psn (ledger_shown books.flow books.totals (memory_before outstanding.old marked.old sizes.old sent.old))) }
+    ensures same_loan { IsSameLoan ring.old ring.new }
+    ensures kept { kept result.flow result.totals (memory_of_mut ring.new)
+        ≡ kept_of (resend_of time psn (ledger_shown books.flow books.totals (memory_of_mut ring.old))) }
 {
     let flow = books.flow;
     let mut totals = books.totals;
     let flying = totals.flying;
     let waiting = totals.marked;
     let marked_bytes = totals.marked_bytes;
-    let x = find(flow, outstanding, marked, sizes, sent, psn);
+    let x = find(flow, ring.look(), psn);
     let bytes = x.size as u64;
-    let i = place(sent.len(), psn);
-    fly(
-        outstanding,
-        marked,
-        sizes,
-        sent,
-        i,
-        x.size,
-        once_more(x.resent),
-        time,
-    );
+    let i = place(ring.sent.len(), psn);
+    fly(ring, i, x.size, once_more(x.resent), time);
     totals.flying = flying + 1;
     totals.marked = waiting - 1;
     totals.marked_bytes = marked_bytes - bytes;

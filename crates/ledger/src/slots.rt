@@ -1,12 +1,13 @@
 // Slots of the ring: where a PSN lives, what its slot shows. Inner steps: the caller proves that the slices' lengths go together.
 ghost use Rattle.std.specs.Prelude.{◌≡◌, ◌*◌, ◌%◌, ◌<◌, ◌≤◌, true, false, length, slice_set};
-ghost use Rattle.bits.specs.Bits.{word_bits, put_bit};
+ghost use Rattle.bits.specs.Bits.{word_bits, bit_at, put_bit};
 ghost use Rattle.ledger.specs.Bounds.{resent_most};
-ghost use Rattle.ledger.specs.Lent.{memory_given, memory_before, memory_after};
-ghost use Rattle.ledger.specs.Memory.{memory, shown, status_of, size_end, packed, size_in, resent_in};
+ghost use Rattle.ledger.specs.Lent.{memory_of, memory_of_mut, IsSameLoan};
+ghost use Rattle.ledger.specs.Memory.{memory, AreWords, shown, status_of, size_end, packed, size_in, resent_in};
 ghost use Rattle.ledger.specs.Ring.{long_of, packet_of};
 ghost use Rattle.ledger.specs.Sound.{is_capacity, Lengths};
 
+use crate::ring::{Ring, RingMut};
 use crate::{Flow, Packet};
 
 // The slot of a PSN: "capacity a power of two", so that the remainder is a mask.
@@ -40,6 +41,15 @@ fn status_of(out: bool, mark: bool) -> u8
     crate::DONE
 }
 
+// The status of slot i, which is one of low..next-1. That the words have 64 bits is known here, of the slices, and not of a ring's fields.
+fn status_at(outstanding: &[u64], marked: &[u64], i: usize) -> u8
+    requires { (i < length outstanding.now * word_bits) × (length marked.now ≡ length outstanding.now) }
+    ensures status { result ≡ status_of true (bit_at outstanding.now i) (bit_at marked.now i) }
+    ensures words { AreWords outstanding.now × AreWords marked.now }
+{
+    status_of(bits::is_set(outstanding, i), bits::is_set(marked, i))
+}
+
 // The size of a slot's number.
 pub(crate) fn size_in(w: u32) -> u32
     ensures { (result ≡ size_in w) × (result < size_end) }
@@ -55,28 +65,19 @@ fn resent_in(w: u32) -> u32
 }
 
 // The packet of a PSN; all zero outside low..next-1.
-pub fn find<'a>(
-    flow: Flow,
-    outstanding: &'a [u64],
-    marked: &'a [u64],
-    sizes: &'a [u32],
-    sent: &'a [u64],
-    psn: u32,
-) -> Packet
-    requires { Lengths (memory_given outstanding.now marked.now sizes.now sent.now) }
-    ensures { result ≡ packet_of flow (shown flow.low flow.next (memory_before outstanding.now marked.now sizes.now sent.now)) psn }
+pub fn find(flow: Flow, ring: Ring<'_>, psn: u32) -> Packet
+    requires { Lengths (memory_of ring) }
+    ensures { result ≡ packet_of flow (shown flow.low flow.next (memory_of ring.entry)) psn }
 {
     let low = flow.low;
     let offset = serial::psn_minus(psn, low);
     if offset < long(flow) {
-        let i = place(sent.len(), psn);
-        let out = bits::is_set(outstanding, i);
-        let mark = bits::is_set(marked, i);
-        let w = sizes[i];
+        let i = place(ring.sent.len(), psn);
+        let w = ring.sizes[i];
         return Packet {
-            status: status_of(out, mark),
+            status: status_at(ring.outstanding, ring.marked, i),
             size: size_in(w),
-            sent: sent[i],
+            sent: ring.sent[i],
             resent: resent_in(w),
         };
     }
@@ -89,24 +90,16 @@ pub fn find<'a>(
 }
 
 // Slot i holds a packet that flies: outstanding and not marked.
-pub(crate) fn fly<'a, 'b, 'c, 'd>(
-    outstanding: &'a mut [u64],
-    marked: &'b mut [u64],
-    sizes: &'c mut [u32],
-    sent: &'d mut [u64],
-    i: usize,
-    bytes: u32,
-    resent: u32,
-    time: u64,
-)
-    requires lengths { Lengths (memory_given outstanding.old marked.old sizes.old sent.old) }
-    requires i_in_bounds { (i < length outstanding.old * word_bits) × (bytes < size_end) × (resent ≤ resent_most) }
-    ensures { memory_after outstanding.new marked.new sizes.new sent.new
-        ≡ memory (put_bit outstanding.old i true) (put_bit marked.old i false)
-        (slice_set sizes.old i (packed bytes resent)) (slice_set sent.old i time) }
+pub(crate) fn fly(ring: &mut RingMut<'_>, i: usize, bytes: u32, resent: u32, time: u64)
+    requires lengths { Lengths (memory_of_mut ring.old) }
+    requires i_in_bounds { (i < length ring.old.outstanding.now * word_bits) × (bytes < size_end) × (resent ≤ resent_most) }
+    ensures same_loan { IsSameLoan ring.old ring.new }
+    ensures memory { memory_of_mut ring.new
+        ≡ memory (put_bit ring.old.outstanding.now i true) (put_bit ring.old.marked.now i false)
+        (slice_set ring.old.sizes.now i (packed bytes resent)) (slice_set ring.old.sent.now i time) }
 {
-    bits::put(outstanding, i, true);
-    bits::put(marked, i, false);
-    sizes[i] = bytes + crate::SIZE_END * resent;
-    sent[i] = time;
+    bits::put(ring.outstanding, i, true);
+    bits::put(ring.marked, i, false);
+    ring.sizes[i] = bytes + crate::SIZE_END * resent;
+    ring.sent[i] = time;
 }

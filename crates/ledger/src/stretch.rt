@@ -3,6 +3,7 @@
 // proves that there are the slots.
 ghost use Rattle.std.specs.Prelude.{◌≡◌, ◌+◌, ◌-◌, ◌*◌, ◌^◌, ◌<◌, ◌≤◌, min, length, ◌==◌, nat_le, nat_lt, slice_index_or};
 ghost use Rattle.bits.specs.Bits.{word_bits, bit, word_of};
+ghost use Rattle.ledger.specs.Memory.{AreWords};
 ghost use Rattle.ledger.specs.Sound.{all_to};
 ghost use Rattle.ledger.specs.Delivery.{sizes_of};
 ghost use Rattle.ledger.specs.Stretch.{Joined, all_in, sized_in, sized_at, timed_at, clear_at, mark_ok, ones_of, bytes_of};
@@ -189,10 +190,11 @@ pub(crate) fn none_set(words: &[u64], from: usize, to: usize) -> bool
         & none_in(words, end * bits::WORD_BITS, to)
 }
 
-// Whether every marked bit is outstanding too.
+// Whether every marked bit is outstanding too. That the words have 64 bits is known here, of the slices, and not of a ring's fields.
 pub(crate) fn marks_within<'a>(outstanding: &'a [u64], marked: &'a [u64]) -> bool
     requires { length marked.now ≡ length outstanding.now }
-    ensures { result ≡ all_to (mark_ok outstanding.now marked.now) (length outstanding.now * word_bits) }
+    ensures within { result ≡ all_to (mark_ok outstanding.now marked.now) (length outstanding.now * word_bits) }
+    ensures words { AreWords outstanding.now × AreWords marked.now }
 {
     let mut all = true;
     for (q, &out) in outstanding.iter().enumerate() {

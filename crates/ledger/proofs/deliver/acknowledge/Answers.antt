@@ -1,5 +1,6 @@
 -- `deliver::acknowledge` meets its contract: by the laws of proofs/Acked, from what the two halves of the step leave.
 use Rattle.std.proofs.Common.{arith}
+use Rattle.ledger.specs.Lent.{memory_of_mut}
 use Rattle.ledger.specs.Memory.{memory, shown, Words}
 use Rattle.ledger.specs.Sound.{Lengths}
 use Rattle.ledger.specs.Delivery.{Standing, Reached}
@@ -25,17 +26,17 @@ left_words c =
 
 -- what the covering asks
 asked : (c : After-reach-far) →
-    let given = memory c.args.outstanding.now c.args.marked.now c.args.sizes.now c.args.sent.now in
+    let given = memory_of_mut c.args.ring.now in
     Standing (given) c.args.books.flow
     × Reached (given) c.args.books.flow c.args.books.totals c.reach-far.result c.args.cum c.args.map
 asked c =
-    let given = memory c.args.outstanding.now c.args.marked.now c.args.sizes.now c.args.sent.now in
+    let given = memory_of_mut c.args.ring.now in
     cover_asks (given) c.requires.sound_ledger c.long-n.ensures c.args.count c.requires.count_value
     c.back.ensures c.span.ensures c.reach-far.ensures
 
 pub reach-far-requires : goal.reach-far-requires
 reach-far-requires c =
-    let given = memory c.args.outstanding.now c.args.marked.now c.args.sizes.now c.args.sent.now in
+    let given = memory_of_mut c.args.ring.now in
     reach_asks (given) c.requires.sound_ledger c.long-n.ensures c.args.map c.span.ensures
 
 pub cover-totals-requires : goal.cover-totals-requires
@@ -46,9 +47,9 @@ cover-totals-requires c = record {
 
 pub retire_reached-gone-requires : goal.retire_reached-gone-requires
 retire_reached-gone-requires c =
-    let given = memory c.args.outstanding.now c.args.marked.now c.args.sizes.now c.args.sent.now in
+    let given = memory_of_mut c.args.ring.now in
     let covered = shown c.args.books.flow.low c.args.books.flow.next
-    (memory c.cover-totals.new.outstanding c.cover-totals.new.marked c.args.sizes.now c.args.sent.now) in
+    (memory c.cover-totals.new.outstanding c.cover-totals.new.marked c.args.ring.now.sizes.now c.args.ring.now.sent.now) in
     record {
       n_value = c.long-n.ensures;
       standing = c.cover-totals.ensures.standing_2;
@@ -57,22 +58,22 @@ retire_reached-gone-requires c =
 
 pub less-requires : goal.less-requires
 less-requires c =
-    let given = memory c.args.outstanding.now c.args.marked.now c.args.sizes.now c.args.sent.now in
+    let given = memory_of_mut c.args.ring.now in
     let covered = shown c.args.books.flow.low c.args.books.flow.next
-    (memory c.cover-totals.new.outstanding c.cover-totals.new.marked c.args.sizes.now c.args.sent.now) in
+    (memory c.cover-totals.new.outstanding c.cover-totals.new.marked c.args.ring.now.sizes.now c.args.ring.now.sent.now) in
     record {
       flown = less_asks (given) c.requires.sound_ledger c.long-n.ensures {r = covered} c.cover-totals.ensures.covered;
       bytes_bound = omega (arith, c.newly.ensures.1);
     }
 
-pub returns : goal.returns
-returns c =
-    let given = memory c.args.outstanding.now c.args.marked.now c.args.sizes.now c.args.sent.now in
+pub returns-clause-kept : goal.returns-clause-kept
+returns-clause-kept c =
+    let given = memory_of_mut c.args.ring.now in
     let covered = shown c.args.books.flow.low c.args.books.flow.next
-    (memory c.cover-totals.new.outstanding c.cover-totals.new.marked c.args.sizes.now c.args.sent.now) in
+    (memory c.cover-totals.new.outstanding c.cover-totals.new.marked c.args.ring.now.sizes.now c.args.ring.now.sent.now) in
     let left = memory c.cover-totals.new.outstanding c.cover-totals.new.marked c.retire_reached-gone.new.sizes c.retire_reached-gone.new.sent in
     rw (to_z-of_z {w = w64} {z = c.less.result} (record { sfits = c.less.type_inv }))
     (acked (given) c.requires.sound_ledger c.long-n.ensures {r = covered} c.cover-totals.ensures.covered c.args.count (left)
-    (left_lengths (goal.at.returns c).After-retire_reached-gone) (left_words (goal.at.returns c).After-retire_reached-gone)
+    (left_lengths (goal.at.returns-clause-kept c).After-retire_reached-gone) (left_words (goal.at.returns-clause-kept c).After-retire_reached-gone)
     c.retire_reached-gone.ensures c.psn_plus.ensures
     c.held_after.ensures c.newly.ensures.0 c.less.ensures)

@@ -4,7 +4,7 @@ use Rattle.ledger.specs.Memory.{packed}
 use Rattle.ledger.proofs.Shows.{memories}
 use Rattle.ledger.proofs.slots.fly.Goals as goal
 
-pub returns : goal.returns
+pub returns-clause-memory : goal.returns-clause-memory
 unfolding packed
-returns c =
+returns-clause-memory c =
     memories c.put.ensures c.put-2.ensures refl refl

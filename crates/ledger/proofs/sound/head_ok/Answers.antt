@@ -7,5 +7,5 @@ pub returns : goal.returns
 returns c =
     let a = c.args in
     let here = c.place-i.ensures.0 in
-    ap₂ (λ (x y : Bool). (eqb a.n 0 || x) || y) (c.is_set.ensures ∙ ap (bit_at a.outstanding.now) here)
-    (c.is_set-2.ensures ∙ ap (bit_at a.marked.now) here)
+    ap₂ (λ (x y : Bool). (eqb a.n 0 || x) || y) (c.is_set.ensures ∙ ap (bit_at a.ring.outstanding.now) here)
+    (c.is_set-2.ensures ∙ ap (bit_at a.ring.marked.now) here)

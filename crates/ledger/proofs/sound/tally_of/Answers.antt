@@ -1,6 +1,7 @@
 -- `tally_of` counts bits and adds up sizes, as `tally_of` does.
 use Rattle.std.proofs.Common.{◌≤◌, length, refl, arith}
-use Rattle.ledger.specs.Memory.{Memory, memory}
+use Rattle.ledger.specs.Lent.{memory_of}
+use Rattle.ledger.specs.Memory.{Memory}
 use Rattle.ledger.specs.Sound.{Lengths}
 use Rattle.ledger.specs.Stretch.{tally_of}
 use Rattle.ledger.proofs.Geometry.{cap_facts}
@@ -11,17 +12,17 @@ few m L = omega (arith, cap_facts _ L.cap)
 
 pub ones-requires : goal.ones-requires
 ones-requires c =
-    let slots = memory c.args.outstanding.now c.args.marked.now c.args.sizes.now c.args.sent.now in
+    let slots = memory_of c.args.ring in
     few (slots) c.requires
 
 pub ones-requires-2 : goal.ones-requires-2
 ones-requires-2 c =
-    let slots = memory c.args.outstanding.now c.args.marked.now c.args.sizes.now c.args.sent.now in
+    let slots = memory_of c.args.ring in
     omega (arith, few (slots) c.requires, c.requires.marked)
 
 pub marked_sum-requires : goal.marked_sum-requires
 marked_sum-requires c =
-    let slots = memory c.args.outstanding.now c.args.marked.now c.args.sizes.now c.args.sent.now in
+    let slots = memory_of c.args.ring in
     (omega (arith, c.requires.marked, c.requires.sizes), omega (arith, few (slots) c.requires, c.requires.marked))
 
 pub returns : goal.returns
