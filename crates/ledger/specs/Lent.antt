@@ -1,9 +1,10 @@
 -- The ring's memory as contracts name it: the four lent slices as they are given, before the call and after it.
 -- Assumes nothing.
-use Rattle.std.specs.Prelude.{◌≡◌, ℕ, List}
+use Rattle.std.specs.Prelude.{◌≡◌, ℕ, List, length}
 use Rattle.ledger.specs.Memory.{Memory, memory}
 use Rattle.ledger.specs.declared.ring.Ring.{Ring}
 use Rattle.ledger.specs.declared.ring.RingMut.{RingMut}
+use Rattle.ledger.specs.declared.ring.RingMarks.{RingMarks}
 
 -- what a lent slice holds, as a `requires` sees it: `.now` of one that is lent to be read, else `.old`
 abbrev pub Slice : Type 0
@@ -30,10 +31,26 @@ memory_of r = memory r.outstanding.now r.marked.now r.sizes.now r.sent.now
 abbrev pub memory_of_mut : RingMut → Memory
 memory_of_mut r = memory r.outstanding.now r.marked.now r.sizes.now r.sent.now
 
--- its slices are still those that were lent: what is written to them reaches whoever lent them
+abbrev pub memory_of_marks : RingMarks → Memory
+memory_of_marks r = memory r.outstanding.now r.marked.now r.sizes.now r.sent.now
+
+-- its slices are still those that were lent, so that what is written to them reaches whoever lent them, and as long as they were
 abbrev pub IsSameLoan : RingMut → RingMut → Type 0
 IsSameLoan before after =
     (after.outstanding.ghost_name ≡ before.outstanding.ghost_name)
     × (after.marked.ghost_name ≡ before.marked.ghost_name)
     × (after.sizes.ghost_name ≡ before.sizes.ghost_name)
     × (after.sent.ghost_name ≡ before.sent.ghost_name)
+    × (length after.outstanding.now ≡ length before.outstanding.now)
+    × (length after.marked.now ≡ length before.marked.now)
+    × (length after.sizes.now ≡ length before.sizes.now)
+    × (length after.sent.now ≡ length before.sent.now)
+
+-- the same of a ring whose marked bits alone may be changed
+abbrev pub IsSameMarks : RingMarks → RingMarks → Type 0
+IsSameMarks before after =
+    (after.outstanding ≡ before.outstanding)
+    × (after.marked.ghost_name ≡ before.marked.ghost_name)
+    × (after.sizes ≡ before.sizes)
+    × (after.sent ≡ before.sent)
+    × (length after.marked.now ≡ length before.marked.now)

@@ -1,7 +1,7 @@
 // A NACK or a loss: the packet leaves the flying ones and waits to be sent again. An inner step: the caller proves that the ledger holds
 // together and that the packet flies.
 ghost use Rattle.std.specs.Prelude.{◌≡◌, true};
-ghost use Rattle.ledger.specs.Lent.{memory_given, memory_before, memory_after};
+ghost use Rattle.ledger.specs.Lent.{memory_of_marks, IsSameMarks};
 ghost use Rattle.ledger.specs.Memory.{shown, ledger_shown, kept, kept_of};
 ghost use Rattle.ledger.specs.Packets.{is_flying};
 ghost use Rattle.ledger.specs.Ring.{packet_of};
@@ -10,40 +10,26 @@ ghost use Rattle.ledger.specs.Steps.{mark_of};
 
 use crate::Books;
 use crate::judge::less;
-use crate::ring::Ring;
+use crate::ring::RingMarks;
 use crate::slots::{find, place};
 
 // Flying becomes marked; in-flight falls by the recorded size.
-pub fn mark<'a, 'b>(
-    psn: u32,
-    books: Books,
-    outstanding: &'b [u64],
-    marked: &'a mut [u64],
-    sizes: &'b [u32],
-    sent: &'b [u64],
-) -> Books
-    requires sound_ledger { SoundLedger (ledger_shown books.flow books.totals (memory_given outstanding.now marked.old sizes.now sent.now)) }
-    requires psn_value { is_flying (packet_of books.flow (shown books.flow.low books.flow.next
-        (memory_given outstanding.now marked.old sizes.now sent.now)) psn)
-        ≡ true }
-    ensures { kept result.flow result.totals (memory_after outstanding.now marked.new sizes.now sent.now)
-        ≡ kept_of (mark_of psn (ledger_shown books.flow books.totals (memory_before outstanding.now marked.old sizes.now sent.now))) }
+pub fn mark(psn: u32, books: Books, ring: &mut RingMarks<'_>) -> Books
+    requires sound_ledger { SoundLedger (ledger_shown books.flow books.totals (memory_of_marks ring.old)) }
+    requires psn_value { is_flying (packet_of books.flow (shown books.flow.low books.flow.next (memory_of_marks ring.old)) psn) ≡ true }
+    ensures same_loan { IsSameMarks ring.old ring.new }
+    ensures kept { kept result.flow result.totals (memory_of_marks ring.new)
+        ≡ kept_of (mark_of psn (ledger_shown books.flow books.totals (memory_of_marks ring.old))) }
 {
     let flow = books.flow;
     let mut totals = books.totals;
     let flying = totals.flying;
     let waiting = totals.marked;
     let marked_bytes = totals.marked_bytes;
-    let ring = Ring {
-        outstanding,
-        marked,
-        sizes,
-        sent,
-    };
-    let x = find(flow, ring, psn);
+    let x = find(flow, ring.look(), psn);
     let bytes = x.size as u64;
-    let i = place(sent.len(), psn);
-    bits::put(marked, i, true);
+    let i = place(ring.sent.len(), psn);
+    bits::put(ring.marked, i, true);
     totals.flying = flying - 1;
     totals.marked = waiting + 1;
     totals.marked_bytes = marked_bytes + bytes;

@@ -3,7 +3,7 @@
 ghost use Rattle.std.specs.Prelude.{◌≡◌, ◌||◌, ltb, leb};
 ghost use Rattle.rules.specs.Rows.{first_of};
 ghost use Rattle.rules.specs.Verdict.{number_of};
-ghost use Rattle.ledger.specs.Lent.{memory_given, memory_before};
+ghost use Rattle.ledger.specs.Lent.{memory_of};
 ghost use Rattle.ledger.specs.Memory.{shown};
 ghost use Rattle.ledger.specs.Sound.{Lengths};
 ghost use Rattle.ledger.specs.Rows.{send_rows};
@@ -13,6 +13,7 @@ ghost use Rattle.sender.specs.Rows.{new_data_rows, send_all_rows, ack_all_rows, 
 
 use crate::naming::has_room;
 use crate::{Ack, Controller, Loss, Nack, Send};
+use ledger::ring::Ring;
 use ledger::{Books, Flow};
 use rules::verdict::{Refusal, Verdict};
 
@@ -40,38 +41,23 @@ pub(crate) fn judge_new_data(c: Controller, time: u64, bytes: u64) -> Verdict
 }
 
 // What the ledger refuses of a send: 8, 5, 7.
-fn judge_packet<'a>(
-    flow: Flow,
-    outstanding: &'a [u64],
-    marked: &'a [u64],
-    sizes: &'a [u32],
-    sent: &'a [u64],
-    a: Send,
-) -> Verdict
-    requires { Lengths (memory_given outstanding.now marked.now sizes.now sent.now) }
+fn judge_packet(flow: Flow, ring: Ring<'_>, a: Send) -> Verdict
+    requires { Lengths (memory_of ring) }
     ensures { number_of result ≡ first_of (send_rows flow
-        (shown flow.low flow.next (memory_before outstanding.now marked.now sizes.now sent.now)) a.psn a.size a.resend) }
+        (shown flow.low flow.next (memory_of ring.entry)) a.psn a.size a.resend) }
 {
     if a.resend {
-        return ledger::judge::judge_resend(flow, outstanding, marked, sizes, sent, a.psn, a.size);
+        return ledger::judge::judge_resend(flow, ring, a.psn, a.size);
     }
-    ledger::judge::judge_new(flow, sent.len(), a.psn, a.size)
+    ledger::judge::judge_new(flow, ring.sent.len(), a.psn, a.size)
 }
 
 // A send: 3, 4, 8, 5, 7, 6.
-pub(crate) fn judge_send<'a>(
-    c: Controller,
-    outstanding: &'a [u64],
-    marked: &'a [u64],
-    sizes: &'a [u32],
-    sent: &'a [u64],
-    time: u64,
-    a: Send,
-) -> Verdict
+pub(crate) fn judge_send(c: Controller, ring: Ring<'_>, time: u64, a: Send) -> Verdict
     requires bounded { Bounded c }
-    requires lengths { Lengths (memory_given outstanding.now marked.now sizes.now sent.now) }
+    requires lengths { Lengths (memory_of ring) }
     ensures { number_of result ≡ first_of (send_all_rows time a c
-        (shown c.flow.low c.flow.next (memory_before outstanding.now marked.now sizes.now sent.now))) }
+        (shown c.flow.low c.flow.next (memory_of ring.entry))) }
 {
     let settings = c.settings;
     let flow = c.flow;
@@ -83,7 +69,7 @@ pub(crate) fn judge_send<'a>(
     if !rules::within(ledger::SIZE_LEAST as u64, a.size as u64, settings.mtu) {
         return Err(Refusal::Size);
     }
-    judge_packet(flow, outstanding, marked, sizes, sent, a)?;
+    judge_packet(flow, ring, a)?;
     if has_room(settings.mtu, window.cwnd, totals.in_flight) {
         return Ok(());
     }
@@ -114,19 +100,11 @@ pub(crate) fn judge_ack(c: Controller, time: u64, a: Ack) -> Verdict
 }
 
 // A NACK: 3, 22, 23, 10, 11.
-pub(crate) fn judge_nack<'a>(
-    c: Controller,
-    outstanding: &'a [u64],
-    marked: &'a [u64],
-    sizes: &'a [u32],
-    sent: &'a [u64],
-    time: u64,
-    a: Nack,
-) -> Verdict
+pub(crate) fn judge_nack(c: Controller, ring: Ring<'_>, time: u64, a: Nack) -> Verdict
     requires bounded { Bounded c }
-    requires lengths { Lengths (memory_given outstanding.now marked.now sizes.now sent.now) }
+    requires lengths { Lengths (memory_of ring) }
     ensures { number_of result ≡ first_of (nack_all_rows time a c
-        (shown c.flow.low c.flow.next (memory_before outstanding.now marked.now sizes.now sent.now))) }
+        (shown c.flow.low c.flow.next (memory_of ring.entry))) }
 {
     let settings = c.settings;
     let flow = c.flow;
@@ -140,30 +118,15 @@ pub(crate) fn judge_nack<'a>(
     if settings.ev_count <= a.ev as u64 {
         return Err(Refusal::Ev);
     }
-    ledger::judge::judge_mark(
-        Books { flow, totals },
-        outstanding,
-        marked,
-        sizes,
-        sent,
-        a.psn,
-    )
+    ledger::judge::judge_mark(Books { flow, totals }, ring, a.psn)
 }
 
 // A loss: 3, 23, 10, 11.
-pub(crate) fn judge_loss<'a>(
-    c: Controller,
-    outstanding: &'a [u64],
-    marked: &'a [u64],
-    sizes: &'a [u32],
-    sent: &'a [u64],
-    time: u64,
-    a: Loss,
-) -> Verdict
+pub(crate) fn judge_loss(c: Controller, ring: Ring<'_>, time: u64, a: Loss) -> Verdict
     requires bounded { Bounded c }
-    requires lengths { Lengths (memory_given outstanding.now marked.now sizes.now sent.now) }
+    requires lengths { Lengths (memory_of ring) }
     ensures { number_of result ≡ first_of (loss_all_rows time a c
-        (shown c.flow.low c.flow.next (memory_before outstanding.now marked.now sizes.now sent.now))) }
+        (shown c.flow.low c.flow.next (memory_of ring.entry))) }
 {
     let settings = c.settings;
     let flow = c.flow;
@@ -174,14 +137,7 @@ pub(crate) fn judge_loss<'a>(
     if settings.ev_count <= a.ev as u64 {
         return Err(Refusal::Ev);
     }
-    ledger::judge::judge_mark(
-        Books { flow, totals },
-        outstanding,
-        marked,
-        sizes,
-        sent,
-        a.psn,
-    )
+    ledger::judge::judge_mark(Books { flow, totals }, ring, a.psn)
 }
 
 // A path choice: 3.

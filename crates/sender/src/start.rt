@@ -1,9 +1,10 @@
 // What setting up gives a flow and what all flows share: the fresh state, and an empty ring's memory.
 ghost use Rattle.std.specs.Prelude.{◌≡◌};
-ghost use Rattle.ledger.specs.Lent.{memory_before, memory_after};
+ghost use Rattle.ledger.specs.Lent.{memory_of_mut, IsSameLoan};
 ghost use Rattle.sender.specs.Start.{no_settings, fresh_state, zeros, clear_memory};
 
 use crate::Controller;
+use ledger::ring::RingMut;
 use ledger::{Flow, Totals};
 use window::Settings;
 
@@ -58,19 +59,13 @@ pub fn fresh(settings: Settings) -> Controller
 }
 
 // An empty ring's memory and EV times, all zeros.
-pub fn clear<'a, 'b, 'c, 'd, 'e>(
-    outstanding: &'a mut [u64],
-    marked: &'b mut [u64],
-    sizes: &'c mut [u32],
-    sent: &'d mut [u64],
-    evs: &'e mut [u64],
-)
-    ensures { (memory_after outstanding.new marked.new sizes.new sent.new ≡ clear_memory (memory_before outstanding.old marked.old sizes.old sent.old))
-        × (evs.new ≡ zeros evs.old) }
+pub fn clear(ring: &mut RingMut<'_>, evs: &mut [u64])
+    ensures same_loan { IsSameLoan ring.old ring.new }
+    ensures zeros { (memory_of_mut ring.new ≡ clear_memory (memory_of_mut ring.old)) × (evs.new ≡ zeros evs.old) }
 {
-    outstanding.fill(0);
-    marked.fill(0);
-    sizes.fill(0);
-    sent.fill(0);
+    ring.outstanding.fill(0);
+    ring.marked.fill(0);
+    ring.sizes.fill(0);
+    ring.sent.fill(0);
     evs.fill(0);
 }

@@ -3,9 +3,9 @@
 ghost use Rattle.std.specs.Prelude.{◌≡◌, true, ◌<◌, ◌≤◌, ◌^◌, length};
 ghost use Rattle.rules.specs.Rows.{first_of};
 ghost use Rattle.window.specs.Delays.{sampling_of};
+ghost use Rattle.ledger.specs.Lent.{memory_of_mut, memory_of_marks, IsSameLoan, IsSameMarks};
 ghost use Rattle.ledger.specs.Packets.{is_out};
-ghost use Rattle.sender.specs.World.{ring_of, view_of, world_of};
-ghost use Rattle.sender.specs.Lent.{world_given, world_before, world_after};
+ghost use Rattle.sender.specs.World.{world, ring_of, view_of, world_of};
 ghost use Rattle.sender.specs.Sound.{times_ok, Holds};
 ghost use Rattle.sender.specs.Rows.{new_data_rows, send_all_rows, ack_all_rows, nack_all_rows, loss_all_rows};
 ghost use Rattle.paths.specs.Path.{choice};
@@ -16,6 +16,7 @@ ghost use Rattle.sender.specs.Steps.{path_state};
 
 use crate::naming::state_of;
 use crate::{Ack, Controller, Loss, Nack, Send};
+use ledger::ring::{RingMarks, RingMut};
 use ledger::{Books, Packet};
 use window::Sampling;
 use window::delay::sample_in;
@@ -60,20 +61,18 @@ pub(crate) fn new_data(c: Controller, time: u64, bytes: u64) -> Controller
 }
 
 // A new packet or a resend.
-pub(crate) fn send<'a, 'b, 'c, 'd, 'e>(
+pub(crate) fn send(
     c: Controller,
-    outstanding: &'a mut [u64],
-    marked: &'b mut [u64],
-    sizes: &'c mut [u32],
-    sent: &'d mut [u64],
-    evs: &'e [u64],
+    ring: &mut RingMut<'_>,
+    evs: &[u64],
     time: u64,
     a: Send,
 ) -> Controller
-    requires holds { Holds (world_given c outstanding.old marked.old sizes.old sent.old evs.now) }
-    requires evs_value { first_of (send_all_rows time a c (ring_of (world_given c outstanding.old marked.old sizes.old sent.old evs.now))) ≡ 0 }
-    ensures { world_after result outstanding.new marked.new sizes.new sent.new evs.now
-        ≡ world_of (send_step time a (view_of (world_before c outstanding.old marked.old sizes.old sent.old evs.now))) }
+    requires holds { Holds (world c (memory_of_mut ring.old) evs.now) }
+    requires evs_value { first_of (send_all_rows time a c (ring_of (world c (memory_of_mut ring.old) evs.now))) ≡ 0 }
+    ensures same_loan { IsSameLoan ring.old ring.new }
+    ensures left { world result (memory_of_mut ring.new) evs.now
+        ≡ world_of (send_step time a (view_of (world c (memory_of_mut ring.old) evs.now))) }
 {
     let settings = c.settings;
     let window = c.window;
@@ -81,29 +80,27 @@ pub(crate) fn send<'a, 'b, 'c, 'd, 'e>(
     let totals = c.totals;
     let books = Books { flow, totals };
     if a.resend {
-        let after = ledger::send::resend(time, a.psn, books, outstanding, marked, sizes, sent);
+        let after = ledger::send::resend(time, a.psn, books, ring);
         return state_of(settings, after.flow, after.totals, window, time, c.cursor);
     }
-    let after = ledger::send::push(time, a.size, books, outstanding, marked, sizes, sent);
+    let after = ledger::send::push(time, a.size, books, ring);
     state_of(settings, after.flow, after.totals, window, time, c.cursor)
 }
 
 // An ACK: the sample is read before the ledger's step, and the window's rules come after it.
-pub(crate) fn ack<'a, 'b, 'c, 'd, 'e>(
+pub(crate) fn ack(
     c: Controller,
-    outstanding: &'a mut [u64],
-    marked: &'b mut [u64],
-    sizes: &'c mut [u32],
-    sent: &'d mut [u64],
-    evs: &'e mut [u64],
+    ring: &mut RingMut<'_>,
+    evs: &mut [u64],
     time: u64,
     a: Ack,
 ) -> Step<Sampling>
-    requires holds { Holds (world_given c outstanding.old marked.old sizes.old sent.old evs.old) }
+    requires holds { Holds (world c (memory_of_mut ring.old) evs.old) }
     requires c_value { first_of (ack_all_rows time a c) ≡ 0 }
-    ensures evs_value { world_after result.state outstanding.new marked.new sizes.new sent.new evs.new
-        ≡ world_of (ack_step time a (view_of (world_before c outstanding.old marked.old sizes.old sent.old evs.old))) }
-    ensures sampling_value { result.gives ≡ ack_sampling time a (view_of (world_before c outstanding.old marked.old sizes.old sent.old evs.old)) }
+    ensures same_loan { IsSameLoan ring.old ring.new }
+    ensures evs_value { world result.state (memory_of_mut ring.new) evs.new
+        ≡ world_of (ack_step time a (view_of (world c (memory_of_mut ring.old) evs.old))) }
+    ensures sampling_value { result.gives ≡ ack_sampling time a (view_of (world c (memory_of_mut ring.old) evs.old)) }
 {
     let settings = c.settings;
     let flow = c.flow;
@@ -111,19 +108,10 @@ pub(crate) fn ack<'a, 'b, 'c, 'd, 'e>(
     let window = c.window;
     let base = window.base;
     let newly = ledger::judge::newly(a.count, flow.held);
-    let x = ledger::slots::find(flow, outstanding, marked, sizes, sent, a.trigger);
+    let x = ledger::slots::find(flow, ring.look(), a.trigger);
     let sampling = sampled(x, a.retx, time, a.service as u64);
     let sample = sample_in(sampling);
-    let after = ledger::deliver::acknowledge(
-        a.cum,
-        a.map,
-        a.count,
-        Books { flow, totals },
-        outstanding,
-        marked,
-        sizes,
-        sent,
-    );
+    let after = ledger::deliver::acknowledge(a.cum, a.map, a.count, Books { flow, totals }, ring);
     let f = after.flow;
     let t = after.totals;
     let w = window::events::ack(settings, time, newly, a.marked, sample, t.in_flight, window);
@@ -136,32 +124,30 @@ pub(crate) fn ack<'a, 'b, 'c, 'd, 'e>(
 }
 
 // A NACK.
-pub(crate) fn nack<'a, 'b, 'c>(
+pub(crate) fn nack(
     c: Controller,
-    outstanding: &'b [u64],
-    marked: &'a mut [u64],
-    sizes: &'b [u32],
-    sent: &'b [u64],
-    evs: &'c mut [u64],
+    ring: &mut RingMarks<'_>,
+    evs: &mut [u64],
     time: u64,
     a: Nack,
 ) -> Step<Sampling>
-    requires holds { Holds (world_given c outstanding.now marked.old sizes.now sent.now evs.old) }
-    requires evs_value { first_of (nack_all_rows time a c (ring_of (world_given c outstanding.now marked.old sizes.now sent.now evs.old))) ≡ 0 }
-    ensures evs_value_2 { world_after result.state outstanding.now marked.new sizes.now sent.now evs.new
-        ≡ world_of (nack_step time a (view_of (world_before c outstanding.now marked.old sizes.now sent.now evs.old))) }
-    ensures sampling_value { result.gives ≡ nack_sampling time a (view_of (world_before c outstanding.now marked.old sizes.now sent.now evs.old)) }
+    requires holds { Holds (world c (memory_of_marks ring.old) evs.old) }
+    requires evs_value { first_of (nack_all_rows time a c (ring_of (world c (memory_of_marks ring.old) evs.old))) ≡ 0 }
+    ensures same_loan { IsSameMarks ring.old ring.new }
+    ensures evs_value_2 { world result.state (memory_of_marks ring.new) evs.new
+        ≡ world_of (nack_step time a (view_of (world c (memory_of_marks ring.old) evs.old))) }
+    ensures sampling_value { result.gives ≡ nack_sampling time a (view_of (world c (memory_of_marks ring.old) evs.old)) }
 {
     let settings = c.settings;
     let flow = c.flow;
     let totals = c.totals;
     let window = c.window;
     let base = window.base;
-    let x = ledger::slots::find(flow, outstanding, marked, sizes, sent, a.psn);
+    let x = ledger::slots::find(flow, ring.look(), a.psn);
     let sampling = sampled(x, a.retx, time, 0);
     let sample = sample_in(sampling);
     let books = Books { flow, totals };
-    let after = ledger::mark::mark(a.psn, books, outstanding, marked, sizes, sent);
+    let after = ledger::mark::mark(a.psn, books, ring);
     let f = after.flow;
     let t = after.totals;
     let w = window::events::nack(
@@ -182,29 +168,27 @@ pub(crate) fn nack<'a, 'b, 'c>(
 }
 
 // A loss.
-pub(crate) fn loss<'a, 'b, 'c>(
+pub(crate) fn loss(
     c: Controller,
-    outstanding: &'b [u64],
-    marked: &'a mut [u64],
-    sizes: &'b [u32],
-    sent: &'b [u64],
-    evs: &'c mut [u64],
+    ring: &mut RingMarks<'_>,
+    evs: &mut [u64],
     time: u64,
     a: Loss,
 ) -> Controller
-    requires holds { Holds (world_given c outstanding.now marked.old sizes.now sent.now evs.old) }
-    requires evs_value { first_of (loss_all_rows time a c (ring_of (world_given c outstanding.now marked.old sizes.now sent.now evs.old))) ≡ 0 }
-    ensures { world_after result outstanding.now marked.new sizes.now sent.now evs.new
-        ≡ world_of (loss_step time a (view_of (world_before c outstanding.now marked.old sizes.now sent.now evs.old))) }
+    requires holds { Holds (world c (memory_of_marks ring.old) evs.old) }
+    requires evs_value { first_of (loss_all_rows time a c (ring_of (world c (memory_of_marks ring.old) evs.old))) ≡ 0 }
+    ensures same_loan { IsSameMarks ring.old ring.new }
+    ensures left { world result (memory_of_marks ring.new) evs.new
+        ≡ world_of (loss_step time a (view_of (world c (memory_of_marks ring.old) evs.old))) }
 {
     let settings = c.settings;
     let flow = c.flow;
     let totals = c.totals;
     let window = c.window;
     let base = window.base;
-    let x = ledger::slots::find(flow, outstanding, marked, sizes, sent, a.psn);
+    let x = ledger::slots::find(flow, ring.look(), a.psn);
     let books = Books { flow, totals };
-    let after = ledger::mark::mark(a.psn, books, outstanding, marked, sizes, sent);
+    let after = ledger::mark::mark(a.psn, books, ring);
     let f = after.flow;
     let t = after.totals;
     let w = window::events::loss(settings, time, x.size as u64, t.in_flight, window);

@@ -2,7 +2,8 @@
 use mathlib.Core.Path.{sym, ◌∙◌}
 use Rattle.rules.specs.Verdict.{number_of}
 use borrow.Author.Tests.{le-leb, lt-leb}
-use Rattle.ledger.specs.Memory.{memory, shown}
+use Rattle.ledger.specs.Lent.{memory_of}
+use Rattle.ledger.specs.Memory.{shown}
 use Rattle.ledger.specs.Rows.{mark_rows}
 use Rattle.sender.proofs.Rowing.{judged_3, judged_field, judged_on}
 use Rattle.sender.proofs.judge.judge_loss.Goals as goal
@@ -20,7 +21,7 @@ pub returns : goal.returns
 unfolding number_of
 returns c =
     let slots = shown c.args.c.flow.low c.args.c.flow.next
-    (memory c.args.outstanding.now c.args.marked.now c.args.sizes.now c.args.sent.now) in
+    (memory_of c.args.ring) in
     let a = c.args in
     judged_on _ _ _ (mark_rows a.c.flow a.c.totals.in_flight (slots) a.a.psn)
     (sym c.bad_time.ensures ∙ c.if-bad_time.false)

@@ -5,7 +5,8 @@ use Rattle.std.specs.Prelude.{⊤, Err}
 use Rattle.std.proofs.lemmas.Result.{err_from_is_err_and}
 use Rattle.rules.specs.Branch.{eq_yes, eq_no, so_yes, so_no}
 use Rattle.rules.specs.Verdict.{number_of, ok_zero, err_not}
-use Rattle.ledger.specs.Memory.{memory, shown}
+use Rattle.ledger.specs.Lent.{memory_of}
+use Rattle.ledger.specs.Memory.{shown}
 use Rattle.ledger.proofs.Signs.{word}
 use Rattle.sender.specs.Named.{has_room}
 use Rattle.sender.specs.Bounds.{room_after}
@@ -26,7 +27,7 @@ unfolding room_after
 returns-in_err-judge_packet c =
     let p = err_from_is_err_and c.from_residual.result c.from_residual.ensures.1 in
     let slots = shown c.args.c.flow.low c.args.c.flow.next
-    (memory c.args.outstanding.now c.args.marked.now c.args.sizes.now c.args.sent.now) in
+    (memory_of c.args.ring) in
     let n = number_of {T = ⊤} (Err c.in_err-judge_packet.field-0.0) in
     let known = judged_send c.args.c slots c.args.a n n (eq_no n 0 n _ n (err_not _ _ refl) refl) (c.in_err-judge_packet.ensures) in
     rw (p.1, p.2) (judged_on _ _ _ _ (sym c.bad_time.ensures ∙ c.if-bad_time.false) (ap not (sym c.within.ensures ∙ c.if-not-within.false)) n known)
@@ -35,7 +36,7 @@ pub returns-then-has_room : goal.returns-then-has_room
 unfolding number_of room_after
 returns-then-has_room c =
     let slots = shown c.args.c.flow.low c.args.c.flow.next
-    (memory c.args.outstanding.now c.args.marked.now c.args.sizes.now c.args.sent.now) in
+    (memory_of c.args.ring) in
     let a = c.args.c in
     let room = ap (has_room a.settings.mtu a.window.cwnd) (sym (word a.totals.in_flight c.requires.bounded.flown))
     ∙ sym c.has_room.ensures in
@@ -46,7 +47,7 @@ pub returns : goal.returns
 unfolding number_of room_after
 returns c =
     let slots = shown c.args.c.flow.low c.args.c.flow.next
-    (memory c.args.outstanding.now c.args.marked.now c.args.sizes.now c.args.sent.now) in
+    (memory_of c.args.ring) in
     let a = c.args.c in
     let room = ap (has_room a.settings.mtu a.window.cwnd) (sym (word a.totals.in_flight c.requires.bounded.flown))
     ∙ sym c.has_room.ensures in

@@ -4,6 +4,7 @@ use mathlib.Core.Option.{some}
 use Rattle.std.specs.Prelude.{⊤, Err}
 use Rattle.window.specs.declared.Sampling.{Sampling}
 use Rattle.rules.specs.Verdict.{number_of, ok_zero, err_not, err_same}
+use Rattle.ledger.specs.Lent.{memory_of_mut}
 use Rattle.ledger.specs.Memory.{memory}
 use Rattle.sender.specs.World.{world, view_of, world_of}
 use Rattle.sender.specs.Rows.{ack_all_rows}
@@ -49,7 +50,7 @@ returns-in-Ok c =
     let stepped = world_of (ack_step c.args.time c.args.a (view_of (handed))) in
     let zero = ok_zero _ _ c.in-Ok.is in
     let answer = answer_accepted (handed) (rows) (stepped) _ _ (number_of c.judge_ack.result) c.judge_ack.ensures zero
-    c.ack-step.result.state (memory c.ack-step.new.outstanding c.ack-step.new.marked c.ack-step.new.sizes c.ack-step.new.sent) c.ack-step.new.evs
+    c.ack-step.result.state (memory_of_mut c.ack-step.new.ring) c.ack-step.new.evs
     c.ack-step.ensures.evs_value refl (accepted_number _) in
     record {
       evs_value = answer;

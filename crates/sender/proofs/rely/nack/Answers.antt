@@ -4,6 +4,7 @@ use mathlib.Core.Option.{some}
 use Rattle.std.specs.Prelude.{⊤, Err}
 use Rattle.window.specs.declared.Sampling.{Sampling}
 use Rattle.rules.specs.Verdict.{number_of, ok_zero, err_not, err_same}
+use Rattle.ledger.specs.Lent.{memory_of_marks}
 use Rattle.ledger.specs.Memory.{memory}
 use Rattle.sender.specs.World.{world, ring_of, view_of, world_of}
 use Rattle.sender.specs.Rows.{nack_all_rows}
@@ -40,7 +41,7 @@ returns-in-Ok c =
     let answer = answer_accepted (handed) (rows) (stepped) _ _ (number_of c.judge_nack.result)
     c.judge_nack.ensures zero
     c.nack-step.result.state
-    (memory c.args.outstanding.now c.nack-step.new.marked c.args.sizes.now c.args.sent.now) c.nack-step.new.evs
+    (memory_of_marks c.nack-step.new.ring) c.nack-step.new.evs
     c.nack-step.ensures.evs_value_2 refl (accepted_number _) in
     record {
       evs_value = answer;

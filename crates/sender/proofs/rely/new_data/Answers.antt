@@ -2,7 +2,8 @@
 use mathlib.Core.Path.{refl, sym, ap₂, ◌∙◌}
 use Rattle.std.specs.Prelude.{⊤, Err}
 use Rattle.rules.specs.Verdict.{number_of, ok_zero, err_not}
-use Rattle.ledger.specs.Memory.{Memory, memory}
+use Rattle.ledger.specs.Lent.{memory_of}
+use Rattle.ledger.specs.Memory.{Memory}
 use Rattle.sender.specs.World.{world, view_of, world_of}
 use Rattle.sender.specs.Rows.{new_data_rows}
 use Rattle.sender.specs.Steps.{new_data_step}
@@ -15,14 +16,14 @@ use Rattle.sender.proofs.rely.new_data.Goals as goal
 
 pub judge_new_data-requires : goal.judge_new_data-requires
 judge_new_data-requires c =
-    let handed = world c.args.c (memory c.args.outstanding.now c.args.marked.now c.args.sizes.now c.args.sent.now)
+    let handed = world c.args.c (memory_of c.args.ring)
     c.args.evs.now in
     holds_bounded (handed) c.requires
 
 pub returns-in-Err : goal.returns-in-Err
 unfolding past_new_data
 returns-in-Err c =
-    let handed = world c.args.c (memory c.args.outstanding.now c.args.marked.now c.args.sizes.now c.args.sent.now)
+    let handed = world c.args.c (memory_of c.args.ring)
     c.args.evs.now in
     let rows = new_data_rows c.args.time c.args.bytes c.args.c in
     let stepped = world_of (new_data_step c.args.time c.args.bytes (view_of (handed))) in
@@ -31,7 +32,7 @@ returns-in-Err c =
 
 pub new_data-requires : goal.new_data-requires
 new_data-requires c =
-    let handed = world c.args.c (memory c.args.outstanding.now c.args.marked.now c.args.sizes.now c.args.sent.now)
+    let handed = world c.args.c (memory_of c.args.ring)
     c.args.evs.now in
     record {
       bounded = holds_bounded (handed) c.requires;
@@ -41,7 +42,7 @@ new_data-requires c =
 pub returns-in-Ok : goal.returns-in-Ok
 unfolding past_new_data new_data_step
 returns-in-Ok c =
-    let handed = world c.args.c (memory c.args.outstanding.now c.args.marked.now c.args.sizes.now c.args.sent.now)
+    let handed = world c.args.c (memory_of c.args.ring)
     c.args.evs.now in
     let rows = new_data_rows c.args.time c.args.bytes c.args.c in
     let stepped = world_of (new_data_step c.args.time c.args.bytes (view_of (handed))) in

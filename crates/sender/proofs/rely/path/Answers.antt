@@ -4,7 +4,8 @@ use mathlib.Core.List.{[]}
 use Prim.Native.Nat.{ℕ}
 use Rattle.std.specs.Prelude.{⊤, Ok, Err}
 use Rattle.rules.specs.Verdict.{number_of, ok_zero, err_not, err_same}
-use Rattle.ledger.specs.Memory.{Memory, memory}
+use Rattle.ledger.specs.Lent.{memory_of}
+use Rattle.ledger.specs.Memory.{Memory}
 use Rattle.sender.specs.World.{world, view_of, routed}
 use Rattle.sender.specs.Rows.{path_rows}
 use Rattle.sender.specs.Steps.{route_of, path_state, path_step}
@@ -19,7 +20,7 @@ use Rattle.sender.proofs.rely.path.Goals as goal
 pub returns-in-Err : goal.returns-in-Err
 unfolding past_path
 returns-in-Err c =
-    let handed = world c.args.c (memory c.args.outstanding.now c.args.marked.now c.args.sizes.now c.args.sent.now)
+    let handed = world c.args.c (memory_of c.args.ring)
     c.args.evs.now in
     let n = number_of {T = ⊤} (Err c.in-Err.refusal) in
     let w = handed in
@@ -30,7 +31,7 @@ returns-in-Err c =
 
 pub path-step-requires : goal.path-step-requires
 path-step-requires c =
-    let handed = world c.args.c (memory c.args.outstanding.now c.args.marked.now c.args.sizes.now c.args.sent.now)
+    let handed = world c.args.c (memory_of c.args.ring)
     c.args.evs.now in
     let f = among_facts _ (view_of (handed)) c.requires.so in
     let j = c.judge_path in
@@ -45,7 +46,7 @@ path-step-requires c =
 pub returns-in-Ok : goal.returns-in-Ok
 unfolding past_path path_step
 returns-in-Ok c =
-    let handed = world c.args.c (memory c.args.outstanding.now c.args.marked.now c.args.sizes.now c.args.sent.now)
+    let handed = world c.args.c (memory_of c.args.ring)
     c.args.evs.now in
     let p = c.path-step in
     let j = c.judge_path in

@@ -2,6 +2,7 @@
 use mathlib.Core.Path.{refl, sym, ◌∙◌}
 use Rattle.std.specs.Prelude.{⊤, Err}
 use Rattle.rules.specs.Verdict.{number_of, ok_zero, err_not}
+use Rattle.ledger.specs.Lent.{memory_of_mut}
 use Rattle.ledger.specs.Memory.{memory}
 use Rattle.sender.specs.World.{world, ring_of, view_of, world_of}
 use Rattle.sender.specs.Rows.{send_all_rows}
@@ -46,5 +47,5 @@ returns-in-Ok c =
     let stepped = world_of (send_step c.args.time c.args.a (view_of (handed))) in
     let zero = ok_zero _ _ c.in-Ok.is in
     answer_accepted (handed) (rows) (stepped) _ _ (number_of c.judge_send.result) c.judge_send.ensures zero
-    c.send.result (memory c.send.new.outstanding c.send.new.marked c.send.new.sizes c.send.new.sent) (handed).times
-    c.send.ensures refl (accepted_number _)
+    c.send.result (memory_of_mut c.send.new.ring) (handed).times
+    c.send.ensures.left refl (accepted_number _)

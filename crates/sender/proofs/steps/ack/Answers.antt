@@ -1,7 +1,8 @@
 -- `ack` puts the ledger's step, the window's rules and the EV's time together (`ack_is`); each call's need is what a sound world and an ACK
 -- that no row refuses leave (`ack_ready`).
 use native.Mathlib.Omega.{arith}
-use Rattle.ledger.specs.Memory.{memory, kept}
+use Rattle.ledger.specs.Lent.{memory_of_mut}
+use Rattle.ledger.specs.Memory.{kept}
 use Rattle.ledger.specs.Steps.{acknowledge_of}
 use Rattle.sender.specs.World.{world, view_of, ledger_of}
 use Rattle.sender.proofs.Sounds.{SoundFacts, among_facts, holds_ledger}
@@ -12,11 +13,11 @@ use Rattle.sender.proofs.steps.ack.Goals as goal
 use Rattle.sender.proofs.steps.ack.Goals.{After-acknowledge-after, Start}
 
 facts : (c : Start) →
-    let world-in = world c.args.c (memory c.args.outstanding.now c.args.marked.now c.args.sizes.now c.args.sent.now)
+    let world-in = world c.args.c (memory_of_mut c.args.ring.now)
     c.args.evs.now in
     SoundFacts c.requires.holds.others (view_of (world-in))
 facts c =
-    let world-in = world c.args.c (memory c.args.outstanding.now c.args.marked.now c.args.sizes.now c.args.sent.now)
+    let world-in = world c.args.c (memory_of_mut c.args.ring.now)
     c.args.evs.now in
     among_facts _ (view_of (world-in)) c.requires.holds.so
 
@@ -24,13 +25,13 @@ accepted : (c : Start) → Ackable c.args.time c.args.a c.args.c
 accepted c = ack_facts c.args.time c.args.a c.args.c c.requires.c_value
 
 after : (c : After-acknowledge-after) →
-    let world-in = world c.args.c (memory c.args.outstanding.now c.args.marked.now c.args.sizes.now c.args.sent.now)
+    let world-in = world c.args.c (memory_of_mut c.args.ring.now)
     c.args.evs.now in
     let ledger-out = acknowledge_of c.args.a.cum c.args.a.map c.args.a.count (ledger_of (world-in)) in
     Ready c.requires.holds.others c.args.c.settings c.args.time
     c.args.c.window (ledger-out)
 after c =
-    let world-in = world c.args.c (memory c.args.outstanding.now c.args.marked.now c.args.sizes.now c.args.sent.now)
+    let world-in = world c.args.c (memory_of_mut c.args.ring.now)
     c.args.evs.now in
     let facts : SoundFacts c.requires.holds.others (view_of (world-in)) = among_facts _ (view_of (world-in)) c.requires.holds.so in
     let accepted : Ackable c.args.time c.args.a c.args.c = ack_facts c.args.time c.args.a c.args.c c.requires.c_value in
@@ -38,13 +39,13 @@ after c =
 
 pub find-x-requires : goal.find-x-requires
 find-x-requires c =
-    let world-in = world c.args.c (memory c.args.outstanding.now c.args.marked.now c.args.sizes.now c.args.sent.now)
+    let world-in = world c.args.c (memory_of_mut c.args.ring.now)
     c.args.evs.now in
-    sound_lengths _ (world-in) c.requires.holds.so
+    rw c.look.ensures (sound_lengths _ (world-in) c.requires.holds.so)
 
 pub acknowledge-after-requires : goal.acknowledge-after-requires
 acknowledge-after-requires c =
-    let world-in = world c.args.c (memory c.args.outstanding.now c.args.marked.now c.args.sizes.now c.args.sent.now)
+    let world-in = world c.args.c (memory_of_mut c.args.ring.now)
     c.args.evs.now in
     record {
       sound_ledger = holds_ledger (world-in) c.requires.holds;
@@ -59,7 +60,7 @@ ack-w-requires c =
       sound_window = R.sound_window_lem;
       sampled = sampled_at _ _ _ _ _ _ c.sample_in-sample.ensures
           c.sampled-sampling.ensures;
-      newly_lt_newly_end = (c.newly-newly.ensures.1, R.early, ready_above R c.acknowledge-after.ensures);
+      newly_lt_newly_end = (c.newly-newly.ensures.1, R.early, ready_above R c.acknowledge-after.ensures.kept);
     }
 
 -- what the last two calls ask are bounds that the window before the ACK and the one after it both keep: a step that hands on the wrong one
@@ -72,38 +73,26 @@ avoid-requires c =
 pub state_of-state-requires : goal.state_of-state-requires
 state_of-state-requires c =
     let R = after (goal.at.state_of-state-requires c).After-acknowledge-after in
-    let old = state_asks R c.acknowledge-after.ensures R.sound_window_lem in
-    let new = state_asks R c.acknowledge-after.ensures c.ack-w.ensures.sound in
+    let old = state_asks R c.acknowledge-after.ensures.kept R.sound_window_lem in
+    let new = state_asks R c.acknowledge-after.ensures.kept c.ack-w.ensures.sound in
     record {
       flown = new.0;
       mtu_bound = (new.1.0, omega (arith, old.1.1, new.1.1));
     }
 
-pub shape_of-outstanding : goal.shape_of-outstanding
-shape_of-outstanding c = c.acknowledge-after.auto.outstanding
-
-pub shape_of-marked : goal.shape_of-marked
-shape_of-marked c = c.acknowledge-after.auto.marked
-
-pub shape_of-sizes : goal.shape_of-sizes
-shape_of-sizes c = c.acknowledge-after.auto.sizes
-
-pub shape_of-sent : goal.shape_of-sent
-shape_of-sent c = c.acknowledge-after.auto.sent
-
-pub returns : goal.returns
-returns c =
-    let world-in = world c.args.c (memory c.args.outstanding.now c.args.marked.now c.args.sizes.now c.args.sent.now)
+pub returns-clause-evs_value : goal.returns-clause-evs_value
+returns-clause-evs_value c =
+    let world-in = world c.args.c (memory_of_mut c.args.ring.now)
     c.args.evs.now in
-    let kept_out = kept c.acknowledge-after.result.flow c.acknowledge-after.result.totals
-    (memory c.acknowledge-after.new.outstanding c.acknowledge-after.new.marked c.acknowledge-after.new.sizes
-    c.acknowledge-after.new.sent) in
-    record {
-      evs_value = ack_is c.args.time (view_of (world-in)) {m = (kept_out).slots} (ready_word (after (goal.at.returns c).After-acknowledge-after) c.acknowledge-after.ensures)
-          c.state_of-state.ensures c.args.a
-          c.newly-newly.ensures.0
-          c.find-x.ensures (sample_at _ _ _ _ _ _ c.sample_in-sample.ensures
-          c.sampled-sampling.ensures) c.acknowledge-after.ensures c.ack-w.ensures.is
-          c.avoid.ensures;
-      sampling_value = ack_says_lem c.args.time (view_of (world-in)) c.args.a c.find-x.ensures c.sampled-sampling.ensures;
-    }
+    let kept_out = kept c.acknowledge-after.result.flow c.acknowledge-after.result.totals (memory_of_mut c.acknowledge-after.new.ring) in
+    ack_is c.args.time (view_of (world-in)) {m = (kept_out).slots}
+    (ready_word (after (goal.at.returns-clause-evs_value c).After-acknowledge-after) c.acknowledge-after.ensures.kept)
+    c.state_of-state.ensures c.args.a c.newly-newly.ensures.0 (rw c.look.ensures at c.find-x.ensures)
+    (sample_at _ _ _ _ _ _ c.sample_in-sample.ensures c.sampled-sampling.ensures) c.acknowledge-after.ensures.kept c.ack-w.ensures.is
+    c.avoid.ensures
+
+pub returns-clause-sampling_value : goal.returns-clause-sampling_value
+returns-clause-sampling_value c =
+    let world-in = world c.args.c (memory_of_mut c.args.ring.now)
+    c.args.evs.now in
+    ack_says_lem c.args.time (view_of (world-in)) c.args.a (rw c.look.ensures at c.find-x.ensures) c.sampled-sampling.ensures

@@ -2,7 +2,8 @@
 -- row refuses leave (`send_ready`).
 use mathlib.Core.Path.{◌≡◌, refl, ap, ◌∙◌}
 use Rattle.rules.specs.Branch.{if_so, so_yes, so_no}
-use Rattle.ledger.specs.Memory.{memory, kept, kept_of}
+use Rattle.ledger.specs.Lent.{memory_of_mut}
+use Rattle.ledger.specs.Memory.{kept, kept_of}
 use Rattle.ledger.specs.Steps.{push_of, resend_of}
 use Rattle.ledger.proofs.Shows.{shown_cap}
 use Rattle.sender.specs.World.{world, ring_of, view_of, ledger_of}
@@ -13,25 +14,25 @@ use Rattle.sender.proofs.steps.send.Goals as goal
 use Rattle.sender.proofs.steps.send.Goals.{After-push-after, After-resend-after, Start}
 
 facts : (c : Start) →
-    let world-in = world c.args.c (memory c.args.outstanding.now c.args.marked.now c.args.sizes.now c.args.sent.now)
+    let world-in = world c.args.c (memory_of_mut c.args.ring.now)
     c.args.evs.now in
     SoundFacts c.requires.holds.others (view_of (world-in))
 facts c =
-    let world-in = world c.args.c (memory c.args.outstanding.now c.args.marked.now c.args.sizes.now c.args.sent.now)
+    let world-in = world c.args.c (memory_of_mut c.args.ring.now)
     c.args.evs.now in
     among_facts _ (view_of (world-in)) c.requires.holds.so
 
 accepted : (c : Start) →
-    let world-in = world c.args.c (memory c.args.outstanding.now c.args.marked.now c.args.sizes.now c.args.sent.now)
+    let world-in = world c.args.c (memory_of_mut c.args.ring.now)
     c.args.evs.now in
     Sendable c.args.time c.args.a c.args.c (ring_of (world-in))
 accepted c =
-    let world-in = world c.args.c (memory c.args.outstanding.now c.args.marked.now c.args.sizes.now c.args.sent.now)
+    let world-in = world c.args.c (memory_of_mut c.args.ring.now)
     c.args.evs.now in
     send_facts c.args.time c.args.a c.args.c (ring_of (world-in)) c.requires.evs_value
 
 ready : (c : Start) →
-    let world-in = world c.args.c (memory c.args.outstanding.now c.args.marked.now c.args.sizes.now c.args.sent.now)
+    let world-in = world c.args.c (memory_of_mut c.args.ring.now)
     c.args.evs.now in
     let sent-of = if_so c.args.a.resend (resend_of c.args.time c.args.a.psn (ledger_of (world-in)))
     (push_of c.args.time c.args.a.size (ledger_of (world-in))) in
@@ -40,29 +41,27 @@ ready c = send_ready (facts c) (accepted c)
 
 is_resend : (c : After-resend-after) →
     let kept-resend = kept c.resend-after.result.flow c.resend-after.result.totals
-    (memory c.resend-after.new.outstanding c.resend-after.new.marked c.resend-after.new.sizes
-    c.resend-after.new.sent) in
-    let world-in = world c.args.c (memory c.args.outstanding.now c.args.marked.now c.args.sizes.now c.args.sent.now)
+    (memory_of_mut c.resend-after.new.ring) in
+    let world-in = world c.args.c (memory_of_mut c.args.ring.now)
     c.args.evs.now in
     let sent-of = if_so c.args.a.resend (resend_of c.args.time c.args.a.psn (ledger_of (world-in)))
     (push_of c.args.time c.args.a.size (ledger_of (world-in))) in
     kept-resend ≡ kept_of (sent-of)
-is_resend c = c.resend-after.ensures ∙ ap kept_of (so_yes _ _ _ _ c.if-a.true refl)
+is_resend c = c.resend-after.ensures.kept ∙ ap kept_of (so_yes _ _ _ _ c.if-a.true refl)
 
 is_push : (c : After-push-after) →
     let kept_push = kept c.push-after.result.flow c.push-after.result.totals
-    (memory c.push-after.new.outstanding c.push-after.new.marked c.push-after.new.sizes
-    c.push-after.new.sent) in
-    let world-in = world c.args.c (memory c.args.outstanding.now c.args.marked.now c.args.sizes.now c.args.sent.now)
+    (memory_of_mut c.push-after.new.ring) in
+    let world-in = world c.args.c (memory_of_mut c.args.ring.now)
     c.args.evs.now in
     let sent-of = if_so c.args.a.resend (resend_of c.args.time c.args.a.psn (ledger_of (world-in)))
     (push_of c.args.time c.args.a.size (ledger_of (world-in))) in
     kept_push ≡ kept_of (sent-of)
-is_push c = c.push-after.ensures ∙ ap kept_of (so_no _ _ _ _ c.if-a.false refl)
+is_push c = c.push-after.ensures.kept ∙ ap kept_of (so_no _ _ _ _ c.if-a.false refl)
 
 pub resend-after-requires : goal.resend-after-requires
 resend-after-requires c =
-    let world-in = world c.args.c (memory c.args.outstanding.now c.args.marked.now c.args.sizes.now c.args.sent.now)
+    let world-in = world c.args.c (memory_of_mut c.args.ring.now)
     c.args.evs.now in
     record {
       sound_ledger = holds_ledger (world-in) c.requires.holds;
@@ -75,21 +74,20 @@ state_of-requires c = record {
   mtu_bound = (state_asks (ready (goal.at.state_of-requires c).Start) (is_resend (goal.at.state_of-requires c).After-resend-after) (ready (goal.at.state_of-requires c).Start).sound_window_lem).1;
 }
 
-pub returns-then-a : goal.returns-then-a
+pub returns-then-a-clause-left : goal.returns-then-a-clause-left
 unfolding send_step
-returns-then-a c =
-    let world-in = world c.args.c (memory c.args.outstanding.now c.args.marked.now c.args.sizes.now c.args.sent.now)
+returns-then-a-clause-left c =
+    let world-in = world c.args.c (memory_of_mut c.args.ring.now)
     c.args.evs.now in
     let sent-of = if_so c.args.a.resend (resend_of c.args.time c.args.a.psn (ledger_of (world-in)))
     (push_of c.args.time c.args.a.size (ledger_of (world-in))) in
     let kept-resend = kept c.resend-after.result.flow c.resend-after.result.totals
-    (memory c.resend-after.new.outstanding c.resend-after.new.marked c.resend-after.new.sizes
-    c.resend-after.new.sent) in
-    settles c.args.time c.args.c (sent-of) {m = (kept-resend).slots} (is_resend (goal.at.returns-then-a c).After-resend-after) refl refl c.state_of.ensures
+    (memory_of_mut c.resend-after.new.ring) in
+    settles c.args.time c.args.c (sent-of) {m = (kept-resend).slots} (is_resend (goal.at.returns-then-a-clause-left c).After-resend-after) refl refl c.state_of.ensures
 
 pub push-after-requires : goal.push-after-requires
 push-after-requires c =
-    let world-in = world c.args.c (memory c.args.outstanding.now c.args.marked.now c.args.sizes.now c.args.sent.now)
+    let world-in = world c.args.c (memory_of_mut c.args.ring.now)
     c.args.evs.now in
     let w = world-in in
     let asks = push_asks (facts (goal.at.push-after-requires c).Start) (accepted (goal.at.push-after-requires c).Start) c.if-a.false in
@@ -105,14 +103,13 @@ state_of-requires-2 c = record {
   mtu_bound = (state_asks (ready (goal.at.state_of-requires-2 c).Start) (is_push (goal.at.state_of-requires-2 c).After-push-after) (ready (goal.at.state_of-requires-2 c).Start).sound_window_lem).1;
 }
 
-pub returns : goal.returns
+pub returns-clause-left : goal.returns-clause-left
 unfolding send_step
-returns c =
-    let world-in = world c.args.c (memory c.args.outstanding.now c.args.marked.now c.args.sizes.now c.args.sent.now)
+returns-clause-left c =
+    let world-in = world c.args.c (memory_of_mut c.args.ring.now)
     c.args.evs.now in
     let sent-of = if_so c.args.a.resend (resend_of c.args.time c.args.a.psn (ledger_of (world-in)))
     (push_of c.args.time c.args.a.size (ledger_of (world-in))) in
     let kept_push = kept c.push-after.result.flow c.push-after.result.totals
-    (memory c.push-after.new.outstanding c.push-after.new.marked c.push-after.new.sizes
-    c.push-after.new.sent) in
-    settles c.args.time c.args.c (sent-of) {m = (kept_push).slots} (is_push (goal.at.returns c).After-push-after) refl refl c.state_of-2.ensures
+    (memory_of_mut c.push-after.new.ring) in
+    settles c.args.time c.args.c (sent-of) {m = (kept_push).slots} (is_push (goal.at.returns-clause-left c).After-push-after) refl refl c.state_of-2.ensures
