@@ -12,6 +12,7 @@ ghost use Rattle.context.specs.Look.{packet_in, on_status, marked_from, on_next_
 use crate::Controller;
 use crate::join::cut_of;
 use crate::sound::is_sound;
+use ledger::ring::Ring;
 use ledger::{Books, Packet};
 use rules::verdict::Refusal;
 
@@ -38,14 +39,13 @@ pub fn packet_at<'a>(
     let end = p.end;
     let at = p.at;
     let to = p.to;
-    ledger::slots::find(
-        flow_table::flow_at(flows, flow),
-        &outstanding[from..end],
-        &marked[from..end],
-        &sizes[at..to],
-        &sent[at..to],
-        psn,
-    )
+    let ring = Ring {
+        outstanding: &outstanding[from..end],
+        marked: &marked[from..end],
+        sizes: &sizes[at..to],
+        sent: &sent[at..to],
+    };
+    ledger::slots::find(flow_table::flow_at(flows, flow), ring, psn)
 }
 
 // The status that flow k's ring shows of a PSN: 0 where it is none of low..next-1.
@@ -97,14 +97,13 @@ pub fn marked_from<'a>(
     let to = p.to;
     let flow = flow_table::flow_at(flows, flow);
     let totals = c.totals;
-    ledger::seek::next_marked(
-        Books { flow, totals },
-        &outstanding[from..end],
-        &marked[from..end],
-        &sizes[at..to],
-        &sent[at..to],
-        psn,
-    )
+    let ring = Ring {
+        outstanding: &outstanding[from..end],
+        marked: &marked[from..end],
+        sizes: &sizes[at..to],
+        sent: &sent[at..to],
+    };
+    ledger::seek::next_marked(Books { flow, totals }, ring, psn)
 }
 
 // Flow k's first marked PSN from psn on; next where there is none, or where psn is none of low..next-1.

@@ -10,6 +10,7 @@ ghost use Rattle.context.specs.Events.{past_new_data, past_send, past_ack, past_
 
 use crate::Controller;
 use crate::join::{cut_of, joined, keep_acked, keep_backlog, keep_sent, no_flow, shared};
+use ledger::ring::Ring;
 use rules::verdict::Answer;
 use sender::{Ack, Loss, Nack, Send};
 use window::Sampling;
@@ -44,16 +45,13 @@ pub fn new_data<'a, 'b>(
     let at = p.at;
     let to = p.to;
     let s = joined(c, flow_table::flow_at(flows, flow));
-    let told = sender::rely::new_data(
-        s,
-        &outstanding[from..end],
-        &marked[from..end],
-        &sizes[at..to],
-        &sent[at..to],
-        evs,
-        time,
-        bytes,
-    );
+    let ring = Ring {
+        outstanding: &outstanding[from..end],
+        marked: &marked[from..end],
+        sizes: &sizes[at..to],
+        sent: &sent[at..to],
+    };
+    let told = sender::rely::new_data(s, ring, evs, time, bytes);
     let after = told.state;
     let outcome = told.outcome;
     keep_backlog(flows, flow, after.flow, outcome);
@@ -288,15 +286,13 @@ pub fn path<'a>(
     let at = p.at;
     let to = p.to;
     let s = joined(c, flow_table::flow_at(flows, flow));
-    let chosen = sender::rely::path(
-        s,
-        &outstanding[from..end],
-        &marked[from..end],
-        &sizes[at..to],
-        &sent[at..to],
-        evs,
-        time,
-    );
+    let ring = Ring {
+        outstanding: &outstanding[from..end],
+        marked: &marked[from..end],
+        sizes: &sizes[at..to],
+        sent: &sent[at..to],
+    };
+    let chosen = sender::rely::path(s, ring, evs, time);
     let after = chosen.state;
     let outcome = chosen.outcome;
     Answer {

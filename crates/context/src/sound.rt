@@ -10,6 +10,7 @@ ghost use Rattle.context.specs.Walk.{stands_on, tally_at, tally_to, Parted, Stan
 
 use crate::Controller;
 use crate::join::{cut_at, share};
+use ledger::ring::Ring;
 use ledger::sound::Tally;
 
 // Whether the ring buffer is n rings of `cap` slots, end to end.
@@ -59,15 +60,13 @@ fn stands_at<'a>(
     let end = p.end;
     let at = p.at;
     let to = p.to;
-    ledger::sound::stands(
-        flow,
-        &outstanding[from..end],
-        &marked[from..end],
-        &sizes[at..to],
-        &sent[at..to],
-        mtu,
-        clock,
-    )
+    let ring = Ring {
+        outstanding: &outstanding[from..end],
+        marked: &marked[from..end],
+        sizes: &sizes[at..to],
+        sent: &sent[at..to],
+    };
+    ledger::sound::stands(flow, ring, mtu, clock)
 }
 
 // Whether each of the n flows and its ring hold together.
@@ -114,13 +113,13 @@ fn tally_at<'a>(
     let end = p.end;
     let at = p.at;
     let to = p.to;
-    ledger::sound::tally_of(
-        flow,
-        &outstanding[from..end],
-        &marked[from..end],
-        &sizes[at..to],
-        &sent[at..to],
-    )
+    let ring = Ring {
+        outstanding: &outstanding[from..end],
+        marked: &marked[from..end],
+        sizes: &sizes[at..to],
+        sent: &sent[at..to],
+    };
+    ledger::sound::tally_of(flow, ring)
 }
 
 // Two tallies in one.

@@ -11,6 +11,7 @@ use crate::Controller;
 use crate::join::{share, shared};
 use crate::sound::is_cut;
 use ledger::Flow;
+use ledger::ring::RingMut;
 use rules::verdict::{Answer, Refusal};
 use window::Settings;
 
@@ -88,7 +89,13 @@ pub fn set_up<'a, 'b, 'c, 'd, 'e, 'f>(
         return not_set_up(Refusal::Unsound);
     }
     fresh_flows(flows, settings.first_psn);
-    sender::start::clear(outstanding, marked, sizes, sent, evs);
+    let mut ring = RingMut {
+        outstanding,
+        marked,
+        sizes,
+        sent,
+    };
+    sender::start::clear(&mut ring, evs);
     Answer {
         state: fresh(settings),
         outcome: Ok(()),

@@ -33,7 +33,6 @@ use Rattle.sender.specs.declared.Send.{Send}
 use Rattle.sender.specs.declared.Ack.{Ack}
 use Rattle.sender.specs.declared.Nack.{Nack}
 use Rattle.sender.specs.declared.Loss.{Loss}
-use Rattle.rules.specs.declared.verdict.Refusal.{Refusal}
 use Rattle.std.specs.Prelude.{Ok}
 use Rattle.rules.specs.Verdict.{number_of}
 

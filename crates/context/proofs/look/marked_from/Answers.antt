@@ -56,26 +56,26 @@ flow_at-flow-requires c =
 pub offset_bounds-outstanding-from : goal.offset_bounds-outstanding-from
 offset_bounds-outstanding-from c = let L = lying (goal.at.offset_bounds-outstanding-from c).After-cut_of-p in record { fits = omega (arith, L) }
 
-pub slice_bounds-next_marked-end : goal.slice_bounds-next_marked-end
-slice_bounds-next_marked-end c = (lying (goal.at.slice_bounds-next_marked-end c).After-cut_of-p).outstanding
+pub slice_bounds-ring-end : goal.slice_bounds-ring-end
+slice_bounds-ring-end c = (lying (goal.at.slice_bounds-ring-end c).After-cut_of-p).outstanding
 
 pub offset_bounds-marked-from : goal.offset_bounds-marked-from
 offset_bounds-marked-from c = let L = lying (goal.at.offset_bounds-marked-from c).After-cut_of-p in record { fits = omega (arith, L) }
 
-pub slice_bounds-next_marked-end-2 : goal.slice_bounds-next_marked-end-2
-slice_bounds-next_marked-end-2 c = (lying (goal.at.slice_bounds-next_marked-end-2 c).After-cut_of-p).marked
+pub slice_bounds-ring-end-2 : goal.slice_bounds-ring-end-2
+slice_bounds-ring-end-2 c = (lying (goal.at.slice_bounds-ring-end-2 c).After-cut_of-p).marked
 
 pub offset_bounds-sizes-at : goal.offset_bounds-sizes-at
 offset_bounds-sizes-at c = let L = lying (goal.at.offset_bounds-sizes-at c).After-cut_of-p in record { fits = omega (arith, L) }
 
-pub slice_bounds-next_marked-end-3 : goal.slice_bounds-next_marked-end-3
-slice_bounds-next_marked-end-3 c = (lying (goal.at.slice_bounds-next_marked-end-3 c).After-cut_of-p).sizes
+pub slice_bounds-ring-end-3 : goal.slice_bounds-ring-end-3
+slice_bounds-ring-end-3 c = (lying (goal.at.slice_bounds-ring-end-3 c).After-cut_of-p).sizes
 
 pub offset_bounds-sent-at : goal.offset_bounds-sent-at
 offset_bounds-sent-at c = let L = lying (goal.at.offset_bounds-sent-at c).After-cut_of-p in record { fits = omega (arith, L) }
 
-pub slice_bounds-next_marked-end-4 : goal.slice_bounds-next_marked-end-4
-slice_bounds-next_marked-end-4 c = (lying (goal.at.slice_bounds-next_marked-end-4 c).After-cut_of-p).sent
+pub slice_bounds-ring-end-4 : goal.slice_bounds-ring-end-4
+slice_bounds-ring-end-4 c = (lying (goal.at.slice_bounds-ring-end-4 c).After-cut_of-p).sent
 
 pub next_marked-requires : goal.next_marked-requires
 next_marked-requires c =

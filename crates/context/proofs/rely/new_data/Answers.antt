@@ -49,26 +49,26 @@ flow_at-requires c = let H = here (goal.at.flow_at-requires c).After-cut_of-p in
 pub offset_bounds-outstanding-from : goal.offset_bounds-outstanding-from
 offset_bounds-outstanding-from c = let H = here (goal.at.offset_bounds-outstanding-from c).After-cut_of-p in record { fits = omega (arith, H.lies) }
 
-pub slice_bounds-new_data-end : goal.slice_bounds-new_data-end
-slice_bounds-new_data-end c = (here (goal.at.slice_bounds-new_data-end c).After-cut_of-p).lies.outstanding
+pub slice_bounds-ring-end : goal.slice_bounds-ring-end
+slice_bounds-ring-end c = (here (goal.at.slice_bounds-ring-end c).After-cut_of-p).lies.outstanding
 
 pub offset_bounds-marked-from : goal.offset_bounds-marked-from
 offset_bounds-marked-from c = let H = here (goal.at.offset_bounds-marked-from c).After-cut_of-p in record { fits = omega (arith, H.lies) }
 
-pub slice_bounds-new_data-end-2 : goal.slice_bounds-new_data-end-2
-slice_bounds-new_data-end-2 c = (here (goal.at.slice_bounds-new_data-end-2 c).After-cut_of-p).lies.marked
+pub slice_bounds-ring-end-2 : goal.slice_bounds-ring-end-2
+slice_bounds-ring-end-2 c = (here (goal.at.slice_bounds-ring-end-2 c).After-cut_of-p).lies.marked
 
 pub offset_bounds-sizes-at : goal.offset_bounds-sizes-at
 offset_bounds-sizes-at c = let H = here (goal.at.offset_bounds-sizes-at c).After-cut_of-p in record { fits = omega (arith, H.lies) }
 
-pub slice_bounds-new_data-end-3 : goal.slice_bounds-new_data-end-3
-slice_bounds-new_data-end-3 c = (here (goal.at.slice_bounds-new_data-end-3 c).After-cut_of-p).lies.sizes
+pub slice_bounds-ring-end-3 : goal.slice_bounds-ring-end-3
+slice_bounds-ring-end-3 c = (here (goal.at.slice_bounds-ring-end-3 c).After-cut_of-p).lies.sizes
 
 pub offset_bounds-sent-at : goal.offset_bounds-sent-at
 offset_bounds-sent-at c = let H = here (goal.at.offset_bounds-sent-at c).After-cut_of-p in record { fits = omega (arith, H.lies) }
 
-pub slice_bounds-new_data-end-4 : goal.slice_bounds-new_data-end-4
-slice_bounds-new_data-end-4 c = (here (goal.at.slice_bounds-new_data-end-4 c).After-cut_of-p).lies.sent
+pub slice_bounds-ring-end-4 : goal.slice_bounds-ring-end-4
+slice_bounds-ring-end-4 c = (here (goal.at.slice_bounds-ring-end-4 c).After-cut_of-p).lies.sent
 
 pub new_data-told-requires : goal.new_data-told-requires
 new_data-told-requires c =

@@ -4,7 +4,7 @@ use mathlib.Core.Bool.{not}
 use Rattle.std.specs.Prelude.{⊤, Err}
 use Rattle.std.proofs.lemmas.Result.{err_from_is_err_and}
 use Rattle.rules.specs.Branch.{eq_yes, eq_no, so_yes, so_no}
-use Rattle.rules.specs.Verdict.{number_of, ok_zero, err_not}
+use Rattle.rules.specs.Verdict.{number_of, err_not}
 use Rattle.ledger.specs.Lent.{memory_of}
 use Rattle.ledger.specs.Memory.{shown}
 use Rattle.ledger.proofs.Signs.{word}

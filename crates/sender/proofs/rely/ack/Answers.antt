@@ -1,11 +1,12 @@
 -- `ack` judges the rows past 2, then takes the step: each answer is a case of `past_ack`, by the laws of `Rowing`.
+use borrow.Author.Rules.{rules}
 use mathlib.Core.Path.{refl, sym, ap, ◌∙◌}
 use mathlib.Core.Option.{some}
 use Rattle.std.specs.Prelude.{⊤, Err}
 use Rattle.window.specs.declared.Sampling.{Sampling}
 use Rattle.rules.specs.Verdict.{number_of, ok_zero, err_not, err_same}
-use Rattle.ledger.specs.Lent.{memory_of_mut}
-use Rattle.ledger.specs.Memory.{memory}
+use Rattle.ledger.specs.Memory.{Memory, memory}
+use Rattle.ledger.proofs.Shows.{memories}
 use Rattle.sender.specs.World.{world, view_of, world_of}
 use Rattle.sender.specs.Rows.{ack_all_rows}
 use Rattle.sender.specs.Steps.{ack_sampling, ack_step}
@@ -50,8 +51,9 @@ returns-in-Ok c =
     let stepped = world_of (ack_step c.args.time c.args.a (view_of (handed))) in
     let zero = ok_zero _ _ c.in-Ok.is in
     let answer = answer_accepted (handed) (rows) (stepped) _ _ (number_of c.judge_ack.result) c.judge_ack.ensures zero
-    c.ack-step.result.state (memory_of_mut c.ack-step.new.ring) c.ack-step.new.evs
-    c.ack-step.ensures.evs_value refl (accepted_number _) in
+    c.ack-step.result.state _ c.ack-step.new.evs
+    (ap (λ (m : Memory). world c.ack-step.result.state m c.ack-step.new.evs)
+    (memories (search rules) (search rules) (search rules) (search rules)) ∙ c.ack-step.ensures.evs_value) refl (accepted_number _) in
     record {
       evs_value = answer;
       feedback_value = says_sample answer (ack_sampling c.args.time c.args.a (view_of (handed))) (accepted_number _)

@@ -1,8 +1,9 @@
 -- `loss` judges the rows past 2, then takes the step: each answer is a case of `past_loss`, by the laws of `Rowing`.
-use mathlib.Core.Path.{refl, sym, ◌∙◌}
+use borrow.Author.Rules.{rules}
+use mathlib.Core.Path.{refl, sym, ap, ◌∙◌}
 use Rattle.rules.specs.Verdict.{number_of, accepted_zero, refused_not}
-use Rattle.ledger.specs.Lent.{memory_of_marks}
-use Rattle.ledger.specs.Memory.{memory}
+use Rattle.ledger.specs.Memory.{Memory, memory}
+use Rattle.ledger.proofs.Shows.{memories}
 use Rattle.sender.specs.World.{world, ring_of, view_of, world_of}
 use Rattle.sender.specs.Rows.{loss_all_rows}
 use Rattle.sender.specs.Steps.{loss_step}
@@ -36,8 +37,9 @@ returns-then-is_ok c =
     let stepped = world_of (loss_step c.args.time c.args.a (view_of (handed))) in
     let zero = accepted_zero _ _ c.is_ok.ensures.value c.if-is_ok.true in
     answer_accepted (handed) (rows) (stepped) _ _ (number_of c.judge_loss-outcome.result) c.judge_loss-outcome.ensures zero
-    c.loss-state.result (memory_of_marks c.loss-state.new.ring) c.loss-state.new.evs
-    c.loss-state.ensures.left refl zero
+    c.loss-state.result _ c.loss-state.new.evs
+    (ap (λ (m : Memory). world c.loss-state.result m c.loss-state.new.evs)
+    (memories (search rules) (search rules) (search rules) (search rules)) ∙ c.loss-state.ensures.left) refl zero
 
 pub returns-else-is_ok : goal.returns-else-is_ok
 unfolding past_loss

@@ -1,11 +1,12 @@
 -- `nack` judges the rows past 2, then takes the step: each answer is a case of `past_nack`, by the laws of `Rowing`.
+use borrow.Author.Rules.{rules}
 use mathlib.Core.Path.{refl, sym, ap, ◌∙◌}
 use mathlib.Core.Option.{some}
 use Rattle.std.specs.Prelude.{⊤, Err}
 use Rattle.window.specs.declared.Sampling.{Sampling}
 use Rattle.rules.specs.Verdict.{number_of, ok_zero, err_not, err_same}
-use Rattle.ledger.specs.Lent.{memory_of_marks}
-use Rattle.ledger.specs.Memory.{memory}
+use Rattle.ledger.specs.Memory.{Memory, memory}
+use Rattle.ledger.proofs.Shows.{memories}
 use Rattle.sender.specs.World.{world, ring_of, view_of, world_of}
 use Rattle.sender.specs.Rows.{nack_all_rows}
 use Rattle.sender.specs.Steps.{nack_sampling, nack_step}
@@ -41,8 +42,9 @@ returns-in-Ok c =
     let answer = answer_accepted (handed) (rows) (stepped) _ _ (number_of c.judge_nack.result)
     c.judge_nack.ensures zero
     c.nack-step.result.state
-    (memory_of_marks c.nack-step.new.ring) c.nack-step.new.evs
-    c.nack-step.ensures.evs_value_2 refl (accepted_number _) in
+    _ c.nack-step.new.evs
+    (ap (λ (m : Memory). world c.nack-step.result.state m c.nack-step.new.evs)
+    (memories (search rules) (search rules) (search rules) (search rules)) ∙ c.nack-step.ensures.evs_value_2) refl (accepted_number _) in
     record {
       evs_value = answer;
       feedback_value = says_sample answer (nack_sampling c.args.time c.args.a (view_of (handed))) (accepted_number _) (ap some c.nack-step.ensures.sampling_value);

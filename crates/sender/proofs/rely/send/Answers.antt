@@ -1,9 +1,10 @@
 -- `send` judges the rows past 2, then takes the step: each answer is a case of `past_send`, by the laws of `Rowing`.
-use mathlib.Core.Path.{refl, sym, ◌∙◌}
+use borrow.Author.Rules.{rules}
+use mathlib.Core.Path.{refl, sym, ap, ◌∙◌}
 use Rattle.std.specs.Prelude.{⊤, Err}
 use Rattle.rules.specs.Verdict.{number_of, ok_zero, err_not}
-use Rattle.ledger.specs.Lent.{memory_of_mut}
-use Rattle.ledger.specs.Memory.{memory}
+use Rattle.ledger.specs.Memory.{Memory, memory}
+use Rattle.ledger.proofs.Shows.{memories}
 use Rattle.sender.specs.World.{world, ring_of, view_of, world_of}
 use Rattle.sender.specs.Rows.{send_all_rows}
 use Rattle.sender.specs.Steps.{send_step}
@@ -47,5 +48,6 @@ returns-in-Ok c =
     let stepped = world_of (send_step c.args.time c.args.a (view_of (handed))) in
     let zero = ok_zero _ _ c.in-Ok.is in
     answer_accepted (handed) (rows) (stepped) _ _ (number_of c.judge_send.result) c.judge_send.ensures zero
-    c.send.result (memory_of_mut c.send.new.ring) (handed).times
-    c.send.ensures.left refl (accepted_number _)
+    c.send.result _ (handed).times
+    (ap (λ (m : Memory). world c.send.result m (handed).times) (memories (search rules) (search rules) (search rules) (search rules)) ∙ c.send.ensures.left)
+    refl (accepted_number _)
