@@ -1,10 +1,12 @@
 -- `set_up` makes the tests of `on_set_up` in their order, and overwrites what it was lent only after them: by the laws of proofs/Starts on
 -- its answer.
+use borrow.Author.Rules.{rules}
 use mathlib.Core.Path.{◌≡◌, ap, ◌∙◌}
 use mathlib.Core.Bool.{true}
 use lib.ListN.{length}
 use Rattle.rules.specs.Verdict.{number_of}
 use Rattle.ledger.specs.Memory.{memory}
+use Rattle.ledger.proofs.Shows.{memories}
 use Rattle.flow_table.specs.Words.{is_table}
 use Rattle.context.proofs.Starts.{refused_range, refused_lengths, accepted_table, accepted_so, fresh_length}
 use mathlib.Core.Bool.{not}
@@ -47,4 +49,5 @@ returns c =
     let handed = memory c.args.outstanding.now c.args.marked.now c.args.sizes.now c.args.sent.now in
     accepted_so c.args.settings c.args.flows.now (handed) c.args.evs.now _ c.in_range.ensures
     (ap not c.if-not-in_range.false) _ c.lengths_ok.ensures (ap not c.if-not-lengths_ok-evs.false)
-    _ _ _ _ c.fresh.ensures c.fresh_flows.ensures c.clear.ensures.0 c.clear.ensures.1
+    _ _ _ _ c.fresh.ensures c.fresh_flows.ensures
+    (memories (search rules) (search rules) (search rules) (search rules) ∙ c.clear.ensures.zeros.0) c.clear.ensures.zeros.1
