@@ -58,7 +58,8 @@ fn cover_word<'a, 'b, 'c>(
     }
 }
 
-// The first `far` packets from low on are looked at, a word at a time; the ACK covers none beyond. What is covered leaves the totals.
+// The first `far` packets from low on are looked at, a word at a time; the ACK covers none beyond. What is covered leaves the totals. This
+// and the two below take the slices by themselves: so their types say which each may write, the bits here and the numbers there.
 fn cover<'a, 'b, 'c>(
     outstanding: &'a mut [u64],
     marked: &'b mut [u64],

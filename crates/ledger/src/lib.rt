@@ -1,5 +1,5 @@
-// The ledger of sent packets: document 01, "The ledger". The ring is lent as four slices (request M-109), which `ring` holds together. PSN p
-// lives at p mod capacity.
+// The ledger of sent packets: document 01, "The ledger". The ring is lent as four slices (request M-109), which `ring` holds together.
+// PSN p lives at p mod capacity.
 #![tactic(auto)]
 
 pub mod deliver;

@@ -64,7 +64,8 @@ fn zero_run(ring: Ring<'_>, from: usize, to: usize) -> bool
 // on; and so are the others.
 fn slots_ok(ring: Ring<'_>, mtu: u64, clock: u64, low: u32, n: u32) -> bool
     requires sizes_value { (is_capacity (length ring.sizes.now) ≡ true) × (n ≤ length ring.sizes.now) }
-    requires word_bits_len { (length ring.outstanding.now * word_bits ≡ length ring.sizes.now) × (length ring.sent.now ≡ length ring.sizes.now) }
+    requires word_bits_len { (length ring.outstanding.now * word_bits ≡ length ring.sizes.now)
+        × (length ring.sent.now ≡ length ring.sizes.now) }
     ensures { result ≡ all_to (slot_at mtu clock ring.entry.outstanding.now ring.entry.sizes.now ring.entry.sent.now
         (length ring.entry.sizes.now) low n) (length ring.entry.sizes.now) }
 {
