@@ -1,22 +1,22 @@
 // The judge of planned sends.
 ghost use Rattle.std.specs.Prelude.{◌≡◌, true, ◌||◌, ltb, leb, ◌<◌, ◌≤◌};
-ghost use Rattle.rules.specs.Verdict.{number_of};
+ghost use Rattle.rules.specs.Verdict.{refused_number};
 ghost use Rattle.window.specs.Limits.{time_end};
 ghost use Rattle.context.specs.Lent.{context_given, context_before};
 ghost use Rattle.context.specs.Sound.{sound_context};
 ghost use Rattle.plan.specs.Plan.{plan_of};
-ghost use Rattle.plan.specs.Judge.{judged, made_from, on_judge};
+ghost use Rattle.plan.specs.Judge.{judged, judgement_of, made_from, on_judge};
 
 use crate::words::{count, send_at};
 use crate::{SENDS_MOST, ahead};
 use context::Controller;
 use context::sound::is_sound;
-use rules::verdict::{Refusal, Verdict};
+use rules::verdict::Refusal;
 
-// The verdict on a plan, and the first send that fails, from 0; 0 where none is named.
+// Why a plan is refused, and the first send that fails, from 0; 0 where none is named.
 #[derive(Clone, Copy)]
-pub struct Judgement {
-    pub verdict: Verdict,
+pub struct Unfit {
+    pub refusal: Refusal,
     pub send: usize,
 }
 
@@ -28,10 +28,11 @@ pub(crate) fn is_late(time: u64, clock: u64) -> bool
 }
 
 // No send is named.
-fn no_send(verdict: Verdict) -> Judgement
-    ensures { judged (number_of result.verdict) result.send ≡ judged (number_of verdict) 0 }
+#[tactic(auto, unfolding(crate::specs::Judge::judgement_of))]
+fn no_send(refusal: Refusal) -> Result<(), Unfit>
+    ensures { judgement_of result ≡ judged (refused_number refusal) 0 }
 {
-    Judgement { verdict, send: 0 }
+    Err(Unfit { refusal, send: 0 })
 }
 
 // Send by send, past 2, 3 and 27. An inner step: the caller proves that these are passed.
@@ -45,10 +46,10 @@ fn judge_each<'a>(
     evs: &'a [u64],
     time: u64,
     plan: &'a [u32],
-) -> Judgement
+) -> Result<(), Unfit>
     requires evs_value { sound_context (context_given c flows.now outstanding.now marked.now sizes.now sent.now evs.now) ≡ true }
     requires clock_le_time { (c.clock ≤ time) × (time < time_end) }
-    ensures { judged (number_of result.verdict) result.send
+    ensures { judgement_of result
         ≡ made_from time 0 (plan_of plan.now) (context_before c flows.now outstanding.now marked.now sizes.now sent.now evs.now) }
 {
     let n = count(plan);
@@ -68,12 +69,12 @@ fn judge_each<'a>(
             s,
             p,
         );
-        if verdict.is_err() {
-            return Judgement { verdict, send: i };
+        if let Err(refusal) = verdict {
+            return Err(Unfit { refusal, send: i });
         }
         s = ahead::after(s, p);
     }
-    no_send(Ok(()))
+    Ok(())
 }
 
 // The judge: 2, 3, 27, then the first send that fails. Nothing is changed.
@@ -87,18 +88,18 @@ pub fn judge<'a>(
     evs: &'a [u64],
     time: u64,
     plan: &'a [u32],
-) -> Judgement
-    ensures { judged (number_of result.verdict) result.send
+) -> Result<(), Unfit>
+    ensures { judgement_of result
         ≡ on_judge time (plan_of plan.now) (context_before c flows.now outstanding.now marked.now sizes.now sent.now evs.now) }
 {
     if !is_sound(c, flows, outstanding, marked, sizes, sent, evs) {
-        return no_send(Err(Refusal::Unsound));
+        return no_send(Refusal::Unsound);
     }
     if is_late(time, c.clock) {
-        return no_send(Err(Refusal::Time));
+        return no_send(Refusal::Time);
     }
     if SENDS_MOST < count(plan) {
-        return no_send(Err(Refusal::PlanTooLong));
+        return no_send(Refusal::PlanTooLong);
     }
     judge_each(c, flows, outstanding, marked, sizes, sent, evs, time, plan)
 }

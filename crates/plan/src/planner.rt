@@ -1,5 +1,6 @@
 // Our own planner: the turns of request M-108, inside the planning only.
 ghost use Rattle.std.specs.Prelude.{◌≡◌, true, ◌<◌, ◌≤◌, min, length};
+ghost use Rattle.std.specs.Result.{result_unwrap_or};
 ghost use Rattle.rules.specs.Verdict.{number_of};
 ghost use Rattle.window.specs.Limits.{time_end};
 ghost use Rattle.context.specs.Lent.{context_given, context_before};
@@ -13,14 +14,7 @@ use crate::words::{count, put_send};
 use crate::{SENDS_MOST, course};
 use context::Controller;
 use context::sound::is_sound;
-use rules::verdict::{Refusal, Verdict};
-
-// The verdict, and how many sends the plan has: none where it is refused.
-#[derive(Clone, Copy)]
-pub struct Proposal {
-    pub verdict: Verdict,
-    pub count: usize,
-}
+use rules::verdict::Refusal;
 
 // How many sends there is room for, at most 64.
 fn room(plan: &[u32]) -> usize
@@ -83,7 +77,7 @@ fn plan_each<'a, 'b>(
     most
 }
 
-// The planner: 2, 3, which give no plan. Only the plan's sends are written.
+// The planner: 2, 3, which give no plan, or else how many sends the plan has. Only these are written.
 pub fn plan<'a, 'b>(
     c: Controller,
     flows: &'a [u64],
@@ -95,24 +89,18 @@ pub fn plan<'a, 'b>(
     time: u64,
     bytes: u32,
     plan: &'b mut [u32],
-) -> Proposal
-    ensures { proposal (number_of result.verdict) result.count plan.new
+) -> Result<usize, Refusal>
+    ensures { proposal (number_of result) (result_unwrap_or result 0) plan.new
         ≡ proposed plan.old
         (on_plan time bytes (send_count plan.old) (context_before c flows.now outstanding.now marked.now sizes.now sent.now evs.now)) }
 {
     if !is_sound(c, flows, outstanding, marked, sizes, sent, evs) {
-        return Proposal {
-            verdict: Err(Refusal::Unsound),
-            count: 0,
-        };
+        return Err(Refusal::Unsound);
     }
     if is_late(time, c.clock) {
-        return Proposal {
-            verdict: Err(Refusal::Time),
-            count: 0,
-        };
+        return Err(Refusal::Time);
     }
-    let count = plan_each(
+    Ok(plan_each(
         c,
         flows,
         outstanding,
@@ -123,9 +111,5 @@ pub fn plan<'a, 'b>(
         time,
         bytes,
         plan,
-    );
-    Proposal {
-        verdict: Ok(()),
-        count,
-    }
+    ))
 }

@@ -1,18 +1,19 @@
 -- `judge_each` judges send by send (proofs/Made).
-use mathlib.Core.Path.{◌≡◌, ap, ◌∙◌}
+use mathlib.Core.Path.{◌≡◌, refl, ap, ◌∙◌}
 use Prim.Native.Nat.{ℕ}
 use native.Mathlib.Omega.{arith}
-use Rattle.rules.specs.Verdict.{number_of, unrefused_zero, unaccepted_not}
+use Rattle.std.specs.Prelude.{⊤, Err}
+use Rattle.rules.specs.Verdict.{number_of, ok_zero, err_not}
 use Rattle.ledger.specs.Memory.{memory}
 use Rattle.context.specs.Context.{context}
 use Rattle.plan.specs.Plan.{planned_at, sends_from, plan_of}
 use Rattle.plan.specs.Ahead.{ahead_number, ahead_after}
-use Rattle.plan.specs.Judge.{made_from}
+use Rattle.plan.specs.Judge.{judgement_of, made_from}
 use Rattle.plan.specs.declared.Planned.{Planned}
 use Rattle.plan.proofs.Agrees.{agrees_flown}
 use Rattle.plan.proofs.Made.{reached_start, reached_end, reached_refused, after_asks, reached_next}
 use Rattle.plan.proofs.judge.judge_each.Goals as goal
-use Rattle.plan.proofs.judge.judge_each.Goals.{After-judge_next-verdict, At-loop-i, Else-is_err}
+use Rattle.plan.proofs.judge.judge_each.Goals.{After-judge_next-verdict, At-loop-i, In_default}
 
 -- the number that was told is that of the plan's send i
 told : (c : After-judge_next-verdict) →
@@ -38,8 +39,8 @@ whole c =
     ap (λ (m : ℕ). made_from c.args.time 0 (sends_from c.args.plan.now 0 m) handed) c.count-n.ensures
 
 -- send i was accepted
-accepted : (c : Else-is_err) → number_of c.judge_next-verdict.result ≡ 0
-accepted c = unrefused_zero c.judge_next-verdict.result _ c.is_err.ensures.value c.if-is_err.false
+accepted : (c : In_default) → number_of c.judge_next-verdict.result ≡ 0
+accepted c = ok_zero _ _ c.in_default.is
 
 pub loop-i-init : goal.loop-i-init
 loop-i-init c =
@@ -56,29 +57,31 @@ judge_next-verdict-requires c = record {
   i_bound = (omega (arith, c.loop-i-test.true, c.count-n.ensures), agrees_flown c.loop-i.invariant.agrees);
 }
 
-pub returns-then-is_err : goal.returns-then-is_err
-returns-then-is_err c =
-    let g = goal.at.returns-then-is_err c in
-    reached_refused c.loop-i.invariant c.loop-i-test.true (told g.After-judge_next-verdict)
-    (unaccepted_not c.judge_next-verdict.result _ c.is_err.ensures.value c.if-is_err.true)
+pub returns-in-Err : goal.returns-in-Err
+unfolding judgement_of
+returns-in-Err c =
+    let g = goal.at.returns-in-Err c in
+    let refused : number_of {T = ⊤} (Err c.in-Err.refusal) ≡ number_of c.judge_next-verdict.result = rw c.in-Err.is refl in
+    reached_refused c.loop-i.invariant c.loop-i-test.true (refused ∙ told g.After-judge_next-verdict)
+    (err_not _ c.in-Err.refusal refl)
     ∙ whole g.At-loop-i
 
 pub after-s-requires : goal.after-s-requires
 after-s-requires c =
     let g = goal.at.after-s-requires c in
     let asks = after_asks c.loop-i.invariant c.loop-i-test.true (told g.After-judge_next-verdict)
-    (accepted g.Else-is_err) in
+    (accepted g.In_default) in
     let p = c.send_at-p.ensures in
     record { flow_lt_flows_most = rw p asks.0; size_bound = rw p asks.1 }
 
 pub loop-i-preserved : goal.loop-i-preserved
 loop-i-preserved c =
     let g = goal.at.loop-i-preserved c in
-    reached_next c.loop-i.invariant c.loop-i-test.true (told g.After-judge_next-verdict) (accepted g.Else-is_err)
+    reached_next c.loop-i.invariant c.loop-i-test.true (told g.After-judge_next-verdict) (accepted g.In_default)
     (c.after-s.ensures ∙ ap (ahead_after c.loop-i.s) c.send_at-p.ensures) (omega arith)
 
 pub returns : goal.returns
-unfolding number_of
+unfolding judgement_of
 returns c =
     let g = goal.at.returns c in
-    c.no_send.ensures ∙ reached_end c.loop-i.invariant c.loop-i-test.false ∙ whole g.At-loop-i
+    reached_end c.loop-i.invariant c.loop-i-test.false ∙ whole g.At-loop-i

@@ -37,9 +37,9 @@ returns-then-is_late c =
     context a.c a.flows.now (memory a.outstanding.now a.marked.now a.sizes.now a.sent.now) a.evs.now in
     plan_3 _ _ handed _ (holds g.After-is_late) (sym c.is_late.ensures ∙ c.if-is_late.true)
 
-pub plan_each-count-requires : goal.plan_each-count-requires
-plan_each-count-requires c =
-    let g = goal.at.plan_each-count-requires c in
+pub plan_each-requires : goal.plan_each-requires
+plan_each-requires c =
+    let g = goal.at.plan_each-requires c in
     record {
       evs_value = holds g.After-is_late;
       clock_le_time = timely _ _ (in_time g.Else-is_late);
@@ -51,4 +51,4 @@ returns c =
     let g = goal.at.returns c in
     let handed = let a = c.args in
     context a.c a.flows.now (memory a.outstanding.now a.marked.now a.sizes.now a.sent.now) a.evs.now in
-    plan_made _ _ handed _ (holds g.After-is_late) (in_time g.Else-is_late) c.plan_each-count.ensures
+    plan_made _ _ handed _ (holds g.After-is_late) (in_time g.Else-is_late) c.plan_each.ensures
