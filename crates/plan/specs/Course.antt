@@ -1,7 +1,7 @@
 -- What the planner keeps beside what the judge keeps: of each flow its record as it was handed in, with low at the first packet that the
 -- plan has not sent again yet, and the turn. A choice and its send are told by these.
 -- Assumes nothing.
-use Rattle.std.specs.Prelude.{Bool, true, false, not, ◌&&◌, ℕ, zero, suc, ◌+◌, ◌-◌, ◌%◌, ltb, eqb, get_or}
+use Rattle.std.specs.Prelude.{Bool, true, false, not, ◌&&◌, ℕ, zero, suc, ◌+◌, ◌-◌, ◌%◌, ltb, eqb, get_or, Option, Some, None}
 use Rattle.rules.specs.Branch.{if_so, if_eq, if_lt}
 use Rattle.serial.specs.Psn.{plus}
 use Rattle.ledger.specs.Ring.{long_of}
@@ -47,6 +47,10 @@ ready_by cap s k =
 unfoldable pub first_from : (ℕ → Bool) → ℕ → ℕ → ℕ
 first_from ready k zero = k
 first_from ready k (suc n) = if_so (ready k) k (first_from ready (suc k) n)
+
+-- flow k, if it is one of the first n: where nobody is ready, k is none
+abbrev pub flow_below : ℕ → ℕ → Option ℕ
+flow_below n k = if_lt k n (Some k) None
 
 -- who is named of n flows, n where nobody is: the flows from the turn on, then those before it
 unfoldable pub named_by : Controller → ℕ → ℕ → Course → ℕ

@@ -7,7 +7,8 @@ ghost use Rattle.context.specs.Context.{flow_count};
 ghost use Rattle.context.specs.Lent.{context_given, context_before};
 ghost use Rattle.context.specs.Sound.{sound_context};
 ghost use Rattle.plan.specs.Ahead.{flow_by};
-ghost use Rattle.plan.specs.Course.{waiting_from, waits_to, course_of, ready_by, first_from, named_by, send_by, waits_after, course_after};
+ghost use Rattle.plan.specs.Course.{waiting_from, waits_to, course_of, ready_by, first_from, flow_below, named_by, send_by};
+ghost use Rattle.plan.specs.Course.{waits_after, course_after};
 
 use crate::ahead::Ahead;
 use crate::{Planned, ahead};
@@ -104,41 +105,36 @@ fn is_ready(s: Course, cap: usize, k: usize) -> bool
     (0 < f.backlog) & (serial::psn_minus(f.next, f.low) as usize != cap)
 }
 
-// The first ready flow of from..end-1; end where none is.
-fn first_ready(s: Course, cap: usize, from: usize, end: usize) -> usize
+// The first ready flow of from..end-1.
+fn first_ready(s: Course, cap: usize, from: usize, end: usize) -> Option<usize>
     requires { (from ≤ end) × (end ≤ flows_most) }
-    ensures { result ≡ first_from (ready_by cap s) from (end - from) }
+    ensures { result ≡ flow_below end (first_from (ready_by cap s) from (end - from)) }
 {
     for k in from..end {
         if is_ready(s, cap, k) {
-            return k;
+            return Some(k);
         }
     }
-    end
+    None
 }
 
-// Who is named of n flows; n where nobody is.
-pub(crate) fn named(c: Controller, cap: usize, n: usize, s: Course) -> usize
+// Who is named of n flows, if somebody is.
+pub(crate) fn named(c: Controller, cap: usize, n: usize, s: Course) -> Option<usize>
     requires turn_lt_n { (s.turn < n) × (n ≤ flows_most) }
     requires mtu_bound { (c.settings.mtu ≤ 2 ^ 14) × (c.window.cwnd ≤ 2 ^ 26) × Flown (2 ^ 26) s.ahead.in_flight }
-    ensures { result ≡ named_by c cap n s }
+    ensures { result ≡ flow_below n (named_by c cap n s) }
 {
     let settings = c.settings;
     let window = c.window;
     let ahead = s.ahead;
     if !sender::naming::has_room(settings.mtu, window.cwnd, ahead.in_flight) {
-        return n;
+        return None;
     }
     let turn = s.turn;
-    let first = first_ready(s, cap, turn, n);
-    if first < n {
-        return first;
+    if let Some(k) = first_ready(s, cap, turn, n) {
+        return Some(k);
     }
-    let second = first_ready(s, cap, 0, turn);
-    if second < turn {
-        return second;
-    }
-    n
+    first_ready(s, cap, 0, turn)
 }
 
 // What flow k sends: its first packet that waits, with its size, or else a new one of the given size.

@@ -50,10 +50,9 @@ fn plan_each<'a, 'b>(
     let most = room(plan);
     let mut s = course::start(c, flows, outstanding, marked, sizes, sent, evs);
     for i in 0..most {
-        let k = course::named(c, cap, n, s);
-        if n <= k {
+        let Some(k) = course::named(c, cap, n, s) else {
             return i;
-        }
+        };
         let p = course::send_of(c, flows, outstanding, marked, sizes, sent, evs, s, bytes, k);
         let verdict = judge_next(
             c,

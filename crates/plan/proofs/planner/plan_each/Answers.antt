@@ -17,9 +17,10 @@ use Rattle.plan.specs.declared.Planned.{Planned}
 use Rattle.plan.proofs.Agrees.{agrees_flown}
 use Rattle.plan.proofs.Judging.{rooms}
 use Rattle.plan.proofs.Courses.{turn_in}
+use Rattle.plan.proofs.Coursing.{below_some, below_none}
 use Rattle.plan.proofs.Proposals.{planning_start, planning_full, planning_nobody, planning_refused, next_asks, planning_next}
 use Rattle.plan.proofs.planner.plan_each.Goals as goal
-use Rattle.plan.proofs.planner.plan_each.Goals.{After-judge_next-verdict, After-named-k, At-loop-i, Else-n-k, Else-is_err, Start}
+use Rattle.plan.proofs.planner.plan_each.Goals.{After-judge_next-verdict, At-loop-i, Else-is_err, In-Some, Start}
 
 facts : (c : Start) →
     let handed = let a = c.args in
@@ -37,20 +38,27 @@ count_of : (c : At-loop-i) →
     c.count-n.result ≡ flow_count handed
 count_of c = c.count-n.ensures
 
--- who is named
-who : (c : After-named-k) →
+-- who is named, of as many flows as are counted
+counted : (c : At-loop-i) →
     let a = c.args in
     let x = context a.c a.flows.now (memory a.outstanding.now a.marked.now a.sizes.now a.sent.now) a.evs.now in
-    c.named-k.result ≡ named_by x.state (cap_in x) (flow_count x) c.loop-i.s
-who c =
-    c.named-k.ensures ∙ ap (λ (m : ℕ). named_by c.args.c (length c.args.sizes.now / m) m c.loop-i.s) c.count-n.ensures
+    let n = c.count-n.result in
+    named_by a.c (length a.sizes.now / n) n c.loop-i.s ≡ named_by x.state (cap_in x) (flow_count x) c.loop-i.s
+counted c = ap (λ (m : ℕ). named_by c.args.c (length c.args.sizes.now / m) m c.loop-i.s) c.count-n.ensures
 
--- a flow is named
-there : (c : Else-n-k) →
+who : (c : In-Some) →
+    let a = c.args in
+    let x = context a.c a.flows.now (memory a.outstanding.now a.marked.now a.sizes.now a.sent.now) a.evs.now in
+    c.in-Some.k ≡ named_by x.state (cap_in x) (flow_count x) c.loop-i.s
+who c =
+    (below_some c.in-Some.ensures).0
+    ∙ ap (λ (m : ℕ). named_by c.args.c (length c.args.sizes.now / m) m c.loop-i.s) c.count-n.ensures
+
+there : (c : In-Some) →
     let handed = let a = c.args in
     context a.c a.flows.now (memory a.outstanding.now a.marked.now a.sizes.now a.sent.now) a.evs.now in
-    c.named-k.result < flow_count handed
-there c = omega (arith, c.if-n-k.false, c.count-n.ensures)
+    c.in-Some.k < flow_count handed
+there c = omega (arith, (below_some c.in-Some.ensures).1, c.count-n.ensures)
 
 -- there is room for send i
 in_room : (c : At-loop-i) → c.loop-i.i < c.room-most.result → c.loop-i.i < send_count c.loop-i.plan
@@ -61,7 +69,7 @@ told : (c : After-judge_next-verdict) →
     let a = c.args in
     let x = context a.c a.flows.now (memory a.outstanding.now a.marked.now a.sizes.now a.sent.now) a.evs.now in
     number_of c.judge_next-verdict.result
-    ≡ ahead_number x c.loop-i.plan c.loop-i.i c.loop-i.s.ahead (send_by x c.loop-i.s c.args.bytes c.named-k.result)
+    ≡ ahead_number x c.loop-i.plan c.loop-i.i c.loop-i.s.ahead (send_by x c.loop-i.s c.args.bytes c.in-Some.k)
 told c =
     let handed = let a = c.args in
     context a.c a.flows.now (memory a.outstanding.now a.marked.now a.sizes.now a.sent.now) a.evs.now in
@@ -83,10 +91,11 @@ asks c =
     let x = context a.c a.flows.now (memory a.outstanding.now a.marked.now a.sizes.now a.sent.now) a.evs.now in
     let l = c.loop-i in
     let S = context_facts x c.requires.evs_value in
-    let who : c.named-k.result ≡ named_by x.state (cap_in x) (flow_count x) l.s =
-    c.named-k.ensures ∙ ap (λ (m : ℕ). named_by a.c (length a.sizes.now / m) m l.s) c.count-n.ensures in
-    let there : c.named-k.result < flow_count x = omega (arith, c.if-n-k.false, c.count-n.ensures) in
-    let told : number_of c.judge_next-verdict.result ≡ ahead_number x l.plan l.i l.s.ahead (send_by x l.s a.bytes c.named-k.result) =
+    let found = below_some c.in-Some.ensures in
+    let who : c.in-Some.k ≡ named_by x.state (cap_in x) (flow_count x) l.s =
+    found.0 ∙ ap (λ (m : ℕ). named_by a.c (length a.sizes.now / m) m l.s) c.count-n.ensures in
+    let there : c.in-Some.k < flow_count x = omega (arith, found.1, c.count-n.ensures) in
+    let told : number_of c.judge_next-verdict.result ≡ ahead_number x l.plan l.i l.s.ahead (send_by x l.s a.bytes c.in-Some.k) =
     c.judge_next-verdict.ensures ∙ ap (λ (p : Planned). ahead_number x l.plan l.i l.s.ahead p) c.send_of-p.ensures in
     let in_room : l.i < send_count l.plan = omega (arith, c.loop-i-test.true, c.room-most.ensures, l.invariant.long) in
     next_asks S l.invariant c.loop-i-test.true _ who there told (accepted c) in_room c.send_of-p.ensures
@@ -102,9 +111,9 @@ loop-i-init c =
     context a.c a.flows.now (memory a.outstanding.now a.marked.now a.sizes.now a.sent.now) a.evs.now in
     planning_start _ _ handed _ _ c.requires.evs_value c.requires.clock_le_time.0 c.requires.clock_le_time.1 c.start-s.ensures
 
-pub named-k-requires : goal.named-k-requires
-named-k-requires c =
-    let g = goal.at.named-k-requires c in
+pub named-requires : goal.named-requires
+named-requires c =
+    let g = goal.at.named-requires c in
     let handed = let a = c.args in
     context a.c a.flows.now (memory a.outstanding.now a.marked.now a.sizes.now a.sent.now) a.evs.now in
     let R = c.loop-i.invariant in
@@ -117,22 +126,22 @@ named-k-requires c =
       mtu_bound = (B.0, B.1, agrees_flown R.agrees);
     }
 
-pub shape_of-plan-then-n-k : goal.shape_of-plan-then-n-k
-shape_of-plan-then-n-k c = c.loop-i.invariant.long
+pub shape_of-plan-in_default : goal.shape_of-plan-in_default
+shape_of-plan-in_default c = c.loop-i.invariant.long
 
-pub returns-then-n-k : goal.returns-then-n-k
-returns-then-n-k c =
-    let g = goal.at.returns-then-n-k c in
+pub returns-in_default : goal.returns-in_default
+returns-in_default c =
+    let g = goal.at.returns-in_default c in
     rw (← c.room-most.ensures)
-    (planning_nobody (facts g.Start) c.loop-i.invariant c.loop-i-test.true _ (who g.After-named-k)
-    (omega (arith, c.if-n-k.true, count_of g.At-loop-i)))
+    (planning_nobody (facts g.Start) c.loop-i.invariant c.loop-i-test.true _ (counted g.At-loop-i)
+    (omega (arith, below_none c.in_default.ensures, count_of g.At-loop-i)))
 
 pub send_of-p-requires : goal.send_of-p-requires
 send_of-p-requires c =
     let g = goal.at.send_of-p-requires c in
     record {
       evs_value = c.requires.evs_value;
-      k_bound = (there g.Else-n-k, omega (arith, there g.Else-n-k, (facts g.Start).table.few));
+      k_bound = (there g.In-Some, omega (arith, there g.In-Some, (facts g.Start).table.few));
     }
 
 pub judge_next-verdict-requires : goal.judge_next-verdict-requires
@@ -150,7 +159,7 @@ pub returns-then-is_err : goal.returns-then-is_err
 returns-then-is_err c =
     let g = goal.at.returns-then-is_err c in
     rw (← c.room-most.ensures)
-    (planning_refused (facts g.Start) c.loop-i.invariant c.loop-i-test.true _ (who g.After-named-k) (there g.Else-n-k)
+    (planning_refused (facts g.Start) c.loop-i.invariant c.loop-i-test.true _ (who g.In-Some) (there g.In-Some)
     (told g.After-judge_next-verdict)
     (unaccepted_not c.judge_next-verdict.result _ c.is_err.ensures.value c.if-is_err.true))
 
@@ -171,7 +180,7 @@ loop-i-preserved c =
     let handed = let a = c.args in
     context a.c a.flows.now (memory a.outstanding.now a.marked.now a.sizes.now a.sent.now) a.evs.now in
     let p = c.send_of-p.ensures in
-    planning_next (facts g.Start) c.loop-i.invariant c.loop-i-test.true _ (who g.After-named-k) (there g.Else-n-k)
+    planning_next (facts g.Start) c.loop-i.invariant c.loop-i-test.true _ (who g.In-Some) (there g.In-Some)
     (told g.After-judge_next-verdict) (accepted g.Else-is_err)
     (in_room g.At-loop-i c.loop-i-test.true)
     (c.after-s.ensures ∙ ap (course_after handed c.loop-i.s) p) (omega arith)
