@@ -17,6 +17,7 @@ use crate::Planned;
 use crate::words::sent_again;
 use context::Controller;
 use flow_table::lent::{Flows, from_words, nth, with_record};
+use ledger::Flow;
 use rules::verdict::{Refusal, Verdict};
 use sender::Send;
 
@@ -40,10 +41,9 @@ pub(crate) fn start<'a>(
     requires { sound_context (context_given c flows.now outstanding.now marked.now sizes.now sent.now evs.now) ≡ true }
     ensures { result ≡ ahead_of (context_before c flows.now outstanding.now marked.now sizes.now sent.now evs.now) }
 {
-    let totals = c.totals;
     Ahead {
         flows: from_words(flow_table::count(flows), flows),
-        in_flight: totals.in_flight,
+        in_flight: c.totals.in_flight,
     }
 }
 
@@ -97,9 +97,8 @@ fn judge_packet<'a>(
         (first_of (new_rows (flow_by s p.flow)
         (cap_in (context_before c flows.now outstanding.now marked.now sizes.now sent.now evs.now)) p.send.psn p.send.size)) }
 {
-    let a = p.send;
-    let k = p.flow;
-    if a.resend {
+    let Planned { flow, send } = p;
+    if send.resend {
         return judge_again(
             c,
             flows,
@@ -110,12 +109,12 @@ fn judge_packet<'a>(
             evs,
             plan,
             i,
-            k,
-            a,
+            flow,
+            send,
         );
     }
     let cap = sizes.len() / flow_table::count(flows);
-    ledger::judge::judge_new(nth(s.flows, k), cap, a.psn, a.size)
+    ledger::judge::judge_new(nth(s.flows, flow), cap, send.psn, send.size)
 }
 
 // Send i of the plan, past 2, 3 and 27: 25, 4, 8, 5, 7, 6.
@@ -137,13 +136,14 @@ pub(crate) fn judge_next<'a>(
     ensures { number_of result
         ≡ ahead_number (context_before c flows.now outstanding.now marked.now sizes.now sent.now evs.now) plan.now i s p }
 {
-    let settings = c.settings;
-    let window = c.window;
-    let a = p.send;
     if flow_table::count(flows) <= p.flow {
         return Err(Refusal::Flow);
     }
-    if !rules::within(ledger::SIZE_LEAST as u64, a.size as u64, settings.mtu) {
+    if !rules::within(
+        ledger::SIZE_LEAST as u64,
+        p.send.size as u64,
+        c.settings.mtu,
+    ) {
         return Err(Refusal::Size);
     }
     judge_packet(
@@ -159,23 +159,22 @@ pub(crate) fn judge_next<'a>(
         s,
         p,
     )?;
-    if sender::naming::has_room(settings.mtu, window.cwnd, s.in_flight) {
+    if sender::naming::has_room(c.settings.mtu, c.window.cwnd, s.in_flight) {
         return Ok(());
     }
     Err(Refusal::WindowFull)
 }
 
 // A flow's record once it sent a new packet.
-fn push(f: ledger::Flow, bytes: u32) -> ledger::Flow
+fn push(f: Flow, bytes: u32) -> Flow
     requires { bytes ≤ f.backlog }
     ensures { result ≡ pushed bytes f }
 {
-    let mut after = f;
-    let next = f.next;
-    let backlog = f.backlog;
-    after.next = serial::psn_plus(next, 1);
-    after.backlog = backlog - bytes as u64;
-    after
+    Flow {
+        next: serial::psn_plus(f.next, 1),
+        backlog: f.backlog - bytes as u64,
+        ..f
+    }
 }
 
 // The records after a send. The caller proves that there is the flow, and that a new packet is in its backlog.
@@ -184,12 +183,11 @@ fn flows_after(fs: Flows, p: Planned) -> Flows
     requires size_bound { p.send.resend ≡ false → p.send.size ≤ (get_or fs.at p.flow no_flow).backlog }
     ensures { result ≡ flows_after fs p }
 {
-    let a = p.send;
-    let k = p.flow;
-    if a.resend {
+    let Planned { flow, send } = p;
+    if send.resend {
         return fs;
     }
-    with_record(fs, k, push(nth(fs, k), a.size))
+    with_record(fs, flow, push(nth(fs, flow), send.size))
 }
 
 // After send p, which was accepted.
@@ -198,10 +196,8 @@ pub(crate) fn after(s: Ahead, p: Planned) -> Ahead
     requires size_bound { p.send.resend ≡ false → p.send.size ≤ (flow_by s p.flow).backlog }
     ensures { result ≡ ahead_after s p }
 {
-    let a = p.send;
-    let in_flight = s.in_flight;
     Ahead {
         flows: flows_after(s.flows, p),
-        in_flight: in_flight + a.size as i64,
+        in_flight: s.in_flight + p.send.size as i64,
     }
 }

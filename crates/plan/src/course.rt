@@ -42,9 +42,10 @@ fn waiting_from<'a>(
     requires k_bound { k < count_of flows.now }
     ensures { result ≡ waiting_from k psn (context_before c flows.now outstanding.now marked.now sizes.now sent.now evs.now) }
 {
-    let mut f = flow_table::flow_at(flows, k);
-    f.low = context::look::marked_from(c, flows, outstanding, marked, sizes, sent, evs, k, psn);
-    f
+    Flow {
+        low: context::look::marked_from(c, flows, outstanding, marked, sizes, sent, evs, k, psn),
+        ..flow_table::flow_at(flows, k)
+    }
 }
 
 // Those of all flows, from low on.
@@ -96,12 +97,11 @@ fn is_ready(s: Course, cap: usize, k: usize) -> bool
     requires { k < flows_most }
     ensures { result ≡ ready_by cap s k }
 {
-    let ahead = s.ahead;
     let w = nth(s.waits, k);
     if w.low != w.next {
         return true;
     }
-    let f = nth(ahead.flows, k);
+    let f = nth(s.ahead.flows, k);
     (0 < f.backlog) & (serial::psn_minus(f.next, f.low) as usize != cap)
 }
 
@@ -124,17 +124,13 @@ pub(crate) fn named(c: Controller, cap: usize, n: usize, s: Course) -> Option<us
     requires mtu_bound { (c.settings.mtu ≤ 2 ^ 14) × (c.window.cwnd ≤ 2 ^ 26) × Flown (2 ^ 26) s.ahead.in_flight }
     ensures { result ≡ flow_below n (named_by c cap n s) }
 {
-    let settings = c.settings;
-    let window = c.window;
-    let ahead = s.ahead;
-    if !sender::naming::has_room(settings.mtu, window.cwnd, ahead.in_flight) {
+    if !sender::naming::has_room(c.settings.mtu, c.window.cwnd, s.ahead.in_flight) {
         return None;
     }
-    let turn = s.turn;
-    if let Some(k) = first_ready(s, cap, turn, n) {
+    if let Some(k) = first_ready(s, cap, s.turn, n) {
         return Some(k);
     }
-    first_ready(s, cap, 0, turn)
+    first_ready(s, cap, 0, s.turn)
 }
 
 // What flow k sends: its first packet that waits, with its size, or else a new one of the given size.
@@ -154,11 +150,9 @@ pub(crate) fn send_of<'a>(
     requires k_bound { (k < count_of flows.now) × (k < flows_most) }
     ensures { result ≡ send_by (context_before c flows.now outstanding.now marked.now sizes.now sent.now evs.now) s bytes k }
 {
-    let ahead = s.ahead;
     let w = nth(s.waits, k);
-    let psn = w.low;
-    if psn == w.next {
-        let f = nth(ahead.flows, k);
+    if w.low == w.next {
+        let f = nth(s.ahead.flows, k);
         let send = Send {
             psn: f.next,
             size: bytes,
@@ -166,9 +160,9 @@ pub(crate) fn send_of<'a>(
         };
         return Planned { flow: k, send };
     }
-    let x = context::look::packet_at(c, flows, outstanding, marked, sizes, sent, evs, k, psn);
+    let x = context::look::packet_at(c, flows, outstanding, marked, sizes, sent, evs, k, w.low);
     let send = Send {
-        psn,
+        psn: w.low,
         size: x.size,
         resend: true,
     };
@@ -191,12 +185,21 @@ fn waits_after<'a>(
     requires flow_bound { (p.flow < count_of flows.now) × (p.flow < flows_most) }
     ensures { result ≡ waits_after (context_before c flows.now outstanding.now marked.now sizes.now sent.now evs.now) fs p }
 {
-    let a = p.send;
-    let k = p.flow;
-    if a.resend {
-        let behind = serial::psn_plus(a.psn, 1);
-        let w = waiting_from(c, flows, outstanding, marked, sizes, sent, evs, k, behind);
-        return with_record(fs, k, w);
+    let Planned { flow, send } = p;
+    if send.resend {
+        let behind = serial::psn_plus(send.psn, 1);
+        let w = waiting_from(
+            c,
+            flows,
+            outstanding,
+            marked,
+            sizes,
+            sent,
+            evs,
+            flow,
+            behind,
+        );
+        return with_record(fs, flow, w);
     }
     fs
 }

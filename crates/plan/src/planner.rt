@@ -20,8 +20,7 @@ use rules::verdict::Refusal;
 fn room(plan: &[u32]) -> usize
     ensures { result ≡ min (send_count plan.now) sends_most }
 {
-    let n = count(plan);
-    if n < SENDS_MOST { n } else { SENDS_MOST }
+    count(plan).min(SENDS_MOST)
 }
 
 // Turn by turn, past 2 and 3: who is named sends, until nobody is, a send would be refused or the room is full. An inner step: the caller

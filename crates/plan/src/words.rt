@@ -20,14 +20,14 @@ pub fn send_at(plan: &[u32], i: usize) -> Planned
     ensures { result ≡ planned_at plan.now i }
 {
     let at = SEND_WORDS * i;
-    let flow = plan[at + FLOW] as usize;
-    let resend = plan[at + RESEND] != 0;
-    let send = Send {
-        psn: plan[at + PSN],
-        size: plan[at + SIZE],
-        resend,
-    };
-    Planned { flow, send }
+    Planned {
+        flow: plan[at + FLOW] as usize,
+        send: Send {
+            psn: plan[at + PSN],
+            size: plan[at + SIZE],
+            resend: plan[at + RESEND] != 0,
+        },
+    }
 }
 
 // Send i becomes p.
@@ -36,11 +36,11 @@ pub fn put_send(plan: &mut [u32], i: usize, p: Planned)
     ensures { plan.new ≡ with_send plan.old i p }
 {
     let at = SEND_WORDS * i;
-    let a = p.send;
-    plan[at + FLOW] = p.flow as u32;
-    plan[at + RESEND] = rules::mode_of(a.resend);
-    plan[at + PSN] = a.psn;
-    plan[at + SIZE] = a.size;
+    let Planned { flow, send } = p;
+    plan[at + FLOW] = flow as u32;
+    plan[at + RESEND] = rules::mode_of(send.resend);
+    plan[at + PSN] = send.psn;
+    plan[at + SIZE] = send.size;
 }
 
 // Whether one of the first n sends sends this packet again.
@@ -50,8 +50,7 @@ pub fn sent_again(plan: &[u32], n: usize, flow: usize, psn: u32) -> bool
 {
     for i in 0..n {
         let p = send_at(plan, i);
-        let a = p.send;
-        if a.resend & (p.flow == flow) & (a.psn == psn) {
+        if p.send.resend & (p.flow == flow) & (p.send.psn == psn) {
             return true;
         }
     }

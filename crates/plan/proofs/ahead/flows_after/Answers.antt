@@ -6,17 +6,17 @@ use Rattle.flow_table.specs.Lent.{with_record}
 use Rattle.plan.specs.Ahead.{pushed, flows_after}
 use Rattle.plan.proofs.ahead.flows_after.Goals as goal
 
-pub returns-then-a : goal.returns-then-a
+pub returns-then-send : goal.returns-then-send
 unfolding flows_after
-returns-then-a c = so_yes _ _ _ _ c.if-a.true refl
+returns-then-send c = so_yes _ _ _ _ c.if-send.true refl
 
 pub push-requires : goal.push-requires
-push-requires c = rw c.nth.ensures (c.requires.size_bound c.if-a.false)
+push-requires c = rw c.nth.ensures (c.requires.size_bound c.if-send.false)
 
 pub returns : goal.returns
 unfolding flows_after
 returns c =
     let a = c.args in
-    so_no _ _ _ _ c.if-a.false
+    so_no _ _ _ _ c.if-send.false
     (c.with_record.ensures
     ∙ ap (λ (f : Flow). with_record a.fs a.p.flow f) (c.push.ensures ∙ ap (pushed a.p.send.size) c.nth.ensures))

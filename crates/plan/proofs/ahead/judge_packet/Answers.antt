@@ -5,8 +5,8 @@ use Rattle.context.specs.Lent.{context_given}
 use Rattle.context.proofs.Sounds.{context_facts}
 use Rattle.plan.proofs.ahead.judge_packet.Goals as goal
 
-pub returns-then-a : goal.returns-then-a
-returns-then-a c = so_yes _ _ _ _ c.if-a.true c.judge_again.ensures
+pub returns-then-send : goal.returns-then-send
+returns-then-send c = so_yes _ _ _ _ c.if-send.true c.judge_again.ensures
 
 pub nth-requires : goal.nth-requires
 nth-requires c =
@@ -15,4 +15,4 @@ nth-requires c =
     omega (arith, c.requires.flow_bound.0, (context_facts handed c.requires.evs_value).table.few)
 
 pub returns : goal.returns
-returns c = so_no _ _ _ _ c.if-a.false (rw (c.nth.ensures, c.count.ensures) at c.judge_new.ensures)
+returns c = so_no _ _ _ _ c.if-send.false (rw (c.nth.ensures, c.count.ensures) at c.judge_new.ensures)

@@ -5,8 +5,8 @@ use Rattle.context.proofs.Joins.{flow_fits}
 use Rattle.plan.specs.Course.{waiting_from}
 use Rattle.plan.proofs.course.waiting_from.Goals as goal
 
-pub flow_at-f-requires : goal.flow_at-f-requires
-flow_at-f-requires c =
+pub flow_at-requires : goal.flow_at-requires
+flow_at-requires c =
     let handed = let a = c.args in
     context_given a.c a.flows.now a.outstanding.now a.marked.now a.sizes.now a.sent.now a.evs.now in
     record {
@@ -16,4 +16,4 @@ flow_at-f-requires c =
 
 pub returns : goal.returns
 unfolding waiting_from
-returns c = rw (c.marked_from.ensures, c.flow_at-f.ensures)
+returns c = rw (c.marked_from.ensures, c.flow_at.ensures)

@@ -1,17 +1,14 @@
 -- `plan_each` plans turn by turn (proofs/Proposals).
 use mathlib.Core.Path.{◌≡◌, sym, ap, ◌∙◌}
-use mathlib.Core.Bool.{false}
-use Prim.Native.Nat.{ℕ, ◌/◌, ◌^◌, ◌<◌, ◌≤◌}
+use Prim.Native.Nat.{ℕ, ◌/◌, ◌<◌}
 use native.Mathlib.Omega.{arith}
 use lib.ListN.{length}
 use Rattle.rules.specs.Verdict.{number_of, unrefused_zero, unaccepted_not}
-use Rattle.ledger.specs.Bounds.{Flown}
 use Rattle.ledger.specs.Memory.{memory}
-use Rattle.flow_table.specs.Words.{flows_most}
 use Rattle.context.specs.Context.{context, flow_count, cap_in}
 use Rattle.context.proofs.Sounds.{SoundContext, context_facts}
 use Rattle.plan.specs.Plan.{send_count, with_send}
-use Rattle.plan.specs.Ahead.{flow_by, ahead_number}
+use Rattle.plan.specs.Ahead.{ahead_number}
 use Rattle.plan.specs.Course.{named_by, send_by, course_after}
 use Rattle.plan.specs.declared.Planned.{Planned}
 use Rattle.plan.proofs.Agrees.{agrees_flown}
@@ -31,21 +28,7 @@ facts c =
     context a.c a.flows.now (memory a.outstanding.now a.marked.now a.sizes.now a.sent.now) a.evs.now in
     context_facts handed c.requires.evs_value
 
--- how many flows there are
-count_of : (c : At-loop-i) →
-    let handed = let a = c.args in
-    context a.c a.flows.now (memory a.outstanding.now a.marked.now a.sizes.now a.sent.now) a.evs.now in
-    c.count-n.result ≡ flow_count handed
-count_of c = c.count-n.ensures
-
--- who is named, of as many flows as are counted
-counted : (c : At-loop-i) →
-    let a = c.args in
-    let x = context a.c a.flows.now (memory a.outstanding.now a.marked.now a.sizes.now a.sent.now) a.evs.now in
-    let n = c.count-n.result in
-    named_by a.c (length a.sizes.now / n) n c.loop-i.s ≡ named_by x.state (cap_in x) (flow_count x) c.loop-i.s
-counted c = ap (λ (m : ℕ). named_by c.args.c (length c.args.sizes.now / m) m c.loop-i.s) c.count-n.ensures
-
+-- who is named
 who : (c : In-Some) →
     let a = c.args in
     let x = context a.c a.flows.now (memory a.outstanding.now a.marked.now a.sizes.now a.sent.now) a.evs.now in
@@ -54,6 +37,7 @@ who c =
     (below_some c.in-Some.ensures).0
     ∙ ap (λ (m : ℕ). named_by c.args.c (length c.args.sizes.now / m) m c.loop-i.s) c.count-n.ensures
 
+-- it is a flow
 there : (c : In-Some) →
     let handed = let a = c.args in
     context a.c a.flows.now (memory a.outstanding.now a.marked.now a.sizes.now a.sent.now) a.evs.now in
@@ -80,26 +64,6 @@ told c =
 accepted : (c : Else-is_err) → number_of c.judge_next-verdict.result ≡ 0
 accepted c = unrefused_zero c.judge_next-verdict.result _ c.is_err.ensures.value c.if-is_err.false
 
-asks : (c : Else-is_err) →
-    let handed = let a = c.args in
-    context a.c a.flows.now (memory a.outstanding.now a.marked.now a.sizes.now a.sent.now) a.evs.now in
-    let p = c.send_of-p.result in
-    ((p.flow < flow_count handed) × (p.flow < flows_most) × Flown (2 ^ 26) c.loop-i.s.ahead.in_flight)
-    × (p.send.resend ≡ false → p.send.size ≤ (flow_by c.loop-i.s.ahead p.flow).backlog)
-asks c =
-    let a = c.args in
-    let x = context a.c a.flows.now (memory a.outstanding.now a.marked.now a.sizes.now a.sent.now) a.evs.now in
-    let l = c.loop-i in
-    let S = context_facts x c.requires.evs_value in
-    let found = below_some c.in-Some.ensures in
-    let who : c.in-Some.k ≡ named_by x.state (cap_in x) (flow_count x) l.s =
-    found.0 ∙ ap (λ (m : ℕ). named_by a.c (length a.sizes.now / m) m l.s) c.count-n.ensures in
-    let there : c.in-Some.k < flow_count x = omega (arith, found.1, c.count-n.ensures) in
-    let told : number_of c.judge_next-verdict.result ≡ ahead_number x l.plan l.i l.s.ahead (send_by x l.s a.bytes c.in-Some.k) =
-    c.judge_next-verdict.ensures ∙ ap (λ (p : Planned). ahead_number x l.plan l.i l.s.ahead p) c.send_of-p.ensures in
-    let in_room : l.i < send_count l.plan = omega (arith, c.loop-i-test.true, c.room-most.ensures, l.invariant.long) in
-    next_asks S l.invariant c.loop-i-test.true _ who there told (accepted c) in_room c.send_of-p.ensures
-
 pub nonzero_div-cap : goal.nonzero_div-cap
 nonzero_div-cap c =
     let g = goal.at.nonzero_div-cap c in
@@ -120,8 +84,8 @@ named-requires c =
     let B = rooms handed c.requires.evs_value in
     record {
       turn_lt_n = (
-        omega (arith, turn_in (facts g.Start) R.agrees R.follows, count_of g.At-loop-i),
-        omega (arith, (facts g.Start).table.few, count_of g.At-loop-i),
+        omega (arith, turn_in (facts g.Start) R.agrees R.follows, c.count-n.ensures),
+        omega (arith, (facts g.Start).table.few, c.count-n.ensures),
       );
       mtu_bound = (B.0, B.1, agrees_flown R.agrees);
     }
@@ -133,8 +97,9 @@ pub returns-in_default : goal.returns-in_default
 returns-in_default c =
     let g = goal.at.returns-in_default c in
     rw (← c.room-most.ensures)
-    (planning_nobody (facts g.Start) c.loop-i.invariant c.loop-i-test.true _ (counted g.At-loop-i)
-    (omega (arith, below_none c.in_default.ensures, count_of g.At-loop-i)))
+    (planning_nobody (facts g.Start) c.loop-i.invariant c.loop-i-test.true _
+    (ap (λ (m : ℕ). named_by c.args.c (length c.args.sizes.now / m) m c.loop-i.s) c.count-n.ensures)
+    (omega (arith, below_none c.in_default.ensures, c.count-n.ensures)))
 
 pub send_of-p-requires : goal.send_of-p-requires
 send_of-p-requires c =
@@ -166,13 +131,16 @@ returns-then-is_err c =
 pub put_send-requires : goal.put_send-requires
 put_send-requires c =
     let g = goal.at.put_send-requires c in
-    (in_room g.At-loop-i c.loop-i-test.true, (asks g.Else-is_err).0.1)
+    let asked = next_asks (facts g.Start) c.loop-i.invariant c.loop-i-test.true _ (who g.In-Some) (there g.In-Some)
+    (told g.After-judge_next-verdict) (accepted g.Else-is_err) (in_room g.At-loop-i c.loop-i-test.true) c.send_of-p.ensures in
+    (in_room g.At-loop-i c.loop-i-test.true, asked.0.1)
 
 pub after-s-requires : goal.after-s-requires
 after-s-requires c =
     let g = goal.at.after-s-requires c in
-    let told = asks g.Else-is_err in
-    record { evs_value = c.requires.evs_value; flow_bound = told.0; size_bound = told.1 }
+    let asked = next_asks (facts g.Start) c.loop-i.invariant c.loop-i-test.true _ (who g.In-Some) (there g.In-Some)
+    (told g.After-judge_next-verdict) (accepted g.Else-is_err) (in_room g.At-loop-i c.loop-i-test.true) c.send_of-p.ensures in
+    record { evs_value = c.requires.evs_value; flow_bound = asked.0; size_bound = asked.1 }
 
 pub loop-i-preserved : goal.loop-i-preserved
 loop-i-preserved c =

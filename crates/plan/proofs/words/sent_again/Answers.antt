@@ -11,17 +11,17 @@ loop-i-init c = again_none _ _ _
 pub send_at-p-requires : goal.send_at-p-requires
 send_at-p-requires c = omega (arith, c.requires)
 
-pub returns-then-a-p : goal.returns-then-a-p
+pub returns-then-p-flow : goal.returns-then-p-flow
 unfolding is_again
-returns-then-a-p c =
+returns-then-p-flow c =
     let a = c.args in
     sym
     (again_some a.plan.now a.flow a.psn a.n c.loop-i.i c.send_at-p.result c.send_at-p.ensures
-    c.loop-i-test.true c.if-a-p.true)
+    c.loop-i-test.true c.if-p-flow.true)
 
 pub loop-i-preserved : goal.loop-i-preserved
 unfolding is_again
-loop-i-preserved c = again_not _ _ _ c.loop-i.i c.send_at-p.result c.send_at-p.ensures c.loop-i.invariant c.if-a-p.false
+loop-i-preserved c = again_not _ _ _ c.loop-i.i c.send_at-p.result c.send_at-p.ensures c.loop-i.invariant c.if-p-flow.false
 
 pub returns : goal.returns
 returns c =
