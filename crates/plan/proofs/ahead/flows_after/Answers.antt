@@ -10,9 +10,6 @@ pub returns-then-send : goal.returns-then-send
 unfolding flows_after
 returns-then-send c = so_yes _ _ _ _ c.if-send.true refl
 
-pub push-requires : goal.push-requires
-push-requires c = rw c.nth.ensures (c.requires.size_bound c.if-send.false)
-
 pub returns : goal.returns
 unfolding flows_after
 returns c =

@@ -52,10 +52,6 @@ returns-then-not-within c =
     ahead_4 handed c.args.plan.now c.args.i c.args.s c.args.p (inside_1 g.Else-count-p)
     (sym c.within.ensures ∙ c.if-not-within.true)
 
-pub judge_packet-requires : goal.judge_packet-requires
-judge_packet-requires c =
-    record { evs_value = c.requires.evs_value; flow_bound = (omega (arith, c.if-count-p.false, c.count.ensures), c.requires.i_bound.0) }
-
 pub returns-in_err-judge_packet : goal.returns-in_err-judge_packet
 unfolding room_then
 returns-in_err-judge_packet c =

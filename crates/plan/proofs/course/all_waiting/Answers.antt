@@ -33,23 +33,12 @@ loop-k-init c =
     context a.c a.flows.now (memory a.outstanding.now a.marked.now a.sizes.now a.sent.now) a.evs.now in
     waits_none handed c.no_flows-fs.ensures c.count-n.ensures
 
-pub flow_at-f-requires : goal.flow_at-f-requires
-flow_at-f-requires c =
-    let g = goal.at.flow_at-f-requires c in
+pub flow_at-f-requires-clause-fits : goal.flow_at-f-requires-clause-fits
+flow_at-f-requires-clause-fits c =
+    let g = goal.at.flow_at-f-requires-clause-fits c in
     let handed = let a = c.args in
     context a.c a.flows.now (memory a.outstanding.now a.marked.now a.sizes.now a.sent.now) a.evs.now in
-    record {
-      k_bound = inside g.In-loop-k;
-      fits = flow_fits handed (facts g.Start) c.loop-k.k (inside g.In-loop-k);
-    }
-
-pub waiting_from-w-requires : goal.waiting_from-w-requires
-waiting_from-w-requires c =
-    let g = goal.at.waiting_from-w-requires c in
-    record {
-      evs_value = c.requires;
-      k_bound = inside g.In-loop-k;
-    }
+    flow_fits handed (facts g.Start) c.loop-k.k (inside g.In-loop-k)
 
 pub with_record-fs-requires : goal.with_record-fs-requires
 with_record-fs-requires c =

@@ -7,12 +7,6 @@ use Rattle.plan.specs.Course.{ready_by}
 use Rattle.plan.proofs.Coursing.{first_none, first_here, first_later}
 use Rattle.plan.proofs.course.first_ready.Goals as goal
 
-pub loop-k-init : goal.loop-k-init
-loop-k-init c = refl
-
-pub is_ready-requires : goal.is_ready-requires
-is_ready-requires c = omega arith
-
 pub returns-then-is_ready : goal.returns-then-is_ready
 returns-then-is_ready c =
     let a = c.args in

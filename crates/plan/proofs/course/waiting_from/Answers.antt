@@ -5,14 +5,11 @@ use Rattle.context.proofs.Joins.{flow_fits}
 use Rattle.plan.specs.Course.{waiting_from}
 use Rattle.plan.proofs.course.waiting_from.Goals as goal
 
-pub flow_at-requires : goal.flow_at-requires
-flow_at-requires c =
+pub flow_at-requires-clause-fits : goal.flow_at-requires-clause-fits
+flow_at-requires-clause-fits c =
     let handed = let a = c.args in
     context_given a.c a.flows.now a.outstanding.now a.marked.now a.sizes.now a.sent.now a.evs.now in
-    record {
-      k_bound = c.requires.k_bound;
-      fits = flow_fits handed (context_facts handed c.requires.evs_value) c.args.k c.requires.k_bound;
-    }
+    flow_fits handed (context_facts handed c.requires.evs_value) c.args.k c.requires.k_bound
 
 pub returns : goal.returns
 unfolding waiting_from

@@ -49,13 +49,10 @@ returns-then-count-gt-SENDS_MOST c =
     ∙ judge_27 _ (plan_of ws) handed (holds g.After-is_late) (in_time g.After-count)
     (omega (arith, c.if-count-gt-SENDS_MOST.true, c.count.ensures, sends_length ws 0 (send_count ws)))
 
-pub judge_each-requires : goal.judge_each-requires
-judge_each-requires c =
-    let g = goal.at.judge_each-requires c in
-    record {
-      evs_value = holds g.After-is_late;
-      clock_le_time = timely _ _ (in_time g.After-count);
-    }
+pub judge_each-requires-clause-clock_le_time : goal.judge_each-requires-clause-clock_le_time
+judge_each-requires-clause-clock_le_time c =
+    let g = goal.at.judge_each-requires-clause-clock_le_time c in
+    timely _ _ (in_time g.After-count)
 
 pub returns : goal.returns
 returns c =

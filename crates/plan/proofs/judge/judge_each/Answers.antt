@@ -48,14 +48,9 @@ loop-i-init c =
     context a.c a.flows.now (memory a.outstanding.now a.marked.now a.sizes.now a.sent.now) a.evs.now in
     reached_start _ handed _ _ c.requires.evs_value c.requires.clock_le_time.0 c.requires.clock_le_time.1 c.start-s.ensures
 
-pub send_at-p-requires : goal.send_at-p-requires
-send_at-p-requires c = omega (arith, c.loop-i-test.true, c.count-n.ensures)
-
-pub judge_next-verdict-requires : goal.judge_next-verdict-requires
-judge_next-verdict-requires c = record {
-  evs_value = c.requires.evs_value;
-  i_bound = (omega (arith, c.loop-i-test.true, c.count-n.ensures), agrees_flown c.loop-i.invariant.agrees);
-}
+pub judge_next-verdict-requires-clause-i_bound : goal.judge_next-verdict-requires-clause-i_bound
+judge_next-verdict-requires-clause-i_bound c =
+    (omega (arith, c.loop-i-test.true, c.count-n.ensures), agrees_flown c.loop-i.invariant.agrees)
 
 pub returns-in-Err : goal.returns-in-Err
 unfolding judgement_of

@@ -90,9 +90,6 @@ named-requires c =
       mtu_bound = (B.0, B.1, agrees_flown R.agrees);
     }
 
-pub shape_of-plan-in_default : goal.shape_of-plan-in_default
-shape_of-plan-in_default c = c.loop-i.invariant.long
-
 pub returns-in_default : goal.returns-in_default
 returns-in_default c =
     let g = goal.at.returns-in_default c in
@@ -101,24 +98,15 @@ returns-in_default c =
     (ap (λ (m : ℕ). named_by c.args.c (length c.args.sizes.now / m) m c.loop-i.s) c.count-n.ensures)
     (omega (arith, below_none c.in_default.ensures, c.count-n.ensures)))
 
-pub send_of-p-requires : goal.send_of-p-requires
-send_of-p-requires c =
-    let g = goal.at.send_of-p-requires c in
-    record {
-      evs_value = c.requires.evs_value;
-      k_bound = (there g.In-Some, omega (arith, there g.In-Some, (facts g.Start).table.few));
-    }
+pub send_of-p-requires-clause-k_bound : goal.send_of-p-requires-clause-k_bound
+send_of-p-requires-clause-k_bound c =
+    let g = goal.at.send_of-p-requires-clause-k_bound c in
+    (there g.In-Some, omega (arith, there g.In-Some, (facts g.Start).table.few))
 
-pub judge_next-verdict-requires : goal.judge_next-verdict-requires
-judge_next-verdict-requires c =
-    let g = goal.at.judge_next-verdict-requires c in
-    record {
-      evs_value = c.requires.evs_value;
-      i_bound = (omega (arith, in_room g.At-loop-i c.loop-i-test.true), agrees_flown c.loop-i.invariant.agrees);
-    }
-
-pub shape_of-plan-then-is_err : goal.shape_of-plan-then-is_err
-shape_of-plan-then-is_err c = c.loop-i.invariant.long
+pub judge_next-verdict-requires-clause-i_bound : goal.judge_next-verdict-requires-clause-i_bound
+judge_next-verdict-requires-clause-i_bound c =
+    let g = goal.at.judge_next-verdict-requires-clause-i_bound c in
+    (omega (arith, in_room g.At-loop-i c.loop-i-test.true), agrees_flown c.loop-i.invariant.agrees)
 
 pub returns-then-is_err : goal.returns-then-is_err
 returns-then-is_err c =
@@ -153,9 +141,6 @@ loop-i-preserved c =
     (in_room g.At-loop-i c.loop-i-test.true)
     (c.after-s.ensures ∙ ap (course_after handed c.loop-i.s) p) (omega arith)
     (c.put_send.ensures ∙ ap (with_send c.loop-i.plan c.loop-i.i) p)
-
-pub shape_of-plan : goal.shape_of-plan
-shape_of-plan c = c.loop-i.invariant.long
 
 pub returns : goal.returns
 returns c =

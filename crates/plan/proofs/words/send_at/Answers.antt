@@ -7,9 +7,6 @@ use Rattle.serial.specs.Psn.{psns}
 use Rattle.plan.specs.Plan.{planned_at}
 use Rattle.plan.proofs.words.send_at.Goals as goal
 
-pub overflow_cast-result : goal.overflow_cast-result
-overflow_cast-result c = omega (arith, c.type_inv.plan (4 * c.args.i + 0))
-
 pub returns : goal.returns
 unfolding planned_at
 returns c =

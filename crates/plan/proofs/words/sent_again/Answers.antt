@@ -8,9 +8,6 @@ use Rattle.plan.proofs.words.sent_again.Goals as goal
 pub loop-i-init : goal.loop-i-init
 loop-i-init c = again_none _ _ _
 
-pub send_at-p-requires : goal.send_at-p-requires
-send_at-p-requires c = omega (arith, c.requires)
-
 pub returns-then-p-flow : goal.returns-then-p-flow
 unfolding is_again
 returns-then-p-flow c =
