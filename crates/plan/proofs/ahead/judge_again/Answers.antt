@@ -1,30 +1,23 @@
 -- `judge_again` tests the packet that it finds, and then the sends before (proofs/Judging).
 use mathlib.Core.Path.{sym, ◌∙◌}
 use Rattle.rules.specs.Verdict.{number_of}
-use Rattle.context.specs.Lent.{context_given}
 use Rattle.plan.proofs.Judging.{again_differs, again_sent, again_waits}
 use Rattle.plan.proofs.ahead.judge_again.Goals as goal
 
 pub returns-then-x-a : goal.returns-then-x-a
 unfolding number_of
 returns-then-x-a c =
-    let handed = let a = c.args in
-    context_given a.c a.flows.now a.outstanding.now a.marked.now a.sizes.now a.sent.now a.evs.now in
-    again_differs handed c.args.plan.now c.args.i c.args.k c.args.a c.packet_at-x.result c.packet_at-x.ensures
+    again_differs _ c.args.plan.now c.args.i c.args.k c.args.a c.packet_at-x.result c.packet_at-x.ensures
     c.if-x-a.true
 
 pub returns-then-sent_again : goal.returns-then-sent_again
 unfolding number_of
 returns-then-sent_again c =
-    let handed = let a = c.args in
-    context_given a.c a.flows.now a.outstanding.now a.marked.now a.sizes.now a.sent.now a.evs.now in
-    again_sent handed c.args.plan.now c.args.i c.args.k c.args.a c.packet_at-x.result c.packet_at-x.ensures
+    again_sent _ c.args.plan.now c.args.i c.args.k c.args.a c.packet_at-x.result c.packet_at-x.ensures
     c.if-x-a.false (sym c.sent_again.ensures ∙ c.if-sent_again.true)
 
 pub returns : goal.returns
 unfolding number_of
 returns c =
-    let handed = let a = c.args in
-    context_given a.c a.flows.now a.outstanding.now a.marked.now a.sizes.now a.sent.now a.evs.now in
-    again_waits handed c.args.plan.now c.args.i c.args.k c.args.a c.packet_at-x.result c.packet_at-x.ensures
+    again_waits _ c.args.plan.now c.args.i c.args.k c.args.a c.packet_at-x.result c.packet_at-x.ensures
     c.if-x-a.false (sym c.sent_again.ensures ∙ c.if-sent_again.false)

@@ -39,51 +39,39 @@ room c =
 pub returns-then-count-p : goal.returns-then-count-p
 unfolding number_of
 returns-then-count-p c =
-    let handed = let a = c.args in
-    context_given a.c a.flows.now a.outstanding.now a.marked.now a.sizes.now a.sent.now a.evs.now in
-    ahead_25 handed c.args.plan.now c.args.i c.args.s c.args.p (omega (arith, c.if-count-p.true, c.count.ensures))
+    ahead_25 _ c.args.plan.now c.args.i c.args.s c.args.p (omega (arith, c.if-count-p.true, c.count.ensures))
 
 pub returns-then-not-within : goal.returns-then-not-within
 unfolding number_of
 returns-then-not-within c =
     let g = goal.at.returns-then-not-within c in
-    let handed = let a = c.args in
-    context_given a.c a.flows.now a.outstanding.now a.marked.now a.sizes.now a.sent.now a.evs.now in
-    ahead_4 handed c.args.plan.now c.args.i c.args.s c.args.p (inside_1 g.Else-count-p)
+    ahead_4 _ c.args.plan.now c.args.i c.args.s c.args.p (inside_1 g.Else-count-p)
     (sym c.within.ensures ∙ c.if-not-within.true)
 
 pub returns-in_err-judge_packet : goal.returns-in_err-judge_packet
 unfolding room_then
 returns-in_err-judge_packet c =
     let g = goal.at.returns-in_err-judge_packet c in
-    let handed = let a = c.args in
-    context_given a.c a.flows.now a.outstanding.now a.marked.now a.sizes.now a.sent.now a.evs.now in
     let p = err_from_is_err_and c.from_residual.result c.from_residual.ensures.1 in
     let n = number_of {T = ⊤} (Err c.in_err-judge_packet.field-0.0) in
     rw (p.1, p.2)
-    (ahead_own handed c.args.plan.now c.args.i c.args.s c.args.p (inside_1 g.Else-count-p) (inside_2 g.Else-not-within) n n
+    (ahead_own _ c.args.plan.now c.args.i c.args.s c.args.p (inside_1 g.Else-count-p) (inside_2 g.Else-not-within) n n
     c.in_err-judge_packet.ensures (eq_no n 0 n _ n (err_not _ _ refl) refl))
 
 pub has_room-requires-clause-mtu_bound : goal.has_room-requires-clause-mtu_bound
 has_room-requires-clause-mtu_bound c =
-    let handed = let a = c.args in
-    context_given a.c a.flows.now a.outstanding.now a.marked.now a.sizes.now a.sent.now a.evs.now in
-    rooms handed c.requires.evs_value
+    rooms _ c.requires.evs_value
 
 pub returns-then-has_room : goal.returns-then-has_room
 unfolding number_of room_then
 returns-then-has_room c =
     let g = goal.at.returns-then-has_room c in
-    let handed = let a = c.args in
-    context_given a.c a.flows.now a.outstanding.now a.marked.now a.sizes.now a.sent.now a.evs.now in
-    ahead_own handed c.args.plan.now c.args.i c.args.s c.args.p (inside_1 g.Else-count-p) (inside_2 g.Else-not-within) 0 0
+    ahead_own _ c.args.plan.now c.args.i c.args.s c.args.p (inside_1 g.Else-count-p) (inside_2 g.Else-not-within) 0 0
     c.in_ok-judge_packet.ensures (eq_yes 0 0 0 _ 0 refl (so_yes _ 0 0 6 (room g.After-has_room ∙ c.if-has_room.true) refl))
 
 pub returns : goal.returns
 unfolding number_of room_then
 returns c =
     let g = goal.at.returns c in
-    let handed = let a = c.args in
-    context_given a.c a.flows.now a.outstanding.now a.marked.now a.sizes.now a.sent.now a.evs.now in
-    ahead_own handed c.args.plan.now c.args.i c.args.s c.args.p (inside_1 g.Else-count-p) (inside_2 g.Else-not-within) 0 6
+    ahead_own _ c.args.plan.now c.args.i c.args.s c.args.p (inside_1 g.Else-count-p) (inside_2 g.Else-not-within) 0 6
     c.in_ok-judge_packet.ensures (eq_yes 0 0 6 _ 0 refl (so_no _ 6 0 6 (room g.After-has_room ∙ c.if-has_room.false) refl))

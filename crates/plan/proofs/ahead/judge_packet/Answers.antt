@@ -1,7 +1,6 @@
 -- `judge_packet` hands on what `judge_again` says of a resend, or what the ledger says of a new packet by the record that is kept.
 use native.Mathlib.Omega.{arith}
 use Rattle.rules.specs.Branch.{so_yes, so_no}
-use Rattle.context.specs.Lent.{context_given}
 use Rattle.context.proofs.Sounds.{context_facts}
 use Rattle.plan.proofs.ahead.judge_packet.Goals as goal
 
@@ -10,9 +9,7 @@ returns-then-send c = so_yes _ _ _ _ c.if-send.true c.judge_again.ensures
 
 pub nth-requires : goal.nth-requires
 nth-requires c =
-    let handed = let a = c.args in
-    context_given a.c a.flows.now a.outstanding.now a.marked.now a.sizes.now a.sent.now a.evs.now in
-    omega (arith, c.requires.flow_bound.0, (context_facts handed c.requires.evs_value).table.few)
+    omega (arith, c.requires.flow_bound.0, (context_facts _ c.requires.evs_value).table.few)
 
 pub returns : goal.returns
 returns c = so_no _ _ _ _ c.if-send.false (rw (c.nth.ensures, c.count.ensures) at c.judge_new.ensures)

@@ -12,10 +12,7 @@ facts : (c : Start) →
     let handed = let a = c.args in
     context_given a.c a.flows.now a.outstanding.now a.marked.now a.sizes.now a.sent.now a.evs.now in
     SoundContext handed
-facts c =
-    let handed = let a = c.args in
-    context_given a.c a.flows.now a.outstanding.now a.marked.now a.sizes.now a.sent.now a.evs.now in
-    context_facts handed c.requires
+facts c = context_facts _ c.requires
 
 pub from_words-requires : goal.from_words-requires
 from_words-requires c =

@@ -15,10 +15,7 @@ facts : (c : Start) →
     let handed = let a = c.args in
     context a.c a.flows.now (memory a.outstanding.now a.marked.now a.sizes.now a.sent.now) a.evs.now in
     SoundContext handed
-facts c =
-    let handed = let a = c.args in
-    context a.c a.flows.now (memory a.outstanding.now a.marked.now a.sizes.now a.sent.now) a.evs.now in
-    context_facts handed c.requires
+facts c = context_facts _ c.requires
 
 -- flow k is one of them
 inside : (c : In-loop-k) →
@@ -29,16 +26,12 @@ inside c = omega (arith, c.loop-k-test.true, c.count-n.ensures)
 
 pub loop-k-init : goal.loop-k-init
 loop-k-init c =
-    let handed = let a = c.args in
-    context a.c a.flows.now (memory a.outstanding.now a.marked.now a.sizes.now a.sent.now) a.evs.now in
-    waits_none handed c.no_flows-fs.ensures c.count-n.ensures
+    waits_none _ c.no_flows-fs.ensures c.count-n.ensures
 
 pub flow_at-f-requires-clause-fits : goal.flow_at-f-requires-clause-fits
 flow_at-f-requires-clause-fits c =
     let g = goal.at.flow_at-f-requires-clause-fits c in
-    let handed = let a = c.args in
-    context a.c a.flows.now (memory a.outstanding.now a.marked.now a.sizes.now a.sent.now) a.evs.now in
-    flow_fits handed (facts g.Start) c.loop-k.k (inside g.In-loop-k)
+    flow_fits _ (facts g.Start) c.loop-k.k (inside g.In-loop-k)
 
 pub with_record-fs-requires : goal.with_record-fs-requires
 with_record-fs-requires c =
@@ -47,9 +40,7 @@ with_record-fs-requires c =
 
 pub loop-k-preserved : goal.loop-k-preserved
 loop-k-preserved c =
-    let handed = let a = c.args in
-    context a.c a.flows.now (memory a.outstanding.now a.marked.now a.sizes.now a.sent.now) a.evs.now in
-    waits_next handed c.loop-k.k c.loop-k.invariant c.flow_at-f.ensures c.waiting_from-w.ensures c.with_record-fs.ensures
+    waits_next _ c.loop-k.k c.loop-k.invariant c.flow_at-f.ensures c.waiting_from-w.ensures c.with_record-fs.ensures
 
 pub returns : goal.returns
 returns c =

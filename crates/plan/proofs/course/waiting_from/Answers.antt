@@ -1,5 +1,4 @@
 -- `waiting_from` is the flow's record, with low at the packet that is found.
-use Rattle.context.specs.Lent.{context_given}
 use Rattle.context.proofs.Sounds.{context_facts}
 use Rattle.context.proofs.Joins.{flow_fits}
 use Rattle.plan.specs.Course.{waiting_from}
@@ -7,9 +6,7 @@ use Rattle.plan.proofs.course.waiting_from.Goals as goal
 
 pub flow_at-requires-clause-fits : goal.flow_at-requires-clause-fits
 flow_at-requires-clause-fits c =
-    let handed = let a = c.args in
-    context_given a.c a.flows.now a.outstanding.now a.marked.now a.sizes.now a.sent.now a.evs.now in
-    flow_fits handed (context_facts handed c.requires.evs_value) c.args.k c.requires.k_bound
+    flow_fits _ (context_facts _ c.requires.evs_value) c.args.k c.requires.k_bound
 
 pub returns : goal.returns
 unfolding waiting_from

@@ -26,27 +26,21 @@ in_time c = sym c.is_late.ensures ∙ c.if-is_late.false
 pub returns-then-not-is_sound : goal.returns-then-not-is_sound
 unfolding number_of
 returns-then-not-is_sound c =
-    let handed = let a = c.args in
-    context a.c a.flows.now (memory a.outstanding.now a.marked.now a.sizes.now a.sent.now) a.evs.now in
-    c.no_send.ensures ∙ judge_2 _ _ handed (sym c.is_sound.ensures ∙ c.if-not-is_sound.true)
+    c.no_send.ensures ∙ judge_2 _ _ _ (sym c.is_sound.ensures ∙ c.if-not-is_sound.true)
 
 pub returns-then-is_late : goal.returns-then-is_late
 unfolding number_of
 returns-then-is_late c =
     let g = goal.at.returns-then-is_late c in
-    let handed = let a = c.args in
-    context a.c a.flows.now (memory a.outstanding.now a.marked.now a.sizes.now a.sent.now) a.evs.now in
-    c.no_send-then-is_late.ensures ∙ judge_3 _ _ handed (holds g.After-is_late) (sym c.is_late.ensures ∙ c.if-is_late.true)
+    c.no_send-then-is_late.ensures ∙ judge_3 _ _ _ (holds g.After-is_late) (sym c.is_late.ensures ∙ c.if-is_late.true)
 
 pub returns-then-count-gt-SENDS_MOST : goal.returns-then-count-gt-SENDS_MOST
 unfolding number_of
 returns-then-count-gt-SENDS_MOST c =
     let g = goal.at.returns-then-count-gt-SENDS_MOST c in
-    let handed = let a = c.args in
-    context a.c a.flows.now (memory a.outstanding.now a.marked.now a.sizes.now a.sent.now) a.evs.now in
     let ws = c.args.plan.now in
     c.no_send-then-count-gt-SENDS_MOST.ensures
-    ∙ judge_27 _ (plan_of ws) handed (holds g.After-is_late) (in_time g.After-count)
+    ∙ judge_27 _ (plan_of ws) _ (holds g.After-is_late) (in_time g.After-count)
     (omega (arith, c.if-count-gt-SENDS_MOST.true, c.count.ensures, sends_length ws 0 (send_count ws)))
 
 pub judge_each-requires-clause-clock_le_time : goal.judge_each-requires-clause-clock_le_time
@@ -57,8 +51,6 @@ judge_each-requires-clause-clock_le_time c =
 pub returns : goal.returns
 returns c =
     let g = goal.at.returns c in
-    let handed = let a = c.args in
-    context a.c a.flows.now (memory a.outstanding.now a.marked.now a.sizes.now a.sent.now) a.evs.now in
     let ws = c.args.plan.now in
-    judge_made _ (plan_of ws) handed (holds g.After-is_late) (in_time g.After-count)
+    judge_made _ (plan_of ws) _ (holds g.After-is_late) (in_time g.After-count)
     (omega (arith, c.if-count-gt-SENDS_MOST.false, c.count.ensures, sends_length ws 0 (send_count ws))) c.judge_each.ensures

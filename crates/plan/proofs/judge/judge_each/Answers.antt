@@ -44,9 +44,7 @@ accepted c = ok_zero _ _ c.in_default.is
 
 pub loop-i-init : goal.loop-i-init
 loop-i-init c =
-    let handed = let a = c.args in
-    context a.c a.flows.now (memory a.outstanding.now a.marked.now a.sizes.now a.sent.now) a.evs.now in
-    reached_start _ handed _ _ c.requires.evs_value c.requires.clock_le_time.0 c.requires.clock_le_time.1 c.start-s.ensures
+    reached_start _ _ _ _ c.requires.evs_value c.requires.clock_le_time.0 c.requires.clock_le_time.1 c.start-s.ensures
 
 pub judge_next-verdict-requires-clause-i_bound : goal.judge_next-verdict-requires-clause-i_bound
 judge_next-verdict-requires-clause-i_bound c =

@@ -25,17 +25,13 @@ in_time c = sym c.is_late.ensures ∙ c.if-is_late.false
 pub returns-then-not-is_sound : goal.returns-then-not-is_sound
 unfolding number_of
 returns-then-not-is_sound c =
-    let handed = let a = c.args in
-    context a.c a.flows.now (memory a.outstanding.now a.marked.now a.sizes.now a.sent.now) a.evs.now in
-    plan_2 _ _ handed _ (sym c.is_sound.ensures ∙ c.if-not-is_sound.true)
+    plan_2 _ _ _ _ (sym c.is_sound.ensures ∙ c.if-not-is_sound.true)
 
 pub returns-then-is_late : goal.returns-then-is_late
 unfolding number_of
 returns-then-is_late c =
     let g = goal.at.returns-then-is_late c in
-    let handed = let a = c.args in
-    context a.c a.flows.now (memory a.outstanding.now a.marked.now a.sizes.now a.sent.now) a.evs.now in
-    plan_3 _ _ handed _ (holds g.After-is_late) (sym c.is_late.ensures ∙ c.if-is_late.true)
+    plan_3 _ _ _ _ (holds g.After-is_late) (sym c.is_late.ensures ∙ c.if-is_late.true)
 
 pub plan_each-requires : goal.plan_each-requires
 plan_each-requires c =
@@ -49,6 +45,4 @@ pub returns : goal.returns
 unfolding number_of
 returns c =
     let g = goal.at.returns c in
-    let handed = let a = c.args in
-    context a.c a.flows.now (memory a.outstanding.now a.marked.now a.sizes.now a.sent.now) a.evs.now in
-    plan_made _ _ handed _ (holds g.After-is_late) (in_time g.Else-is_late) c.plan_each.ensures
+    plan_made _ _ _ _ (holds g.After-is_late) (in_time g.Else-is_late) c.plan_each.ensures

@@ -23,10 +23,7 @@ facts : (c : Start) →
     let handed = let a = c.args in
     context a.c a.flows.now (memory a.outstanding.now a.marked.now a.sizes.now a.sent.now) a.evs.now in
     SoundContext handed
-facts c =
-    let handed = let a = c.args in
-    context a.c a.flows.now (memory a.outstanding.now a.marked.now a.sizes.now a.sent.now) a.evs.now in
-    context_facts handed c.requires.evs_value
+facts c = context_facts _ c.requires.evs_value
 
 -- who is named
 who : (c : In-Some) →
@@ -71,17 +68,13 @@ nonzero_div-cap c =
 
 pub loop-i-init : goal.loop-i-init
 loop-i-init c =
-    let handed = let a = c.args in
-    context a.c a.flows.now (memory a.outstanding.now a.marked.now a.sizes.now a.sent.now) a.evs.now in
-    planning_start _ _ handed _ _ c.requires.evs_value c.requires.clock_le_time.0 c.requires.clock_le_time.1 c.start-s.ensures
+    planning_start _ _ _ _ _ c.requires.evs_value c.requires.clock_le_time.0 c.requires.clock_le_time.1 c.start-s.ensures
 
 pub named-requires : goal.named-requires
 named-requires c =
     let g = goal.at.named-requires c in
-    let handed = let a = c.args in
-    context a.c a.flows.now (memory a.outstanding.now a.marked.now a.sizes.now a.sent.now) a.evs.now in
     let R = c.loop-i.invariant in
-    let B = rooms handed c.requires.evs_value in
+    let B = rooms _ c.requires.evs_value in
     record {
       turn_lt_n = (
         omega (arith, turn_in (facts g.Start) R.agrees R.follows, c.count-n.ensures),
