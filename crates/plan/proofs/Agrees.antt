@@ -13,6 +13,7 @@ use lib.ListN.{length, get_or, take, replicate, length-set, get_or-append}
 use lib.Seq.{get_or-set_same, get_or-set_other, length-take-le, take_all}
 use lib.IntN.{ℤ, pos, ◌+ℤ◌}
 use borrow.Author.Tests.{le-ltb, lt-leb, le-leb, ne_eqb, eq-eqb}
+use Rattle.std.proofs.lemmas.Bool.{and_right}
 use Rattle.rules.specs.Branch.{if_so, so_yes, so_no, so_both, lt_yes, lt_no}
 use Rattle.rules.specs.Rows.{first_of, first_here, first_later, none_here}
 use Rattle.rules.specs.Test.{inside}
@@ -54,7 +55,7 @@ use Rattle.plan.specs.Ahead.{flow_by, ahead_of, pushed, flows_after, ahead_after
 use Rattle.plan.specs.Ahead.{ahead_number}
 use Rattle.plan.specs.declared.Planned.{Planned}
 use Rattle.plan.specs.declared.ahead.Ahead.{Ahead}
-use Rattle.plan.proofs.Packets.{and_yes, and_no, again_waits, push_waits}
+use Rattle.plan.proofs.Packets.{and_yes, again_waits, push_waits}
 
 -- x is what a plan's first i sends leave of x₀, as far as a send is judged by it
 pub record Agrees (time : ℕ) (x₀ : Context) (ws : List ℕ) (i : ℕ) (s : Ahead) (x : Context) : Type 0 where
@@ -342,7 +343,7 @@ module _ {time : ℕ} {x₀ : Context} {ws : List ℕ} {i : ℕ} {s : Ahead} {x 
           (λ ne.
           ap₂ (λ (f : Flow) (r : Ring). waits_as size (packet_of f r psn)) (other_flow x S k h (world_of v) P j ne)
           (other_ring x S k h (world_of v) P j ne)
-          ∙ sym (and_yes _ _ (ap (λ (b : Bool). not (b && eqb a.psn psn)) (and_no a.resend _ (ne_eqb k j (λ q. ne (sym q)))))))
+          ∙ sym (and_yes _ _ (ap (λ (b : Bool). not (b && eqb a.psn psn)) (and_right a.resend _ (ne_eqb k j (λ q. ne (sym q)))))))
 
       -- WHAT IS KEPT AGREES AFTER IT TOO
       pub agrees_after : Agrees time x₀ ws (suc i) (ahead_after s p) (send_left time k a x)

@@ -36,7 +36,7 @@ use Rattle.plan.specs.declared.Planned.{Planned}
 use Rattle.plan.specs.declared.course.Course.{Course}
 use Rattle.plan.proofs.Packets.{offset_tells}
 use Rattle.plan.proofs.Agrees.{Agrees}
-use Rattle.plan.proofs.Seeks.{differs, Sought, sought, Seeks, seek_marked, seek_none, seek_first}
+use Rattle.plan.proofs.Seeks.{next_offset, differs, Sought, sought, Seeks, seek_marked, seek_none, seek_first}
 
 -- x is what a plan's first i sends leave of x₀, as far as a choice is told by it
 pub record Follows (x₀ : Context) (ws : List ℕ) (i : ℕ) (s : Course) (x : Context) : Type 0 where
@@ -48,10 +48,6 @@ pub record Follows (x₀ : Context) (ws : List ℕ) (i : ℕ) (s : Course) (x : 
 pub low_zero : (f : Flow) → offset_of f f.low ≡ 0
 unfolding offset_of
 low_zero f = minus_self psns f.low (omega arith)
-
-pub next_offset : (f : Flow) → offset_of f f.next ≡ long_of f
-unfolding offset_of long_of
-next_offset f = refl
 
 -- the first marked packet of a flow of a sound context, from any of low..next on
 pub first_sought : (x : Context) → SoundContext x → (k : ℕ) → k < flow_count x → (psn : ℕ) → psn < psns

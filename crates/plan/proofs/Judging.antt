@@ -8,6 +8,7 @@ use native.Mathlib.Omega.{arith}
 use native.Mathlib.Numerals.{add-one}
 use lib.Dec.{ltb, eqb}
 use borrow.Author.Tests.{ltb-true, ltb-false}
+use Rattle.std.proofs.lemmas.Bool.{or_right}
 use Rattle.rules.specs.Branch.{if_so, so_yes, so_no, lt_yes, lt_no}
 use Rattle.rules.specs.Rows.{first_of}
 use Rattle.rules.specs.Test.{inside}
@@ -27,10 +28,6 @@ use Rattle.plan.specs.declared.Planned.{Planned}
 use Rattle.plan.specs.declared.ahead.Ahead.{Ahead}
 
 -- ---- what the first sends send again
-
-or_right : (a b : Bool) → b ≡ true → (a || b) ≡ true
-or_right true b e = refl
-or_right false b e = e
 
 module _ (ws : List ℕ) (k psn : ℕ) where
   pub again_none : again_to ws 0 k psn ≡ false

@@ -12,6 +12,7 @@ use lib.Dec.{eqb}
 use lib.ListN.{length, get_or, set, length-append, get_or-append, get_or-eq_default}
 use lib.Seq.{get_or-set_same, get_or-set_other, get_or-append_seam}
 use borrow.Author.Tests.{eq-eqb, ne_eqb}
+use Rattle.std.proofs.lemmas.Bool.{and_right}
 use Rattle.serial.specs.Psn.{psns, plus}
 use Rattle.serial.proofs.Cover.{plus_minus}
 use Rattle.ledger.specs.Packets.{no_packet, is_marked}
@@ -27,10 +28,6 @@ use Rattle.plan.specs.Ahead.{pushed, waits_as}
 pub and_yes : (b c : Bool) → c ≡ true → (b && c) ≡ b
 and_yes true c e = e
 and_yes false c e = refl
-
-pub and_no : (b c : Bool) → c ≡ false → (b && c) ≡ false
-and_no true c e = e
-and_no false c e = refl
 
 -- a packet that is not marked does not wait
 pub not_waits : (size : ℕ) (x : Packet) → is_marked x ≡ false → waits_as size x ≡ false
@@ -58,7 +55,7 @@ module _ (mtu clock : ℕ) (f : Flow) (r : Ring) (F : Facts mtu clock f r) where
       ap (λ (xs : List Packet). get_or xs (offset_of f psn) no_packet) (changed_packets mtu clock f r F q h y)
       ∙ ap (λ (n : ℕ). get_or (set (packets f r) (offset_of f q) y) (offset_of f n) no_packet) same
       ∙ get_or-set_same (packets f r) (offset_of f q) y no_packet (omega (arith, packets_long f r)) in
-      ap (waits_as size) there ∙ not_waits size y e ∙ sym (and_no (waits_as size (get_or (packets f r) (offset_of f psn) no_packet)) _ (ap not (eq-eqb q psn (sym same)))))
+      ap (waits_as size) there ∙ not_waits size y e ∙ sym (and_right (waits_as size (get_or (packets f r) (offset_of f psn) no_packet)) _ (ap not (eq-eqb q psn (sym same)))))
       (λ other.
       let there : get_or (packets f (changed f r q y)) (offset_of f psn) no_packet ≡ get_or (packets f r) (offset_of f psn) no_packet =
       ap (λ (xs : List Packet). get_or xs (offset_of f psn) no_packet) (changed_packets mtu clock f r F q h y)

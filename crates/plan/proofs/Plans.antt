@@ -13,6 +13,7 @@ use lib.Dec.{eqb}
 use lib.ListN.{length, get_or, set, length-set, length-replicate}
 use lib.Seq.{get_or-set_same, get_or-set_other}
 use borrow.Author.Tests.{eq-eqb, ne_eqb}
+use Rattle.std.proofs.lemmas.Bool.{and_right}
 use Rattle.rules.specs.Branch.{so_yes, so_both, eq_both}
 use Rattle.rules.specs.Mode.{mode_of}
 use Rattle.serial.specs.Psn.{psns, plus}
@@ -34,7 +35,6 @@ use Rattle.plan.specs.Course.{waiting_from, waits_to, course_of, wait_by, send_b
 use Rattle.plan.specs.declared.Planned.{Planned}
 use Rattle.plan.specs.declared.ahead.Ahead.{Ahead}
 use Rattle.plan.specs.declared.course.Course.{Course}
-use Rattle.plan.proofs.Packets.{and_no}
 use Rattle.plan.proofs.Agrees.{Agrees}
 use Rattle.plan.proofs.Seeks.{differs, Seeks, behind, seeks_start, seeks_like, seeks_after}
 use Rattle.plan.proofs.Courses.{Follows, low_zero, first_sought, waits_so}
@@ -285,7 +285,7 @@ module _ {time : ℕ} {x₀ : Context} {ws : List ℕ} {i : ℕ} {s : Course} {x
         by false r = ap (λ (b : Bool). b && eqb p.flow j && eqb p.send.psn psn) r
         by true r =
             ap (λ (b : Bool). b && eqb p.send.psn psn)
-            (and_no p.send.resend _ (ap (λ (f : ℕ). eqb f j) send_flow ∙ ne_eqb k j (λ q. ne r (sym q))))
+            (and_right p.send.resend _ (ap (λ (f : ℕ). eqb f j) send_flow ∙ ne_eqb k j (λ q. ne r (sym q))))
 
     -- what waits of flow j afterwards
     abbrev Waits : ℕ → Course → Type 0

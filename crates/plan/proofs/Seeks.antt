@@ -29,6 +29,10 @@ use Rattle.context.proofs.Offers.{run_le, run_marked}
 use Rattle.plan.specs.Ahead.{waits_as}
 use Rattle.plan.proofs.Packets.{offset_tells}
 
+pub next_offset : (f : Flow) → offset_of f f.next ≡ long_of f
+unfolding offset_of long_of
+next_offset f = refl
+
 -- ---- the first marked packet from a PSN on
 
 run_none : (ps : List Packet) (j : ℕ) → j < unmarked_run ps → is_marked (get_or ps j no_packet) ≡ false
@@ -91,10 +95,6 @@ module _ (f : Flow) (r : Ring) (next : f.next < psns) (few : long_of f ≤ 4096)
             ∙ run_none rest (offset_of f p - o) (omega (arith, e));
       }
 
-  next_long : offset_of f f.next ≡ long_of f
-  unfolding offset_of long_of
-  next_long = refl
-
   pub sought : Sought f r psn (next_marked_of f r psn)
   unfolding next_marked_of
   sought =
@@ -102,10 +102,10 @@ module _ (f : Flow) (r : Ring) (next : f.next < psns) (few : long_of f ≤ 4096)
       (λ h.
       record {
         fits = next;
-        not_before = omega (arith, next_long, in-long);
-        within = omega (arith, next_long);
-        marked = λ l. absurd (let z : ⊥ = omega (arith, next_long) in z);
-        between = λ p a b. absurd (let z : ⊥ = omega (arith, next_long) in z);
+        not_before = omega (arith, next_offset f, in-long);
+        within = omega (arith, next_offset f);
+        marked = λ l. absurd (let z : ⊥ = omega (arith, next_offset f) in z);
+        between = λ p a b. absurd (let z : ⊥ = omega (arith, next_offset f) in z);
       })
 
 -- ---- what the plan has sent again of a flow
