@@ -60,7 +60,7 @@ pub const FEED_PART: u64 = 4;
 pub const FEED_REACH: u64 = 5;
 
 // The settings, in document 01's order. Quick adapt is off by a mode.
-#[derive(Clone, Copy)]
+#[derive(Clone, Copy, PartialEq, Eq)]
 pub struct Settings {
     pub mtu: u64,
     pub maxwnd: u64,
@@ -82,7 +82,7 @@ pub struct Settings {
 
 // What the window rules hold between events. `avg` is in 1/1,024 tick; `qa_end` is quick adapt's end; `fast` is fast mode.
 // Modes are `rules::ON` or `rules::OFF`.
-#[derive(Clone, Copy)]
+#[derive(Clone, Copy, PartialEq, Eq)]
 pub struct Window {
     pub cwnd: u64,
     pub base: u64,
