@@ -52,7 +52,7 @@ pub struct Flow {
 }
 
 // What is held once, over the packets and the backlogs of all flows (request M-107).
-#[derive(Clone, Copy)]
+#[derive(Clone, Copy, PartialEq, Eq)]
 pub struct Totals {
     pub flying: u32,
     pub marked: u32,
