@@ -25,7 +25,7 @@ use sender::{Ack, Loss, Nack, Send};
 use window::{Sampling, Settings, Window};
 
 // What all flows of a context share. Numbers of 32 bits stand in pairs, so that it has no gaps.
-#[derive(Clone, Copy)]
+#[derive(Clone, Copy, PartialEq, Eq)]
 pub struct Controller {
     pub settings: Settings,
     pub totals: Totals,
