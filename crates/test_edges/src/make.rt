@@ -2,7 +2,6 @@
 use crate::worlds;
 use crate::worlds::World;
 use context::Controller;
-use context::choice::Choice;
 use ledger::{Flow, Totals};
 use window::{Settings, Window};
 
@@ -109,8 +108,7 @@ fn lend(state: Controller, fill: u32, table: usize, wide: bool) -> World {
         table,
         wide,
         flow: 0,
-        number: 0,
-        choice: Choice::Nobody,
+        outcome: Ok(None),
         state,
     }
 }

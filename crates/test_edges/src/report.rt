@@ -5,7 +5,6 @@ use crate::worlds::World;
 use crate::{events, make, ring, say};
 use ledger::Totals;
 use std::io;
-use window::Settings;
 
 // A line of document 01's worked example: none of its records leaves in-flight below zero.
 fn row(out: &impl Print, w: &World) -> io::Result<()> {
@@ -17,26 +16,21 @@ fn row(out: &impl Print, w: &World) -> io::Result<()> {
         ..
     } = w.state.totals;
     let bytes = u64::try_from(in_flight).unwrap_or(u64::MAX);
-    let number = w.number;
+    let number = w.number();
     let cwnd = w.state.window.cwnd;
     let name = say::name_of(w.state.phase);
     print!(out; " {number} {bytes} {cwnd} {flying} {marked} {backlog} {name}")
 }
 
-// What setting up must leave, by the number that it answered.
-fn set_up_leaves(settings: Settings, table: usize, number: u32) -> World {
-    if number == 0 {
-        return make::fresh(settings, table);
-    }
-    make::unset(table)
-}
-
 // The number; then `fresh` or `same`, where the world is what setting up must leave.
 fn set_up(out: &impl Print, before: &World, after: &World) -> io::Result<()> {
-    let number = after.number;
-    let what = if number == 0 { "fresh" } else { "same" };
+    let number = after.number();
+    let (what, left) = match after.outcome {
+        Ok(_) => ("fresh", make::fresh(before.state.settings, after.table)),
+        Err(_) => ("same", make::unset(after.table)),
+    };
     print!(out; " {number} {what}")?;
-    if !set_up_leaves(before.state.settings, after.table, number).is_as(after) {
+    if !left.is_as(after) {
         print!(out; " CHANGED")?;
     }
     Ok(())

@@ -89,7 +89,7 @@ pub(crate) fn write(out: &impl Print, w: &World) -> io::Result<()> {
         ..
     } = w.state.totals;
     let Flow { low, next, .. } = w.record();
-    let number = w.number;
+    let number = w.number();
     print!(out; " {number} {low} {next} {flying} {marked} {marked_bytes}")?;
     slots(out, w)
 }

@@ -1,8 +1,7 @@
 // What the program writes.
 use crate::worlds::World;
-use context::choice::{Choice, Turn};
-use rules::verdict::number_of;
-use sender::look::Look;
+use context::choice::Turn;
+use rules::verdict::{Refusal, number_of};
 use std::io;
 
 // The words of a record, as they are written.
@@ -46,18 +45,17 @@ pub(crate) fn record(out: &impl Print, w: &World) -> io::Result<()> {
     Ok(())
 }
 
-// The number that a look answered, and what it found.
-pub(crate) fn look(out: &impl Print, a: Look) -> io::Result<()> {
-    let verdict = a.verdict;
-    also(out, number_of(verdict) as u64)?;
-    also(out, a.found as u64)
+// The number that a look answered, and what it found: a refusal finds 0.
+pub(crate) fn look(out: &impl Print, found: Result<u32, Refusal>) -> io::Result<()> {
+    also(out, number_of(found) as u64)?;
+    also(out, found.unwrap_or_default() as u64)
 }
 
 // The number that a call answered; where it is a refusal, whether state and lent memory are as they were.
 pub(crate) fn answer(out: &impl Print, before: &World, after: &World) -> io::Result<()> {
-    let number = after.number;
+    let number = after.number();
     print!(out; " {number}")?;
-    if number == 0 {
+    if after.outcome.is_ok() {
         return Ok(());
     }
     comparison(out, before, after)
@@ -73,9 +71,9 @@ fn named(out: &impl Print, t: Turn) -> io::Result<()> {
 // What a choice answered, and whom it names: a refusal names nobody, and says no more.
 pub(crate) fn choice(out: &impl Print, before: &World, after: &World) -> io::Result<()> {
     answer(out, before, after)?;
-    match after.choice {
-        Choice::Named(turn) => named(out, turn),
-        Choice::Nobody if after.number == 0 => print!(out; " nobody"),
-        Choice::Nobody => Ok(()),
+    match after.outcome {
+        Ok(Some(turn)) => named(out, turn),
+        Ok(None) => print!(out; " nobody"),
+        Err(_) => Ok(()),
     }
 }

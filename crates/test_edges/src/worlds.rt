@@ -2,10 +2,9 @@
 // with.
 ghost use Rattle.std.specs.Prelude.{◌<◌, ◌≤◌};
 
-use context::choice::{Choice, Chosen};
-use context::{Answer, Controller, Heard, Routed, choice, entry, look, start};
-use rules::verdict::number_of;
-use sender::look::Look;
+use context::choice::Turn;
+use context::{Controller, choice, entry, look, start};
+use rules::verdict::{Answer, Refusal, number_of};
 use sender::{Ack, Loss, Nack, Send};
 use window::Settings;
 
@@ -37,7 +36,7 @@ pub(crate) fn put<T: Copy>(xs: &mut [T], k: usize, x: T) {
 }
 
 // The first `table` words of `flows` are lent, and so much of the other memory as these flows have rings: of 64 slots, or one of 128
-// where it is wide. `flow` is the one that the case is at, `number` what the last call answered, `choice` whom it named.
+// where it is wide. `flow` is the one that the case is at, `outcome` what the last call answered, with whom it named.
 #[derive(Clone, Copy)]
 pub struct World {
     pub flows: [u64; TABLE_MOST],
@@ -49,8 +48,7 @@ pub struct World {
     pub table: usize,
     pub wide: bool,
     pub flow: u64,
-    pub number: u32,
-    pub choice: Choice,
+    pub outcome: Result<Option<Turn>, Refusal>,
     pub state: Controller,
 }
 
@@ -69,56 +67,18 @@ pub enum Call {
 }
 
 // What a call answered; only a choice names anybody.
-#[derive(Clone, Copy)]
-struct Got {
-    number: u32,
-    choice: Choice,
-    state: Controller,
-}
+type Got = Answer<Controller, Option<Turn>>;
 
-fn of_answer(answer: Answer) -> Got {
-    let state = answer.state;
-    let verdict = answer.verdict;
-    Got {
-        number: number_of(verdict),
-        choice: Choice::Nobody,
-        state,
+// The answer of any other call. `test_lengths` has this and the next two too: each of the two programs stands alone, and a crate between
+// them would be longer than what they share.
+fn unnamed<T: Copy>(answer: Answer<Controller, T>) -> Got {
+    Answer {
+        state: answer.state,
+        outcome: answer.outcome.map(|_| None),
     }
 }
 
-fn of_heard(heard: Heard) -> Got {
-    let state = heard.state;
-    let verdict = heard.verdict;
-    Got {
-        number: number_of(verdict),
-        choice: Choice::Nobody,
-        state,
-    }
-}
-
-fn of_routed(routed: Routed) -> Got {
-    let state = routed.state;
-    let verdict = routed.verdict;
-    Got {
-        number: number_of(verdict),
-        choice: Choice::Nobody,
-        state,
-    }
-}
-
-fn of_chosen(chosen: Chosen) -> Got {
-    let state = chosen.state;
-    let verdict = chosen.verdict;
-    let choice = chosen.choice;
-    Got {
-        number: number_of(verdict),
-        choice,
-        state,
-    }
-}
-
-// What is lent to a call. `test_lengths` has this and the next too: each of the two programs stands alone, and a crate between them would
-// be longer than what they share.
+// What is lent to a call.
 #[derive(Drop)]
 struct Lent<'a> {
     flows: &'a mut [u64],
@@ -141,24 +101,24 @@ impl Lent<'_> {
             evs,
         } = self;
         match call {
-            Call::SetUp(s) => { of_answer(start::set_up(s, flows, out, marked, sizes, sent, evs)) }
+            Call::SetUp(s) => { unnamed(start::set_up(s, flows, out, marked, sizes, sent, evs)) }
             Call::NewData(n) => {
-                of_answer(entry::new_data(c, flows, out, marked, sizes, sent, evs, at, k, n))
+                unnamed(entry::new_data(c, flows, out, marked, sizes, sent, evs, at, k, n))
             }
             Call::Send(a) => {
-                of_answer(entry::send(c, flows, out, marked, sizes, sent, evs, at, k, a))
+                unnamed(entry::send(c, flows, out, marked, sizes, sent, evs, at, k, a))
             }
             Call::Ack(a) => {
-                of_heard(entry::ack(c, flows, out, marked, sizes, sent, evs, at, k, a))
+                unnamed(entry::ack(c, flows, out, marked, sizes, sent, evs, at, k, a))
             }
             Call::Nack(a) => {
-                of_heard(entry::nack(c, flows, out, marked, sizes, sent, evs, at, k, a))
+                unnamed(entry::nack(c, flows, out, marked, sizes, sent, evs, at, k, a))
             }
             Call::Loss(a) => {
-                of_answer(entry::loss(c, flows, out, marked, sizes, sent, evs, at, k, a))
+                unnamed(entry::loss(c, flows, out, marked, sizes, sent, evs, at, k, a))
             }
-            Call::Path => of_routed(entry::path(c, flows, out, marked, sizes, sent, evs, at, k)),
-            Call::Choose => of_chosen(choice::choose(c, flows, out, marked, sizes, sent, evs)),
+            Call::Path => unnamed(entry::path(c, flows, out, marked, sizes, sent, evs, at, k)),
+            Call::Choose => choice::choose(c, flows, out, marked, sizes, sent, evs),
         }
     }
 }
@@ -175,6 +135,11 @@ struct Shown<'a> {
 }
 
 impl World {
+    // The number that the last call answered.
+    pub(crate) fn number(&self) -> u32 {
+        number_of(self.outcome)
+    }
+
     // How many flows are lent.
     pub(crate) fn flow_count(&self) -> usize {
         self.table / flow_table::FLOW_WORDS
@@ -221,8 +186,7 @@ impl World {
         };
         let got = lent.answer(call, self.state, time, self.flow as usize);
         self.state = got.state;
-        self.choice = got.choice;
-        self.number = got.number;
+        self.outcome = got.outcome;
         self
     }
 
@@ -241,7 +205,7 @@ impl World {
     }
 
     // The status of a PSN.
-    pub(crate) fn status_of(&self, psn: u32) -> Look {
+    pub(crate) fn status_of(&self, psn: u32) -> Result<u32, Refusal> {
         let Shown {
             flows,
             outstanding,
@@ -265,7 +229,7 @@ impl World {
     }
 
     // The first marked PSN from one on.
-    pub(crate) fn next_marked(&self, psn: u32) -> Look {
+    pub(crate) fn next_marked(&self, psn: u32) -> Result<u32, Refusal> {
         let Shown {
             flows,
             outstanding,
@@ -288,11 +252,9 @@ impl World {
         )
     }
 
-    // Whether state, table, rings and EV times are those of another; what the last call answered is no part of it. Two states are the same
-    // where their words are: that words hold every field is proved in crates/c_state, but in-flight is cut to its range there.
+    // Whether state, table, rings and EV times are those of another. What the last call answered is no part of it, so no derive serves.
     pub(crate) fn is_as(&self, other: &World) -> bool {
-        (c_state::pack(self.state) == c_state::pack(other.state))
-            & (self.state.totals.in_flight == other.state.totals.in_flight)
+        (self.state == other.state)
             & (self.flows == other.flows)
             & (self.outstanding == other.outstanding)
             & (self.marked == other.marked)
