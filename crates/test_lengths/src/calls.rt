@@ -1,11 +1,9 @@
 // Every entry point on lent slices of any lengths.
 use crate::make;
 use crate::make::{Given, TABLE};
-use crate::same::{all, same_state};
-use context::choice::{Choice, Chosen};
-use context::{Answer, Controller, Heard, Routed, choice, entry, look, start};
-use rules::verdict::number_of;
-use sender::look::Look;
+use context::choice::Turn;
+use context::{Controller, choice, entry, look, start};
+use rules::verdict::{Answer, Refusal};
 use sender::{Ack, Loss, Nack, Send};
 use window::Settings;
 
@@ -36,8 +34,19 @@ impl Call {
     ];
 }
 
-// What is lent to a call. `test_edges` has this and the next too: each of the two programs stands alone, and a crate between them would
-// be longer than what they share.
+// What a call answered; only a choice names anybody.
+pub type Got = Answer<Controller, Option<Turn>>;
+
+// The answer of any other call. `test_edges` has this and the next two too: each of the two programs stands alone, and a crate between
+// them would be longer than what they share.
+fn unnamed<T: Copy>(answer: Answer<Controller, T>) -> Got {
+    Answer {
+        state: answer.state,
+        outcome: answer.outcome.map(|_| None),
+    }
+}
+
+// What is lent to a call.
 #[derive(Drop)]
 pub struct Lent<'a> {
     pub flows: &'a mut [u64],
@@ -59,60 +68,11 @@ pub struct Shown<'a> {
     pub evs: &'a [u64],
 }
 
-// What a call answered; only a choice names anybody.
-#[derive(Clone, Copy)]
-pub struct Got {
-    pub number: u32,
-    pub choice: Choice,
-    pub state: Controller,
-}
-
 // What the two looks answered.
 #[derive(Clone, Copy)]
 pub struct Looks {
-    pub status: Look,
-    pub next_marked: Look,
-}
-
-fn of_answer(answer: Answer) -> Got {
-    let state = answer.state;
-    let verdict = answer.verdict;
-    Got {
-        number: number_of(verdict),
-        choice: Choice::Nobody,
-        state,
-    }
-}
-
-fn of_heard(heard: Heard) -> Got {
-    let state = heard.state;
-    let verdict = heard.verdict;
-    Got {
-        number: number_of(verdict),
-        choice: Choice::Nobody,
-        state,
-    }
-}
-
-fn of_routed(routed: Routed) -> Got {
-    let state = routed.state;
-    let verdict = routed.verdict;
-    Got {
-        number: number_of(verdict),
-        choice: Choice::Nobody,
-        state,
-    }
-}
-
-fn of_chosen(chosen: Chosen) -> Got {
-    let state = chosen.state;
-    let verdict = chosen.verdict;
-    let choice = chosen.choice;
-    Got {
-        number: number_of(verdict),
-        choice,
-        state,
-    }
+    pub status: Result<u32, Refusal>,
+    pub next_marked: Result<u32, Refusal>,
 }
 
 // A new packet of 41 bytes.
@@ -167,26 +127,31 @@ impl Lent<'_> {
         let c = make::empty(e);
         let at = c.clock;
         match call {
-            Call::SetUp(s) => { of_answer(start::set_up(s, flows, out, marked, sizes, sent, evs)) }
+            Call::SetUp(s) => { unnamed(start::set_up(s, flows, out, marked, sizes, sent, evs)) }
             Call::NewData => {
-                of_answer(entry::new_data(c, flows, out, marked, sizes, sent, evs, at, k, 1))
+                unnamed(entry::new_data(c, flows, out, marked, sizes, sent, evs, at, k, 1))
             }
             Call::Send => {
-                of_answer(entry::send(c, flows, out, marked, sizes, sent, evs, at, k, a_send()))
+                unnamed(entry::send(c, flows, out, marked, sizes, sent, evs, at, k, a_send()))
             }
             Call::Ack => {
-                of_heard(entry::ack(c, flows, out, marked, sizes, sent, evs, at, k, an_ack(ev)))
+                unnamed(entry::ack(c, flows, out, marked, sizes, sent, evs, at, k, an_ack(ev)))
             }
             Call::Nack => {
-                of_heard(entry::nack(c, flows, out, marked, sizes, sent, evs, at, k, a_nack(ev)))
+                unnamed(entry::nack(c, flows, out, marked, sizes, sent, evs, at, k, a_nack(ev)))
             }
             Call::Loss => {
-                of_answer(entry::loss(c, flows, out, marked, sizes, sent, evs, at, k, a_loss(ev)))
+                unnamed(entry::loss(c, flows, out, marked, sizes, sent, evs, at, k, a_loss(ev)))
             }
-            Call::Path => of_routed(entry::path(c, flows, out, marked, sizes, sent, evs, at, k)),
-            Call::Choose => of_chosen(choice::choose(c, flows, out, marked, sizes, sent, evs)),
+            Call::Path => unnamed(entry::path(c, flows, out, marked, sizes, sent, evs, at, k)),
+            Call::Choose => choice::choose(c, flows, out, marked, sizes, sent, evs),
         }
     }
+}
+
+// Whether every element of a slice is one number.
+fn all<T: PartialEq>(xs: &[T], fill: &T) -> bool {
+    xs.iter().all(|x| x == fill)
 }
 
 impl Shown<'_> {
@@ -209,14 +174,14 @@ impl Shown<'_> {
         }
     }
 
-    // Whether state and memory are what a call must leave, by the number that it answered: memory held one number before, and an accepted
-    // setting up clears it.
+    // Whether state and memory are what a call must leave, accepted or refused: memory held one number before, and an accepted setting up
+    // clears it.
     pub(crate) fn is_left(self, call: Call, e: Given, fill: u32, got: Got) -> bool {
-        let number = got.number;
-        let fill = if number == 0 { 0 } else { fill };
+        let accepted = got.outcome.is_ok();
+        let fill = if accepted { 0 } else { fill };
         let wide = fill as u64;
-        same_state(got.state, wanted(call, e, number))
-            & table_after(call, e, fill, number).starts_with(self.flows)
+        (got.state == wanted(call, e, accepted))
+            & table_after(call, e, fill, accepted).starts_with(self.flows)
             & all(self.outstanding, &wide)
             & all(self.marked, &wide)
             & all(self.sizes, &fill)
@@ -234,22 +199,22 @@ pub(crate) fn table_before(call: Call, e: Given, fill: u32) -> [u64; TABLE] {
 }
 
 // The table that a call must leave: where an event is accepted any will do.
-pub(crate) fn table_after(call: Call, e: Given, fill: u32, number: u32) -> [u64; TABLE] {
+pub(crate) fn table_after(call: Call, e: Given, fill: u32, accepted: bool) -> [u64; TABLE] {
     let Call::SetUp(settings) = call else {
         return make::empty_table(e);
     };
-    if number == 0 {
+    if accepted {
         return make::fresh_table(settings);
     }
     [fill as u64; TABLE]
 }
 
 // The state that a call must answer: where an event is accepted any will do.
-pub(crate) fn wanted(call: Call, e: Given, number: u32) -> Controller {
+pub(crate) fn wanted(call: Call, e: Given, accepted: bool) -> Controller {
     let Call::SetUp(settings) = call else {
         return make::empty(e);
     };
-    if number == 0 {
+    if accepted {
         return make::fresh(settings);
     }
     make::no_state()

@@ -3,7 +3,7 @@ use crate::calls::Call;
 use crate::make::{EVS, Given, USUAL};
 use crate::room::Lengths;
 use crate::{make, room, say};
-use context::choice::Choice;
+use rules::verdict::number_of;
 use std::io;
 use window::Settings;
 
@@ -23,10 +23,10 @@ pub(crate) fn set_up(
     k: Lengths,
 ) -> io::Result<()> {
     let v = room::lend(Call::SetUp(settings), USUAL, OLD, k);
-    let number = v.number;
-    let what = match (number, v.as_wanted) {
-        (0, true) => "fresh",
-        (_, true) => "same",
+    let number = number_of(v.outcome);
+    let what = match (v.outcome, v.as_wanted) {
+        (Ok(_), true) => "fresh",
+        (Err(_), true) => "same",
         (_, false) => "CHANGED",
     };
     println!(out; "{label}: {number} {what}")
@@ -55,7 +55,7 @@ pub(crate) fn looks(out: &impl Print, label: &str, e: Given, k: Lengths) -> io::
 pub(crate) fn choice(out: &impl Print, label: &str, e: Given, k: Lengths) -> io::Result<()> {
     let v = room::lend(Call::Choose, e, 0, k);
     print!(out; "{label}: {v}")?;
-    if let Choice::Named(turn) = v.choice {
+    if let Ok(Some(turn)) = v.outcome {
         say::named(out, turn)?;
     }
     println!(out; "")

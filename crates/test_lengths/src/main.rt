@@ -6,7 +6,6 @@ mod cases;
 mod lines;
 mod make;
 mod room;
-mod same;
 mod say;
 mod tables;
 

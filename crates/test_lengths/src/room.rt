@@ -4,7 +4,8 @@ ghost use Rattle.std.specs.Prelude.{◌≤◌};
 use crate::calls::{Call, Lent, Looks, Shown};
 use crate::make::{Given, TABLE};
 use crate::{calls, make};
-use context::choice::Choice;
+use context::choice::Turn;
+use rules::verdict::{Refusal, number_of};
 use std::fmt;
 
 // The room that words of bits and EV times are lent of.
@@ -39,22 +40,21 @@ impl Lengths {
     }
 }
 
-// The number that a call answered, whom it named, and whether state and lent memory are what it must leave.
+// What a call answered, with whom it named, and whether state and lent memory are what it must leave.
 #[derive(Clone, Copy)]
 pub struct Verdict {
-    pub number: u32,
-    pub choice: Choice,
+    pub outcome: Result<Option<Turn>, Refusal>,
     pub as_wanted: bool,
 }
 
 // The number, and of a refusal whether state and lent memory are as they were.
 impl fmt::Display for Verdict {
     fn fmt<W: fmt::Write>(&self, f: &mut fmt::Formatter<W>) -> fmt::Result {
-        let number = self.number;
-        match (number, self.as_wanted) {
-            (0, _) => write!(f, "{number}"),
-            (_, true) => write!(f, "{number} same"),
-            (_, false) => write!(f, "{number} CHANGED"),
+        let number = number_of(self.outcome);
+        match (self.outcome, self.as_wanted) {
+            (Ok(_), _) => write!(f, "{number}"),
+            (Err(_), true) => write!(f, "{number} same"),
+            (Err(_), false) => write!(f, "{number} CHANGED"),
         }
     }
 }
@@ -124,8 +124,7 @@ pub(crate) fn lend(call: Call, e: Given, fill: u32, k: Lengths) -> Verdict {
     };
     let got = lent.answer(call, e);
     Verdict {
-        number: got.number,
-        choice: got.choice,
+        outcome: got.outcome,
         as_wanted: room.shown().is_left(call, e, fill, got),
     }
 }

@@ -1,7 +1,6 @@
 // What the program writes.
 use context::choice::Turn;
-use rules::verdict::number_of;
-use sender::look::Look;
+use rules::verdict::{Refusal, number_of};
 use std::io;
 
 // A space and a number.
@@ -9,11 +8,10 @@ fn also(out: &impl Print, n: u32) -> io::Result<()> {
     print!(out; " {n}")
 }
 
-// The number that a look answered, and what it found.
-pub(crate) fn look(out: &impl Print, a: Look) -> io::Result<()> {
-    let verdict = a.verdict;
-    also(out, number_of(verdict))?;
-    also(out, a.found)
+// The number that a look answered, and what it found: a refusal finds 0.
+pub(crate) fn look(out: &impl Print, found: Result<u32, Refusal>) -> io::Result<()> {
+    also(out, number_of(found))?;
+    also(out, found.unwrap_or_default())
 }
 
 // The flow that a choice names, and its packet: a new one, or a marked one again.
