@@ -66,7 +66,7 @@ fn back_one<R: Print + Files>(rt: &R, name: &[u8]) -> io::Result<()> {
     if length == log.len() {
         return println!(rt; "not written back: longer than its room");
     }
-    let count = write_back(&log[..length], &mut room).count();
+    let count = write_back(&log[..length], &mut room).count;
     if log[..count] != room[..count] {
         return println!(rt; "written back with another byte");
     }
