@@ -101,10 +101,7 @@ fn round<'a>(
     ensures { choice_of result ≡ offered_by (context_before c flows.now outstanding.now marked.now sizes.now sent.now evs.now)
         (named_by (context_before c flows.now outstanding.now marked.now sizes.now sent.now evs.now)) }
 {
-    let settings = c.settings;
-    let window = c.window;
-    let totals = c.totals;
-    if !sender::naming::has_room(settings.mtu, window.cwnd, totals.in_flight) {
+    if !sender::naming::has_room(c.settings.mtu, c.window.cwnd, c.totals.in_flight) {
         return None;
     }
     let turn = c.turn as usize;
@@ -131,18 +128,7 @@ pub fn after(k: usize, n: usize) -> u64
 fn with_turn(c: Controller, turn: u64) -> Controller
     ensures { result ≡ with_turn turn c }
 {
-    let settings = c.settings;
-    let totals = c.totals;
-    let window = c.window;
-    Controller {
-        settings,
-        totals,
-        window,
-        clock: c.clock,
-        cursor: c.cursor,
-        phase: c.phase,
-        turn,
-    }
+    Controller { turn, ..c }
 }
 
 // Which flow sends next, and what; the turn moves to the flow after the one named, and stays where nobody is.

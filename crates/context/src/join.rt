@@ -18,17 +18,23 @@ use window::Sampling;
 pub(crate) fn joined(c: Controller, flow: Flow) -> sender::Controller
     ensures { result ≡ joined_of c flow }
 {
-    let settings = c.settings;
-    let totals = c.totals;
-    let window = c.window;
+    let Controller {
+        settings,
+        totals,
+        window,
+        clock,
+        cursor,
+        phase,
+        turn: _,
+    } = c;
     sender::Controller {
         settings,
         flow,
         totals,
         window,
-        clock: c.clock,
-        cursor: c.cursor,
-        phase: c.phase,
+        clock,
+        cursor,
+        phase,
     }
 }
 
@@ -36,16 +42,22 @@ pub(crate) fn joined(c: Controller, flow: Flow) -> sender::Controller
 pub(crate) fn shared(turn: u64, s: sender::Controller) -> Controller
     ensures { result ≡ shared_of turn s }
 {
-    let settings = s.settings;
-    let totals = s.totals;
-    let window = s.window;
+    let sender::Controller {
+        settings,
+        flow: _,
+        totals,
+        window,
+        clock,
+        cursor,
+        phase,
+    } = s;
     Controller {
         settings,
         totals,
         window,
-        clock: s.clock,
-        cursor: s.cursor,
-        phase: s.phase,
+        clock,
+        cursor,
+        phase,
         turn,
     }
 }

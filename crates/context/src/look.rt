@@ -10,7 +10,7 @@ ghost use Rattle.context.specs.Sound.{sound_context};
 ghost use Rattle.context.specs.Look.{packet_in, on_status, marked_from, on_next_marked};
 
 use crate::Controller;
-use crate::join::cut_of;
+use crate::join::{Cut, cut_of};
 use crate::sound::is_sound;
 use ledger::ring::Ring;
 use ledger::{Books, Packet};
@@ -34,11 +34,7 @@ pub fn packet_at<'a>(
     ensures { result ≡ packet_in flow psn (context_before c flows.now outstanding.now marked.now sizes.now sent.now evs.now) }
 {
     let n = flow_table::count(flows);
-    let p = cut_of(sizes.len(), n, flow);
-    let from = p.from;
-    let end = p.end;
-    let at = p.at;
-    let to = p.to;
+    let Cut { from, end, at, to } = cut_of(sizes.len(), n, flow);
     let ring = Ring {
         outstanding: &outstanding[from..end],
         marked: &marked[from..end],
@@ -90,20 +86,22 @@ pub fn marked_from<'a>(
     ensures { result ≡ marked_from flow psn (context_before c flows.now outstanding.now marked.now sizes.now sent.now evs.now) }
 {
     let n = flow_table::count(flows);
-    let p = cut_of(sizes.len(), n, flow);
-    let from = p.from;
-    let end = p.end;
-    let at = p.at;
-    let to = p.to;
+    let Cut { from, end, at, to } = cut_of(sizes.len(), n, flow);
     let flow = flow_table::flow_at(flows, flow);
-    let totals = c.totals;
     let ring = Ring {
         outstanding: &outstanding[from..end],
         marked: &marked[from..end],
         sizes: &sizes[at..to],
         sent: &sent[at..to],
     };
-    ledger::seek::next_marked(Books { flow, totals }, ring, psn)
+    ledger::seek::next_marked(
+        Books {
+            flow,
+            totals: c.totals,
+        },
+        ring,
+        psn,
+    )
 }
 
 // Flow k's first marked PSN from psn on; next where there is none, or where psn is none of low..next-1.

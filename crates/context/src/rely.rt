@@ -9,7 +9,7 @@ ghost use Rattle.context.specs.Sound.{sound_context};
 ghost use Rattle.context.specs.Events.{past_new_data, past_send, past_ack, past_ack_says, past_nack, past_nack_says, past_loss, past_path};
 
 use crate::Controller;
-use crate::join::{cut_of, joined, keep_acked, keep_backlog, keep_sent, no_flow, shared};
+use crate::join::{Cut, cut_of, joined, keep_acked, keep_backlog, keep_sent, no_flow, shared};
 use ledger::ring::Ring;
 use rules::verdict::Answer;
 use sender::{Ack, Loss, Nack, Send};
@@ -39,11 +39,7 @@ pub fn new_data<'a, 'b>(
             outcome: Err(no_flow(time, c.clock)),
         };
     }
-    let p = cut_of(sizes.len(), n, flow);
-    let from = p.from;
-    let end = p.end;
-    let at = p.at;
-    let to = p.to;
+    let Cut { from, end, at, to } = cut_of(sizes.len(), n, flow);
     let s = joined(c, flow_table::flow_at(flows, flow));
     let ring = Ring {
         outstanding: &outstanding[from..end],
@@ -51,9 +47,10 @@ pub fn new_data<'a, 'b>(
         sizes: &sizes[at..to],
         sent: &sent[at..to],
     };
-    let told = sender::rely::new_data(s, ring, evs, time, bytes);
-    let after = told.state;
-    let outcome = told.outcome;
+    let Answer {
+        state: after,
+        outcome,
+    } = sender::rely::new_data(s, ring, evs, time, bytes);
     keep_backlog(flows, flow, after.flow, outcome);
     Answer {
         state: shared(c.turn, after),
@@ -85,13 +82,12 @@ pub fn send<'a, 'b, 'c, 'd, 'e, 'f>(
             outcome: Err(no_flow(time, c.clock)),
         };
     }
-    let p = cut_of(sizes.len(), n, flow);
-    let from = p.from;
-    let end = p.end;
-    let at = p.at;
-    let to = p.to;
+    let Cut { from, end, at, to } = cut_of(sizes.len(), n, flow);
     let s = joined(c, flow_table::flow_at(flows, flow));
-    let told = sender::rely::send(
+    let Answer {
+        state: after,
+        outcome,
+    } = sender::rely::send(
         s,
         &mut outstanding[from..end],
         &mut marked[from..end],
@@ -101,8 +97,6 @@ pub fn send<'a, 'b, 'c, 'd, 'e, 'f>(
         time,
         a,
     );
-    let after = told.state;
-    let outcome = told.outcome;
     keep_sent(flows, flow, after.flow, outcome);
     Answer {
         state: shared(c.turn, after),
@@ -135,13 +129,12 @@ pub fn ack<'a, 'b, 'c, 'd, 'e, 'f>(
             outcome: Err(no_flow(time, c.clock)),
         };
     }
-    let p = cut_of(sizes.len(), n, flow);
-    let from = p.from;
-    let end = p.end;
-    let at = p.at;
-    let to = p.to;
+    let Cut { from, end, at, to } = cut_of(sizes.len(), n, flow);
     let s = joined(c, flow_table::flow_at(flows, flow));
-    let heard = sender::rely::ack(
+    let Answer {
+        state: after,
+        outcome,
+    } = sender::rely::ack(
         s,
         &mut outstanding[from..end],
         &mut marked[from..end],
@@ -151,8 +144,6 @@ pub fn ack<'a, 'b, 'c, 'd, 'e, 'f>(
         time,
         a,
     );
-    let after = heard.state;
-    let outcome = heard.outcome;
     keep_acked(flows, flow, after.flow, outcome);
     Answer {
         state: shared(c.turn, after),
@@ -185,13 +176,12 @@ pub fn nack<'a, 'b, 'c>(
             outcome: Err(no_flow(time, c.clock)),
         };
     }
-    let p = cut_of(sizes.len(), n, flow);
-    let from = p.from;
-    let end = p.end;
-    let at = p.at;
-    let to = p.to;
+    let Cut { from, end, at, to } = cut_of(sizes.len(), n, flow);
     let s = joined(c, flow_table::flow_at(flows, flow));
-    let heard = sender::rely::nack(
+    let Answer {
+        state: after,
+        outcome,
+    } = sender::rely::nack(
         s,
         &outstanding[from..end],
         &mut marked[from..end],
@@ -201,8 +191,6 @@ pub fn nack<'a, 'b, 'c>(
         time,
         a,
     );
-    let after = heard.state;
-    let outcome = heard.outcome;
     Answer {
         state: shared(c.turn, after),
         outcome,
@@ -233,13 +221,12 @@ pub fn loss<'a, 'b, 'c>(
             outcome: Err(no_flow(time, c.clock)),
         };
     }
-    let p = cut_of(sizes.len(), n, flow);
-    let from = p.from;
-    let end = p.end;
-    let at = p.at;
-    let to = p.to;
+    let Cut { from, end, at, to } = cut_of(sizes.len(), n, flow);
     let s = joined(c, flow_table::flow_at(flows, flow));
-    let told = sender::rely::loss(
+    let Answer {
+        state: after,
+        outcome,
+    } = sender::rely::loss(
         s,
         &outstanding[from..end],
         &mut marked[from..end],
@@ -249,8 +236,6 @@ pub fn loss<'a, 'b, 'c>(
         time,
         a,
     );
-    let after = told.state;
-    let outcome = told.outcome;
     Answer {
         state: shared(c.turn, after),
         outcome,
@@ -280,11 +265,7 @@ pub fn path<'a>(
             outcome: Err(no_flow(time, c.clock)),
         };
     }
-    let p = cut_of(sizes.len(), n, flow);
-    let from = p.from;
-    let end = p.end;
-    let at = p.at;
-    let to = p.to;
+    let Cut { from, end, at, to } = cut_of(sizes.len(), n, flow);
     let s = joined(c, flow_table::flow_at(flows, flow));
     let ring = Ring {
         outstanding: &outstanding[from..end],
@@ -292,9 +273,10 @@ pub fn path<'a>(
         sizes: &sizes[at..to],
         sent: &sent[at..to],
     };
-    let chosen = sender::rely::path(s, ring, evs, time);
-    let after = chosen.state;
-    let outcome = chosen.outcome;
+    let Answer {
+        state: after,
+        outcome,
+    } = sender::rely::path(s, ring, evs, time);
     Answer {
         state: shared(c.turn, after),
         outcome,

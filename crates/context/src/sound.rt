@@ -9,7 +9,7 @@ ghost use Rattle.context.specs.Sound.{is_cut, sound_context};
 ghost use Rattle.context.specs.Walk.{stands_on, tally_at, tally_to, Parted, Standing, flows_ok};
 
 use crate::Controller;
-use crate::join::{cut_at, share};
+use crate::join::{Cut, cut_at, share};
 use ledger::ring::Ring;
 use ledger::sound::Tally;
 
@@ -55,11 +55,7 @@ fn stands_at<'a>(
         return false;
     }
     let flow = flow_table::flow_at(flows, k);
-    let p = cut_at(cap, k);
-    let from = p.from;
-    let end = p.end;
-    let at = p.at;
-    let to = p.to;
+    let Cut { from, end, at, to } = cut_at(cap, k);
     let ring = Ring {
         outstanding: &outstanding[from..end],
         marked: &marked[from..end],
@@ -108,11 +104,7 @@ fn tally_at<'a>(
         × (result.outstanding ≤ 2 ^ 40) × (result.marked ≤ 2 ^ 40) × (result.marked_bytes ≤ 2 ^ 40) × (result.backlog ≤ 2 ^ 40) }
 {
     let flow = flow_table::flow_at(flows, k);
-    let p = cut_at(cap, k);
-    let from = p.from;
-    let end = p.end;
-    let at = p.at;
-    let to = p.to;
+    let Cut { from, end, at, to } = cut_at(cap, k);
     let ring = Ring {
         outstanding: &outstanding[from..end],
         marked: &marked[from..end],
@@ -174,8 +166,6 @@ fn flows_ok<'a>(
 ) -> bool
     ensures { result ≡ flows_ok c flows.now (memory_before outstanding.now marked.now sizes.now sent.now) }
 {
-    let settings = c.settings;
-    let totals = c.totals;
     if !flow_table::is_table(flows) {
         return false;
     }
@@ -192,14 +182,14 @@ fn flows_ok<'a>(
         marked,
         sizes,
         sent,
-        settings.mtu,
+        c.settings.mtu,
         c.clock,
     ) {
         return false;
     }
     let all = tally_all(n, cap, flows, outstanding, marked, sizes, sent);
-    ledger::sound::totals_ok(totals, all)
-        & ledger::sound::in_bounds(settings.maxwnd, totals.in_flight)
+    ledger::sound::totals_ok(c.totals, all)
+        & ledger::sound::in_bounds(c.settings.maxwnd, c.totals.in_flight)
 }
 
 // Whether state, table and buffers hold together.
@@ -214,22 +204,19 @@ pub fn is_sound<'a>(
 ) -> bool
     ensures { result ≡ sound_context (context_before c flows.now outstanding.now marked.now sizes.now sent.now evs.now) }
 {
-    let settings = c.settings;
-    let window = c.window;
-    if !window::bounds::in_range(settings) {
+    if !window::bounds::in_range(c.settings) {
         return false;
     }
-    if !window::bounds::is_sound(settings, c.clock, window) {
+    if !window::bounds::is_sound(c.settings, c.clock, c.window) {
         return false;
     }
     if !flows_ok(c, flows, outstanding, marked, sizes, sent) {
         return false;
     }
-    let totals = c.totals;
     (c.clock < sender::TIME_END)
-        & (evs.len() as u64 == settings.ev_count)
+        & (evs.len() as u64 == c.settings.ev_count)
         & sender::sound::times_ok(evs)
-        & ((c.cursor as u64) < settings.ev_count)
+        & ((c.cursor as u64) < c.settings.ev_count)
         & (c.turn < flow_table::count(flows) as u64)
-        & (c.phase == sender::naming::phase_of(settings.mtu, window.cwnd, totals))
+        & (c.phase == sender::naming::phase_of(c.settings.mtu, c.window.cwnd, c.totals))
 }

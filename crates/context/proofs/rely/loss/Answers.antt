@@ -12,17 +12,17 @@ use Rattle.context.specs.Lent.{context_given}
 use Rattle.context.proofs.Joins.{Here, cut_asks, cut_here, here_fits, here_holds, lent_world, put_marked}
 use Rattle.context.proofs.Lifts.{no_flow_decided, loss_changes, flow_stays, same_table, lift_answer}
 use Rattle.context.proofs.rely.loss.Goals as goal
-use Rattle.context.proofs.rely.loss.Goals.{After-cut_of-p}
+use Rattle.context.proofs.rely.loss.Goals.{After-cut_of-from}
 
-here : (c : After-cut_of-p) →
+here : (c : After-cut_of-from) →
     let handed = let a = c.args in
     context_given a.c a.flows.now a.outstanding.now a.marked.now a.sizes.now a.sent.now a.evs.now in
-    Here (handed) c.args.flow c.cut_of-p.result.from c.cut_of-p.result.end
-    c.cut_of-p.result.at c.cut_of-p.result.to
+    Here (handed) c.args.flow c.cut_of-from.result.from c.cut_of-from.result.end
+    c.cut_of-from.result.at c.cut_of-from.result.to
 here c =
     let handed = let a = c.args in
     context_given a.c a.flows.now a.outstanding.now a.marked.now a.sizes.now a.sent.now a.evs.now in
-    cut_here (handed) c.requires c.count-n.ensures c.if-n-flow.false c.cut_of-p.ensures
+    cut_here (handed) c.requires c.count-n.ensures c.if-n-flow.false c.cut_of-from.ensures
 
 pub returns-then-n-flow : goal.returns-then-n-flow
 unfolding past_loss world_at joined_of
@@ -32,46 +32,46 @@ returns-then-n-flow c =
     let out : flow_count (handed) ≤ c.args.flow = omega (arith, c.if-n-flow.true, c.count-n.ensures) in
     no_flow_decided c.args.flow (handed) _ _ out c.no_flow.ensures _
 
-pub cut_of-p-requires : goal.cut_of-p-requires
-cut_of-p-requires c =
+pub cut_of-from-requires : goal.cut_of-from-requires
+cut_of-from-requires c =
     let handed = let a = c.args in
     context_given a.c a.flows.now a.outstanding.now a.marked.now a.sizes.now a.sent.now a.evs.now in
     cut_asks (handed) c.requires c.count-n.ensures c.if-n-flow.false
 
 pub flow_at-requires : goal.flow_at-requires
-flow_at-requires c = let H = here (goal.at.flow_at-requires c).After-cut_of-p in
+flow_at-requires c = let H = here (goal.at.flow_at-requires c).After-cut_of-from in
     record {
       k_bound = H.inside;
       fits = here_fits H;
     }
 
 pub offset_bounds-outstanding-from : goal.offset_bounds-outstanding-from
-offset_bounds-outstanding-from c = let H = here (goal.at.offset_bounds-outstanding-from c).After-cut_of-p in record { fits = omega (arith, H.lies) }
+offset_bounds-outstanding-from c = let H = here (goal.at.offset_bounds-outstanding-from c).After-cut_of-from in record { fits = omega (arith, H.lies) }
 
 pub slice_bounds-loss-end : goal.slice_bounds-loss-end
-slice_bounds-loss-end c = (here (goal.at.slice_bounds-loss-end c).After-cut_of-p).lies.outstanding
+slice_bounds-loss-end c = (here (goal.at.slice_bounds-loss-end c).After-cut_of-from).lies.outstanding
 
 pub offset_bounds-marked-from : goal.offset_bounds-marked-from
-offset_bounds-marked-from c = let H = here (goal.at.offset_bounds-marked-from c).After-cut_of-p in record { fits = omega (arith, H.lies) }
+offset_bounds-marked-from c = let H = here (goal.at.offset_bounds-marked-from c).After-cut_of-from in record { fits = omega (arith, H.lies) }
 
 pub slice_bounds-loss-end-2 : goal.slice_bounds-loss-end-2
-slice_bounds-loss-end-2 c = (here (goal.at.slice_bounds-loss-end-2 c).After-cut_of-p).lies.marked
+slice_bounds-loss-end-2 c = (here (goal.at.slice_bounds-loss-end-2 c).After-cut_of-from).lies.marked
 
 pub offset_bounds-sizes-at : goal.offset_bounds-sizes-at
-offset_bounds-sizes-at c = let H = here (goal.at.offset_bounds-sizes-at c).After-cut_of-p in record { fits = omega (arith, H.lies) }
+offset_bounds-sizes-at c = let H = here (goal.at.offset_bounds-sizes-at c).After-cut_of-from in record { fits = omega (arith, H.lies) }
 
 pub slice_bounds-loss-end-3 : goal.slice_bounds-loss-end-3
-slice_bounds-loss-end-3 c = (here (goal.at.slice_bounds-loss-end-3 c).After-cut_of-p).lies.sizes
+slice_bounds-loss-end-3 c = (here (goal.at.slice_bounds-loss-end-3 c).After-cut_of-from).lies.sizes
 
 pub offset_bounds-sent-at : goal.offset_bounds-sent-at
-offset_bounds-sent-at c = let H = here (goal.at.offset_bounds-sent-at c).After-cut_of-p in record { fits = omega (arith, H.lies) }
+offset_bounds-sent-at c = let H = here (goal.at.offset_bounds-sent-at c).After-cut_of-from in record { fits = omega (arith, H.lies) }
 
 pub slice_bounds-loss-end-4 : goal.slice_bounds-loss-end-4
-slice_bounds-loss-end-4 c = (here (goal.at.slice_bounds-loss-end-4 c).After-cut_of-p).lies.sent
+slice_bounds-loss-end-4 c = (here (goal.at.slice_bounds-loss-end-4 c).After-cut_of-from).lies.sent
 
-pub loss-told-requires : goal.loss-told-requires
-loss-told-requires c =
-    let H = here (goal.at.loss-told-requires c).After-cut_of-p in
+pub loss-outcome-requires : goal.loss-outcome-requires
+loss-outcome-requires c =
+    let H = here (goal.at.loss-outcome-requires c).After-cut_of-from in
     here_holds H (lent_world H.lies c.flow_at.ensures c.joined-s.ensures)
 
 pub returns : goal.returns
@@ -81,8 +81,8 @@ returns c =
     context_given a.c a.flows.now a.outstanding.now a.marked.now a.sizes.now a.sent.now a.evs.now in
     let sees = view_of (world_at c.args.flow (handed)) in
     let stepped = world_of (loss_step c.args.time c.args.a (sees)) in
-    let H = here (goal.at.returns c).After-cut_of-p in
+    let H = here (goal.at.returns c).After-cut_of-from in
     let seen = lent_world H.lies c.flow_at.ensures c.joined-s.ensures in
-    let e = c.loss-told.ensures ∙ ap (oneLoss c.args.time c.args.a) seen in
+    let e = c.loss-outcome.ensures ∙ ap (oneLoss c.args.time c.args.a) seen in
     let stays = same_table c.args.flow (handed) (flow_stays _ _ _ e (loss_changes c.args.time (sees) c.args.a)) in
-    lift_answer H _ _ (stepped) c.shared.ensures stays (put_marked H.lies c.loss-told.new.marked) e
+    lift_answer H _ _ (stepped) c.shared.ensures stays (put_marked H.lies c.loss-outcome.new.marked) e

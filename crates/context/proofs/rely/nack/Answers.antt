@@ -17,17 +17,17 @@ use Rattle.context.proofs.Joins.{Here, cut_asks, cut_here, here_fits, here_holds
 use Rattle.context.proofs.Lifts.{no_flow_decided, not_zero, nack_changes, flow_stays, same_table}
 use Rattle.context.proofs.Lifts.{lift_answer, lift_says, no_flow_says}
 use Rattle.context.proofs.rely.nack.Goals as goal
-use Rattle.context.proofs.rely.nack.Goals.{After-cut_of-p}
+use Rattle.context.proofs.rely.nack.Goals.{After-cut_of-from}
 
-here : (c : After-cut_of-p) →
+here : (c : After-cut_of-from) →
     let handed = let a = c.args in
     context_given a.c a.flows.now a.outstanding.now a.marked.now a.sizes.now a.sent.now a.evs.now in
-    Here (handed) c.args.flow c.cut_of-p.result.from c.cut_of-p.result.end
-    c.cut_of-p.result.at c.cut_of-p.result.to
+    Here (handed) c.args.flow c.cut_of-from.result.from c.cut_of-from.result.end
+    c.cut_of-from.result.at c.cut_of-from.result.to
 here c =
     let handed = let a = c.args in
     context_given a.c a.flows.now a.outstanding.now a.marked.now a.sizes.now a.sent.now a.evs.now in
-    cut_here (handed) c.requires c.count-n.ensures c.if-n-flow.false c.cut_of-p.ensures
+    cut_here (handed) c.requires c.count-n.ensures c.if-n-flow.false c.cut_of-from.ensures
 
 pub returns-then-n-flow : goal.returns-then-n-flow
 unfolding past_nack world_at joined_of says_of
@@ -44,46 +44,46 @@ returns-then-n-flow c =
       feedback_value = no_flow_says (sampled) answer (not_zero _ e);
     }
 
-pub cut_of-p-requires : goal.cut_of-p-requires
-cut_of-p-requires c =
+pub cut_of-from-requires : goal.cut_of-from-requires
+cut_of-from-requires c =
     let handed = let a = c.args in
     context_given a.c a.flows.now a.outstanding.now a.marked.now a.sizes.now a.sent.now a.evs.now in
     cut_asks (handed) c.requires c.count-n.ensures c.if-n-flow.false
 
 pub flow_at-requires : goal.flow_at-requires
-flow_at-requires c = let H = here (goal.at.flow_at-requires c).After-cut_of-p in
+flow_at-requires c = let H = here (goal.at.flow_at-requires c).After-cut_of-from in
     record {
       k_bound = H.inside;
       fits = here_fits H;
     }
 
 pub offset_bounds-outstanding-from : goal.offset_bounds-outstanding-from
-offset_bounds-outstanding-from c = let H = here (goal.at.offset_bounds-outstanding-from c).After-cut_of-p in record { fits = omega (arith, H.lies) }
+offset_bounds-outstanding-from c = let H = here (goal.at.offset_bounds-outstanding-from c).After-cut_of-from in record { fits = omega (arith, H.lies) }
 
 pub slice_bounds-nack-end : goal.slice_bounds-nack-end
-slice_bounds-nack-end c = (here (goal.at.slice_bounds-nack-end c).After-cut_of-p).lies.outstanding
+slice_bounds-nack-end c = (here (goal.at.slice_bounds-nack-end c).After-cut_of-from).lies.outstanding
 
 pub offset_bounds-marked-from : goal.offset_bounds-marked-from
-offset_bounds-marked-from c = let H = here (goal.at.offset_bounds-marked-from c).After-cut_of-p in record { fits = omega (arith, H.lies) }
+offset_bounds-marked-from c = let H = here (goal.at.offset_bounds-marked-from c).After-cut_of-from in record { fits = omega (arith, H.lies) }
 
 pub slice_bounds-nack-end-2 : goal.slice_bounds-nack-end-2
-slice_bounds-nack-end-2 c = (here (goal.at.slice_bounds-nack-end-2 c).After-cut_of-p).lies.marked
+slice_bounds-nack-end-2 c = (here (goal.at.slice_bounds-nack-end-2 c).After-cut_of-from).lies.marked
 
 pub offset_bounds-sizes-at : goal.offset_bounds-sizes-at
-offset_bounds-sizes-at c = let H = here (goal.at.offset_bounds-sizes-at c).After-cut_of-p in record { fits = omega (arith, H.lies) }
+offset_bounds-sizes-at c = let H = here (goal.at.offset_bounds-sizes-at c).After-cut_of-from in record { fits = omega (arith, H.lies) }
 
 pub slice_bounds-nack-end-3 : goal.slice_bounds-nack-end-3
-slice_bounds-nack-end-3 c = (here (goal.at.slice_bounds-nack-end-3 c).After-cut_of-p).lies.sizes
+slice_bounds-nack-end-3 c = (here (goal.at.slice_bounds-nack-end-3 c).After-cut_of-from).lies.sizes
 
 pub offset_bounds-sent-at : goal.offset_bounds-sent-at
-offset_bounds-sent-at c = let H = here (goal.at.offset_bounds-sent-at c).After-cut_of-p in record { fits = omega (arith, H.lies) }
+offset_bounds-sent-at c = let H = here (goal.at.offset_bounds-sent-at c).After-cut_of-from in record { fits = omega (arith, H.lies) }
 
 pub slice_bounds-nack-end-4 : goal.slice_bounds-nack-end-4
-slice_bounds-nack-end-4 c = (here (goal.at.slice_bounds-nack-end-4 c).After-cut_of-p).lies.sent
+slice_bounds-nack-end-4 c = (here (goal.at.slice_bounds-nack-end-4 c).After-cut_of-from).lies.sent
 
-pub nack-heard-requires : goal.nack-heard-requires
-nack-heard-requires c =
-    let H = here (goal.at.nack-heard-requires c).After-cut_of-p in
+pub nack-outcome-requires : goal.nack-outcome-requires
+nack-outcome-requires c =
+    let H = here (goal.at.nack-outcome-requires c).After-cut_of-from in
     here_holds H (lent_world H.lies c.flow_at.ensures c.joined-s.ensures)
 
 pub returns : goal.returns
@@ -94,12 +94,12 @@ returns c =
     let sees = view_of (world_at c.args.flow (handed)) in
     let stepped = world_of (nack_step c.args.time c.args.a (sees)) in
     let sampled = nack_sampling c.args.time c.args.a (sees) in
-    let H = here (goal.at.returns c).After-cut_of-p in
+    let H = here (goal.at.returns c).After-cut_of-from in
     let seen = lent_world H.lies c.flow_at.ensures c.joined-s.ensures in
-    let e = c.nack-heard.ensures.evs_value ∙ ap (oneNack c.args.time c.args.a) seen in
+    let e = c.nack-outcome.ensures.evs_value ∙ ap (oneNack c.args.time c.args.a) seen in
     let stays = same_table c.args.flow (handed) (flow_stays _ _ _ e (nack_changes c.args.time (sees) c.args.a)) in
-    let answer = lift_answer H _ _ (stepped) c.shared.ensures stays (put_marked H.lies c.nack-heard.new.marked) e in
+    let answer = lift_answer H _ _ (stepped) c.shared.ensures stays (put_marked H.lies c.nack-outcome.new.marked) e in
     record {
       evs_value = answer;
-      feedback_value = lift_says (sampled) e answer (c.nack-heard.ensures.feedback_value ∙ ap (oneSays c.args.time c.args.a) seen);
+      feedback_value = lift_says (sampled) e answer (c.nack-outcome.ensures.feedback_value ∙ ap (oneSays c.args.time c.args.a) seen);
     }

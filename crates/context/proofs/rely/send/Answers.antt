@@ -13,17 +13,17 @@ use Rattle.context.specs.Lent.{context_given}
 use Rattle.context.proofs.Joins.{Here, cut_asks, cut_here, here_fits, here_holds, lent_world, put_slots}
 use Rattle.context.proofs.Lifts.{no_flow_decided, send_changes, flow_left, lift_answer}
 use Rattle.context.proofs.rely.send.Goals as goal
-use Rattle.context.proofs.rely.send.Goals.{After-cut_of-p}
+use Rattle.context.proofs.rely.send.Goals.{After-cut_of-from}
 
-here : (c : After-cut_of-p) →
+here : (c : After-cut_of-from) →
     let handed = let a = c.args in
     context_given a.c a.flows.now a.outstanding.now a.marked.now a.sizes.now a.sent.now a.evs.now in
-    Here (handed) c.args.flow c.cut_of-p.result.from c.cut_of-p.result.end
-    c.cut_of-p.result.at c.cut_of-p.result.to
+    Here (handed) c.args.flow c.cut_of-from.result.from c.cut_of-from.result.end
+    c.cut_of-from.result.at c.cut_of-from.result.to
 here c =
     let handed = let a = c.args in
     context_given a.c a.flows.now a.outstanding.now a.marked.now a.sizes.now a.sent.now a.evs.now in
-    cut_here (handed) c.requires c.count-n.ensures c.if-n-flow.false c.cut_of-p.ensures
+    cut_here (handed) c.requires c.count-n.ensures c.if-n-flow.false c.cut_of-from.ensures
 
 pub returns-then-n-flow : goal.returns-then-n-flow
 unfolding past_send world_at joined_of
@@ -33,46 +33,46 @@ returns-then-n-flow c =
     let out : flow_count (handed) ≤ c.args.flow = omega (arith, c.if-n-flow.true, c.count-n.ensures) in
     no_flow_decided c.args.flow (handed) _ _ out c.no_flow.ensures _
 
-pub cut_of-p-requires : goal.cut_of-p-requires
-cut_of-p-requires c =
+pub cut_of-from-requires : goal.cut_of-from-requires
+cut_of-from-requires c =
     let handed = let a = c.args in
     context_given a.c a.flows.now a.outstanding.now a.marked.now a.sizes.now a.sent.now a.evs.now in
     cut_asks (handed) c.requires c.count-n.ensures c.if-n-flow.false
 
 pub flow_at-requires : goal.flow_at-requires
-flow_at-requires c = let H = here (goal.at.flow_at-requires c).After-cut_of-p in
+flow_at-requires c = let H = here (goal.at.flow_at-requires c).After-cut_of-from in
     record {
       k_bound = H.inside;
       fits = here_fits H;
     }
 
 pub offset_bounds-outstanding-from : goal.offset_bounds-outstanding-from
-offset_bounds-outstanding-from c = let H = here (goal.at.offset_bounds-outstanding-from c).After-cut_of-p in record { fits = omega (arith, H.lies) }
+offset_bounds-outstanding-from c = let H = here (goal.at.offset_bounds-outstanding-from c).After-cut_of-from in record { fits = omega (arith, H.lies) }
 
 pub slice_bounds-send-end : goal.slice_bounds-send-end
-slice_bounds-send-end c = (here (goal.at.slice_bounds-send-end c).After-cut_of-p).lies.outstanding
+slice_bounds-send-end c = (here (goal.at.slice_bounds-send-end c).After-cut_of-from).lies.outstanding
 
 pub offset_bounds-marked-from : goal.offset_bounds-marked-from
-offset_bounds-marked-from c = let H = here (goal.at.offset_bounds-marked-from c).After-cut_of-p in record { fits = omega (arith, H.lies) }
+offset_bounds-marked-from c = let H = here (goal.at.offset_bounds-marked-from c).After-cut_of-from in record { fits = omega (arith, H.lies) }
 
 pub slice_bounds-send-end-2 : goal.slice_bounds-send-end-2
-slice_bounds-send-end-2 c = (here (goal.at.slice_bounds-send-end-2 c).After-cut_of-p).lies.marked
+slice_bounds-send-end-2 c = (here (goal.at.slice_bounds-send-end-2 c).After-cut_of-from).lies.marked
 
 pub offset_bounds-sizes-at : goal.offset_bounds-sizes-at
-offset_bounds-sizes-at c = let H = here (goal.at.offset_bounds-sizes-at c).After-cut_of-p in record { fits = omega (arith, H.lies) }
+offset_bounds-sizes-at c = let H = here (goal.at.offset_bounds-sizes-at c).After-cut_of-from in record { fits = omega (arith, H.lies) }
 
 pub slice_bounds-send-end-3 : goal.slice_bounds-send-end-3
-slice_bounds-send-end-3 c = (here (goal.at.slice_bounds-send-end-3 c).After-cut_of-p).lies.sizes
+slice_bounds-send-end-3 c = (here (goal.at.slice_bounds-send-end-3 c).After-cut_of-from).lies.sizes
 
 pub offset_bounds-sent-at : goal.offset_bounds-sent-at
-offset_bounds-sent-at c = let H = here (goal.at.offset_bounds-sent-at c).After-cut_of-p in record { fits = omega (arith, H.lies) }
+offset_bounds-sent-at c = let H = here (goal.at.offset_bounds-sent-at c).After-cut_of-from in record { fits = omega (arith, H.lies) }
 
 pub slice_bounds-send-end-4 : goal.slice_bounds-send-end-4
-slice_bounds-send-end-4 c = (here (goal.at.slice_bounds-send-end-4 c).After-cut_of-p).lies.sent
+slice_bounds-send-end-4 c = (here (goal.at.slice_bounds-send-end-4 c).After-cut_of-from).lies.sent
 
-pub send-told-requires : goal.send-told-requires
-send-told-requires c =
-    let H = here (goal.at.send-told-requires c).After-cut_of-p in
+pub send-outcome-requires : goal.send-outcome-requires
+send-outcome-requires c =
+    let H = here (goal.at.send-outcome-requires c).After-cut_of-from in
     here_holds H (lent_world H.lies c.flow_at.ensures c.joined-s.ensures)
 
 pub keep_sent-requires : goal.keep_sent-requires
@@ -81,9 +81,9 @@ keep_sent-requires c =
     let handed = let a = c.args in
     context_given a.c a.flows.now a.outstanding.now a.marked.now a.sizes.now a.sent.now a.evs.now in
     let sees = view_of (world_at c.args.flow (handed)) in
-    let H = here (goal.at.keep_sent-requires c).After-cut_of-p in
+    let H = here (goal.at.keep_sent-requires c).After-cut_of-from in
     let seen = lent_world H.lies c.flow_at.ensures c.joined-s.ensures in
-    let e = c.send-told.ensures ∙ ap (one_send c.args.time c.args.a) seen in
+    let e = c.send-outcome.ensures ∙ ap (one_send c.args.time c.args.a) seen in
     record {
       k_bound = H.inside;
       leaves = flow_left _ _ _ e with_sent (send_changes c.args.time (sees) c.args.a);
@@ -100,8 +100,8 @@ returns c =
     context_given a.c a.flows.now a.outstanding.now a.marked.now a.sizes.now a.sent.now a.evs.now in
     let sees = view_of (world_at c.args.flow (handed)) in
     let stepped = world_of (send_step c.args.time c.args.a (sees)) in
-    let H = here (goal.at.returns c).After-cut_of-p in
+    let H = here (goal.at.returns c).After-cut_of-from in
     let seen = lent_world H.lies c.flow_at.ensures c.joined-s.ensures in
-    let e = c.send-told.ensures ∙ ap (one_send c.args.time c.args.a) seen in
+    let e = c.send-outcome.ensures ∙ ap (one_send c.args.time c.args.a) seen in
     lift_answer H _ _ (stepped) c.shared.ensures c.keep_sent.ensures
-    (put_slots H.lies c.send-told.new.outstanding c.send-told.new.marked c.send-told.new.sizes c.send-told.new.sent) e
+    (put_slots H.lies c.send-outcome.new.outstanding c.send-outcome.new.marked c.send-outcome.new.sizes c.send-outcome.new.sent) e
