@@ -42,7 +42,10 @@ pub extern "C" fn nscc_judge<'a>(
         time,
         plan,
     );
-    ABOVE * judged.send as u64 + number_of(judged.verdict) as u64
+    match judged {
+        Ok(()) => 0,
+        Err(unfit) => ABOVE * unfit.send as u64 + number_of::<()>(Err(unfit.refusal)) as u64,
+    }
 }
 
 // The planner: the number, and above its 32 bits how many sends the plan has.
@@ -79,5 +82,5 @@ pub extern "C" fn nscc_plan<'a, 'b>(
         bytes,
         plan,
     );
-    ABOVE * made.count as u64 + number_of(made.verdict) as u64
+    ABOVE * made.unwrap_or(0) as u64 + number_of(made) as u64
 }

@@ -9,13 +9,14 @@ returns-then-not-given c =
     plan_none _ _ _ _ _ _ _ _ c.unpack-given.ensures c.if-not-given.true
 
 pub overflow_mul-result : goal.overflow_mul-result
-overflow_mul-result c = omega (arith, count_most _ _ _ _ _ _ _ _ c.plan-made.ensures)
+overflow_mul-result c = omega (arith, count_most _ _ _ _ _ _ _ _ c.plan-made.ensures, c.unwrap_or.ensures)
 
 pub overflow_add-result : goal.overflow_add-result
 overflow_add-result c =
     let p = c.plan-made in
-    omega (arith, count_most _ _ _ _ _ _ _ _ p.ensures, c.number_of.ensures, number_most p.result.verdict)
+    omega (arith, count_most _ _ _ _ _ _ _ _ p.ensures, c.unwrap_or.ensures, c.number_of.ensures, number_most p.result)
 
 pub returns : goal.returns
 returns c =
-    plan_on _ _ _ _ _ _ _ _ c.unpack-given.ensures c.if-not-given.false _ _ _ _ c.number_of.ensures c.plan-made.ensures
+    rw c.unwrap_or.ensures
+    (plan_on _ _ _ _ _ _ _ _ c.unpack-given.ensures c.if-not-given.false _ _ _ _ c.number_of.ensures c.plan-made.ensures)
