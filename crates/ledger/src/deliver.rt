@@ -38,23 +38,20 @@ fn cover_word<'a, 'b, 'c>(
 {
     let out = outstanding[q];
     let mark = marked[q];
-    let flying = totals.flying;
     outstanding[q] = bits::clear(out, mask);
     if mark & mask == 0 {
-        let mut left = totals;
-        left.flying = flying - bits::count(out, mask);
-        return left;
+        return Totals {
+            flying: totals.flying - bits::count(out, mask),
+            ..totals
+        };
     }
     let waiting = bits::count(mark, mask);
-    let marks = totals.marked;
-    let marked_bytes = totals.marked_bytes;
     marked[q] = bits::clear(mark, mask);
     Totals {
-        flying: flying - (bits::count(out, mask) - waiting),
-        marked: marks - waiting,
-        marked_bytes: marked_bytes - bytes_in(sizes, q, mark & mask),
-        backlog: totals.backlog,
-        in_flight: totals.in_flight,
+        flying: totals.flying - (bits::count(out, mask) - waiting),
+        marked: totals.marked - waiting,
+        marked_bytes: totals.marked_bytes - bytes_in(sizes, q, mark & mask),
+        ..totals
     }
 }
 
@@ -175,12 +172,10 @@ pub fn acknowledge(cum: u32, map: u64, count: u32, books: Books, ring: &mut Ring
     let marked: &mut [u64] = ring.marked;
     let sizes: &mut [u32] = ring.sizes;
     let sent: &mut [u64] = ring.sent;
-    let mut flow = books.flow;
-    let low = flow.low;
-    let held = flow.held;
+    let Books { flow, totals } = books;
     let n = long(flow);
     let far = reach(n, serial::back(flow.next, cum), serial::span(map));
-    let mut totals = cover(
+    let left = cover(
         outstanding,
         marked,
         sizes,
@@ -189,11 +184,18 @@ pub fn acknowledge(cum: u32, map: u64, count: u32, books: Books, ring: &mut Ring
         far,
         cum,
         map,
-        books.totals,
+        totals,
     );
     let gone = retire_reached(outstanding, marked, sizes, sent, flow, n, far);
-    totals.in_flight = less(totals.in_flight, newly(count, held));
-    flow.low = serial::psn_plus(low, gone);
-    flow.held = held_after(count, held);
-    Books { flow, totals }
+    Books {
+        flow: Flow {
+            low: serial::psn_plus(flow.low, gone),
+            held: held_after(count, flow.held),
+            ..flow
+        },
+        totals: Totals {
+            in_flight: less(left.in_flight, newly(count, flow.held)),
+            ..left
+        },
+    }
 }

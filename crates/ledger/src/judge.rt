@@ -44,12 +44,10 @@ fn would_sink(in_flight: i64, bytes: u64) -> bool
 pub fn judge_new(flow: Flow, cap: usize, psn: u32, size: u32) -> Verdict
     ensures { number_of result ≡ first_of (new_rows flow cap psn size) }
 {
-    let next = flow.next;
-    let backlog = flow.backlog;
-    if psn != next {
+    if psn != flow.next {
         return Err(Refusal::WrongPsn);
     }
-    if backlog < size as u64 {
+    if flow.backlog < size as u64 {
         return Err(Refusal::Backlog);
     }
     if long(flow) as usize == cap {
@@ -76,12 +74,10 @@ pub fn judge_ack(books: Books, cum: u32, map: u64, count: u32) -> Verdict
     requires { Flown (2 ^ 26) books.totals.in_flight }
     ensures { number_of result ≡ first_of (ack_rows books.flow books.totals.in_flight cum map count) }
 {
-    let flow = books.flow;
-    let totals = books.totals;
-    if serial::unsent_or_old(flow.next, cum, map) {
+    if serial::unsent_or_old(books.flow.next, cum, map) {
         return Err(Refusal::UnsentOrOld);
     }
-    if would_sink(totals.in_flight, newly(count, flow.held)) {
+    if would_sink(books.totals.in_flight, newly(count, books.flow.held)) {
         return Err(Refusal::Sinks);
     }
     Ok(())
@@ -94,13 +90,11 @@ pub fn judge_mark(books: Books, ring: Ring<'_>, psn: u32) -> Verdict
     ensures { number_of result ≡ first_of (mark_rows books.flow books.totals.in_flight
         (shown books.flow.low books.flow.next (memory_of ring.entry)) psn) }
 {
-    let flow = books.flow;
-    let totals = books.totals;
-    let x = find(flow, ring, psn);
+    let x = find(books.flow, ring, psn);
     if x.status != crate::FLYING {
         return Err(Refusal::NotFlying);
     }
-    if would_sink(totals.in_flight, x.size as u64) {
+    if would_sink(books.totals.in_flight, x.size as u64) {
         return Err(Refusal::Sinks);
     }
     Ok(())

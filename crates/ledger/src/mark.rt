@@ -8,10 +8,10 @@ ghost use Rattle.ledger.specs.Ring.{packet_of};
 ghost use Rattle.ledger.specs.Sound.{SoundLedger};
 ghost use Rattle.ledger.specs.Steps.{mark_of};
 
-use crate::Books;
 use crate::judge::less;
 use crate::ring::RingMarks;
 use crate::slots::{find, place};
+use crate::{Books, Totals};
 
 // Flying becomes marked; in-flight falls by the recorded size.
 pub fn mark(psn: u32, books: Books, ring: &mut RingMarks<'_>) -> Books
@@ -21,18 +21,19 @@ pub fn mark(psn: u32, books: Books, ring: &mut RingMarks<'_>) -> Books
     ensures kept { kept result.flow result.totals (memory_of_marks ring.new)
         ≡ kept_of (mark_of psn (ledger_shown books.flow books.totals (memory_of_marks ring.old))) }
 {
-    let flow = books.flow;
-    let mut totals = books.totals;
-    let flying = totals.flying;
-    let waiting = totals.marked;
-    let marked_bytes = totals.marked_bytes;
+    let Books { flow, totals } = books;
     let x = find(flow, ring.look(), psn);
     let bytes = x.size as u64;
     let i = place(ring.sent.len(), psn);
     bits::put(ring.marked, i, true);
-    totals.flying = flying - 1;
-    totals.marked = waiting + 1;
-    totals.marked_bytes = marked_bytes + bytes;
-    totals.in_flight = less(totals.in_flight, bytes);
-    Books { flow, totals }
+    Books {
+        flow,
+        totals: Totals {
+            flying: totals.flying - 1,
+            marked: totals.marked + 1,
+            marked_bytes: totals.marked_bytes + bytes,
+            in_flight: less(totals.in_flight, bytes),
+            ..totals
+        },
+    }
 }

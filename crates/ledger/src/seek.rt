@@ -42,11 +42,10 @@ pub fn next_marked(books: Books, ring: Ring<'_>, psn: u32) -> u32
     ensures { result ≡ next_marked_of books.flow
         (shown books.flow.low books.flow.next (memory_of ring.entry)) psn }
 {
-    let flow = books.flow;
-    let n = long(flow);
-    let offset = serial::psn_minus(psn, flow.low);
+    let n = long(books.flow);
+    let offset = serial::psn_minus(psn, books.flow.low);
     if offset < n {
         return serial::psn_plus(psn, front(ring.marked, psn, n - offset));
     }
-    flow.next
+    books.flow.next
 }

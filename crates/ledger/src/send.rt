@@ -8,22 +8,26 @@ ghost use Rattle.ledger.specs.Ring.{long_of, packet_of};
 ghost use Rattle.ledger.specs.Sound.{SoundLedger};
 ghost use Rattle.ledger.specs.Steps.{supplied, supplied_totals, push_of, resend_of};
 
-use crate::Books;
 use crate::ring::RingMut;
 use crate::slots::{find, fly, place};
+use crate::{Books, Flow, Totals};
 
 // New data: the backlog rises, and the total over all flows with it.
 pub fn supply(bytes: u64, books: Books) -> Books
     requires { (books.flow.backlog + bytes ≤ backlog_most) × (books.totals.backlog < 2 ^ 62) }
     ensures { (result.flow ≡ supplied bytes books.flow) × (result.totals ≡ supplied_totals bytes books.totals) }
 {
-    let mut flow = books.flow;
-    let mut totals = books.totals;
-    let backlog = flow.backlog;
-    let all = totals.backlog;
-    flow.backlog = backlog + bytes;
-    totals.backlog = all + bytes;
-    Books { flow, totals }
+    let Books { flow, totals } = books;
+    Books {
+        flow: Flow {
+            backlog: flow.backlog + bytes,
+            ..flow
+        },
+        totals: Totals {
+            backlog: totals.backlog + bytes,
+            ..totals
+        },
+    }
 }
 
 // In-flight, higher by some bytes.
@@ -44,20 +48,22 @@ pub fn push(time: u64, bytes: u32, books: Books, ring: &mut RingMut<'_>) -> Book
     ensures kept { kept result.flow result.totals (memory_of_mut ring.new)
         ≡ kept_of (push_of time bytes (ledger_shown books.flow books.totals (memory_of_mut ring.old))) }
 {
-    let mut flow = books.flow;
-    let mut totals = books.totals;
-    let next = flow.next;
-    let backlog = flow.backlog;
-    let all = totals.backlog;
-    let flying = totals.flying;
-    let i = place(ring.sent.len(), next);
+    let Books { flow, totals } = books;
+    let i = place(ring.sent.len(), flow.next);
     fly(ring, i, bytes, 0, time);
-    flow.next = serial::psn_plus(next, 1);
-    flow.backlog = backlog - bytes as u64;
-    totals.backlog = all - bytes as u64;
-    totals.flying = flying + 1;
-    totals.in_flight = more(totals.in_flight, bytes as u64);
-    Books { flow, totals }
+    Books {
+        flow: Flow {
+            next: serial::psn_plus(flow.next, 1),
+            backlog: flow.backlog - bytes as u64,
+            ..flow
+        },
+        totals: Totals {
+            flying: totals.flying + 1,
+            backlog: totals.backlog - bytes as u64,
+            in_flight: more(totals.in_flight, bytes as u64),
+            ..totals
+        },
+    }
 }
 
 // The resend count, up by one and stopping at 2.
@@ -81,18 +87,19 @@ pub fn resend(time: u64, psn: u32, books: Books, ring: &mut RingMut<'_>) -> Book
     ensures kept { kept result.flow result.totals (memory_of_mut ring.new)
         ≡ kept_of (resend_of time psn (ledger_shown books.flow books.totals (memory_of_mut ring.old))) }
 {
-    let flow = books.flow;
-    let mut totals = books.totals;
-    let flying = totals.flying;
-    let waiting = totals.marked;
-    let marked_bytes = totals.marked_bytes;
+    let Books { flow, totals } = books;
     let x = find(flow, ring.look(), psn);
     let bytes = x.size as u64;
     let i = place(ring.sent.len(), psn);
     fly(ring, i, x.size, once_more(x.resent), time);
-    totals.flying = flying + 1;
-    totals.marked = waiting - 1;
-    totals.marked_bytes = marked_bytes - bytes;
-    totals.in_flight = more(totals.in_flight, bytes);
-    Books { flow, totals }
+    Books {
+        flow,
+        totals: Totals {
+            flying: totals.flying + 1,
+            marked: totals.marked - 1,
+            marked_bytes: totals.marked_bytes - bytes,
+            in_flight: more(totals.in_flight, bytes),
+            ..totals
+        },
+    }
 }

@@ -69,8 +69,7 @@ pub fn find(flow: Flow, ring: Ring<'_>, psn: u32) -> Packet
     requires { Lengths (memory_of ring) }
     ensures { result ≡ packet_of flow (shown flow.low flow.next (memory_of ring.entry)) psn }
 {
-    let low = flow.low;
-    let offset = serial::psn_minus(psn, low);
+    let offset = serial::psn_minus(psn, flow.low);
     if offset < long(flow) {
         let i = place(ring.sent.len(), psn);
         let w = ring.sizes[i];

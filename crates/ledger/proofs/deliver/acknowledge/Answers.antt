@@ -13,16 +13,16 @@ use Rattle.ledger.proofs.deliver.acknowledge.Goals.{After-reach-far, After-retir
 
 -- it has the lengths and words that the covering leaves
 left_lengths : (c : After-retire_reached-gone) →
-    let left = memory c.cover-totals.new.outstanding c.cover-totals.new.marked c.retire_reached-gone.new.sizes c.retire_reached-gone.new.sent in
+    let left = memory c.cover-left.new.outstanding c.cover-left.new.marked c.retire_reached-gone.new.sizes c.retire_reached-gone.new.sent in
     Lengths (left)
 left_lengths c =
-    lengths_kept c.cover-totals.ensures.standing_2.lengths c.retire_reached-gone.auto.sizes c.retire_reached-gone.auto.sent
+    lengths_kept c.cover-left.ensures.standing_2.lengths c.retire_reached-gone.auto.sizes c.retire_reached-gone.auto.sent
 
 left_words : (c : After-retire_reached-gone) →
-    let left = memory c.cover-totals.new.outstanding c.cover-totals.new.marked c.retire_reached-gone.new.sizes c.retire_reached-gone.new.sent in
+    let left = memory c.cover-left.new.outstanding c.cover-left.new.marked c.retire_reached-gone.new.sizes c.retire_reached-gone.new.sent in
     Words (left)
 left_words c =
-    words_kept c.cover-totals.ensures.standing_2.words
+    words_kept c.cover-left.ensures.standing_2.words
 
 -- what the covering asks
 asked : (c : After-reach-far) →
@@ -39,30 +39,30 @@ reach-far-requires c =
     let given = memory_of_mut c.args.ring.now in
     reach_asks (given) c.requires.sound_ledger c.long-n.ensures c.args.map c.span.ensures
 
-pub cover-totals-requires : goal.cover-totals-requires
-cover-totals-requires c = record {
-  standing = (asked (goal.at.cover-totals-requires c).After-reach-far).0;
-  reached = (asked (goal.at.cover-totals-requires c).After-reach-far).1;
+pub cover-left-requires : goal.cover-left-requires
+cover-left-requires c = record {
+  standing = (asked (goal.at.cover-left-requires c).After-reach-far).0;
+  reached = (asked (goal.at.cover-left-requires c).After-reach-far).1;
 }
 
 pub retire_reached-gone-requires : goal.retire_reached-gone-requires
 retire_reached-gone-requires c =
     let given = memory_of_mut c.args.ring.now in
     let covered = shown c.args.books.flow.low c.args.books.flow.next
-    (memory c.cover-totals.new.outstanding c.cover-totals.new.marked c.args.ring.now.sizes.now c.args.ring.now.sent.now) in
+    (memory c.cover-left.new.outstanding c.cover-left.new.marked c.args.ring.now.sizes.now c.args.ring.now.sent.now) in
     record {
       n_value = c.long-n.ensures;
-      standing = c.cover-totals.ensures.standing_2;
-      n_value_2 = none_done (given) c.requires.sound_ledger c.long-n.ensures {r = covered} c.cover-totals.ensures.covered (asked (goal.at.retire_reached-gone-requires c).After-reach-far).1;
+      standing = c.cover-left.ensures.standing_2;
+      n_value_2 = none_done (given) c.requires.sound_ledger c.long-n.ensures {r = covered} c.cover-left.ensures.covered (asked (goal.at.retire_reached-gone-requires c).After-reach-far).1;
     }
 
 pub less-requires : goal.less-requires
 less-requires c =
     let given = memory_of_mut c.args.ring.now in
     let covered = shown c.args.books.flow.low c.args.books.flow.next
-    (memory c.cover-totals.new.outstanding c.cover-totals.new.marked c.args.ring.now.sizes.now c.args.ring.now.sent.now) in
+    (memory c.cover-left.new.outstanding c.cover-left.new.marked c.args.ring.now.sizes.now c.args.ring.now.sent.now) in
     record {
-      flown = less_asks (given) c.requires.sound_ledger c.long-n.ensures {r = covered} c.cover-totals.ensures.covered;
+      flown = less_asks (given) c.requires.sound_ledger c.long-n.ensures {r = covered} c.cover-left.ensures.covered;
       bytes_bound = omega (arith, c.newly.ensures.1);
     }
 
@@ -70,10 +70,10 @@ pub returns-clause-kept : goal.returns-clause-kept
 returns-clause-kept c =
     let given = memory_of_mut c.args.ring.now in
     let covered = shown c.args.books.flow.low c.args.books.flow.next
-    (memory c.cover-totals.new.outstanding c.cover-totals.new.marked c.args.ring.now.sizes.now c.args.ring.now.sent.now) in
-    let left = memory c.cover-totals.new.outstanding c.cover-totals.new.marked c.retire_reached-gone.new.sizes c.retire_reached-gone.new.sent in
+    (memory c.cover-left.new.outstanding c.cover-left.new.marked c.args.ring.now.sizes.now c.args.ring.now.sent.now) in
+    let left = memory c.cover-left.new.outstanding c.cover-left.new.marked c.retire_reached-gone.new.sizes c.retire_reached-gone.new.sent in
     rw (to_z-of_z {w = w64} {z = c.less.result} (record { sfits = c.less.type_inv }))
-    (acked (given) c.requires.sound_ledger c.long-n.ensures {r = covered} c.cover-totals.ensures.covered c.args.count (left)
+    (acked (given) c.requires.sound_ledger c.long-n.ensures {r = covered} c.cover-left.ensures.covered c.args.count (left)
     (left_lengths (goal.at.returns-clause-kept c).After-retire_reached-gone) (left_words (goal.at.returns-clause-kept c).After-retire_reached-gone)
     c.retire_reached-gone.ensures c.psn_plus.ensures
     c.held_after.ensures c.newly.ensures.0 c.less.ensures)

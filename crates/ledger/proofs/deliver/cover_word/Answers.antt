@@ -6,8 +6,8 @@ use Rattle.ledger.specs.Delivery.{lessened}
 use Rattle.ledger.proofs.Masks.{sizes_both, count_none, without_none, lessened_none}
 use Rattle.ledger.proofs.deliver.cover_word.Goals as goal
 
-pub overflow_sub-left : goal.overflow_sub-left
-overflow_sub-left c =
+pub overflow_sub-result : goal.overflow_sub-result
+overflow_sub-result c =
     let mark = get_or c.args.marked.now c.args.q 0 in
     omega (arith, c.count.ensures.0, c.requires.counted.flying, count_none (mark) c.args.mask c.if-mark-mask-eq0.true)
 
@@ -23,13 +23,13 @@ returns-then-mark-mask-eq0 c =
             (ap (set c.args.marked.now c.args.q) (without_none (mark) c.args.mask none short)
             ∙ set-get_or c.args.marked.now c.args.q 0),
       );
-      value = rw c.count.ensures.0
+      value = rw (c.count.ensures.0, to_z-of_z {w = w64} {z = c.args.totals.in_flight} (search (rules, c.ranges)))
           (lessened_none (mark) c.args.mask none (get_or c.args.outstanding.now c.args.q 0) c.args.sizes.now c.args.q
           c.args.totals);
     }
 
-pub overflow_sub-result-4 : goal.overflow_sub-result-4
-overflow_sub-result-4 c =
+pub overflow_sub-result-5 : goal.overflow_sub-result-5
+overflow_sub-result-5 c =
     let mark = get_or c.args.marked.now c.args.q 0 in
     omega (arith, c.bytes_in.ensures.0 ∙ sizes_both c.args.sizes.now c.args.q (mark) c.args.mask, c.requires.counted.bytes)
 
@@ -46,6 +46,6 @@ returns c =
         c.count-2.ensures.0,
         c.count-waiting.ensures.0,
         c.bytes_in.ensures.0 ∙ sizes_both c.args.sizes.now c.args.q (mark) c.args.mask,
-        to_z-of_z {w = w64} {z = c.args.totals.in_flight} (search (rules, c.struct_told-1.given)),
+        to_z-of_z {w = w64} {z = c.args.totals.in_flight} (search (rules, c.ranges)),
       );
     }

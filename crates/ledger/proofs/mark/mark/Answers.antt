@@ -39,9 +39,9 @@ put-requires c =
     let L = sound_lengths _ _ (slots) c.requires.sound_ledger in
     omega (arith, c.place-i.ensures.1, L.sent, L.marked)
 
-pub overflow_sub-totals : goal.overflow_sub-totals
-overflow_sub-totals c =
-    (ready (goal.at.overflow_sub-totals c).Start c.find-x.result (rw c.look.ensures at c.find-x.ensures)).one
+pub overflow_sub-result : goal.overflow_sub-result
+overflow_sub-result c =
+    (ready (goal.at.overflow_sub-result c).Start c.find-x.result (rw c.look.ensures at c.find-x.ensures)).one
 
 pub less-requires : goal.less-requires
 less-requires c = record {

@@ -21,8 +21,8 @@ fly-requires c =
       i_in_bounds = (omega (arith, c.place-i.ensures.1, L.sent), c.requires.bytes_le_backlog.1, omega arith);
     }
 
-pub overflow_sub-totals : goal.overflow_sub-totals
-overflow_sub-totals c =
+pub overflow_sub-result-2 : goal.overflow_sub-result-2
+overflow_sub-result-2 c =
     omega (arith, c.requires.sound_ledger.backlog_least, c.requires.bytes_le_backlog.0)
 
 pub more-requires : goal.more-requires

@@ -50,17 +50,17 @@ fly-requires c =
       );
     }
 
-pub overflow_add-totals : goal.overflow_add-totals
-overflow_add-totals c = omega
+pub overflow_add-result : goal.overflow_add-result
+overflow_add-result c = omega
     (arith, c.requires.sound_ledger.flying_most)
 
-pub overflow_sub-totals : goal.overflow_sub-totals
-overflow_sub-totals c =
-    (ready (goal.at.overflow_sub-totals c).Start c.find-x.result (rw c.look.ensures at c.find-x.ensures)).one
+pub overflow_sub-result : goal.overflow_sub-result
+overflow_sub-result c =
+    (ready (goal.at.overflow_sub-result c).Start c.find-x.result (rw c.look.ensures at c.find-x.ensures)).one
 
-pub overflow_sub-totals-2 : goal.overflow_sub-totals-2
-overflow_sub-totals-2 c =
-    (ready (goal.at.overflow_sub-totals-2 c).Start c.find-x.result (rw c.look.ensures at c.find-x.ensures)).bytes
+pub overflow_sub-result-2 : goal.overflow_sub-result-2
+overflow_sub-result-2 c =
+    (ready (goal.at.overflow_sub-result-2 c).Start c.find-x.result (rw c.look.ensures at c.find-x.ensures)).bytes
 
 pub more-requires : goal.more-requires
 more-requires c = record {
