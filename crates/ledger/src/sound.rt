@@ -34,30 +34,36 @@ fn is_ring(ring: Ring<'_>) -> bool
         & (ring.sent.len() == cap)
 }
 
-// The slots from..to-1 of packets: whether sizes, resend counts and send times are in their bounds.
-fn live_run(ring: Ring<'_>, mtu: u64, clock: u64, from: usize, to: usize) -> bool
-    requires { (from ≤ to) × (to ≤ length ring.sizes.now) × (to ≤ length ring.sent.now) }
-    ensures { result ≡ all_in (live_at mtu clock ring.entry.sizes.now ring.entry.sent.now) from to }
+// The slots from..to-1 of packets: whether sizes, resend counts and send times are in their bounds. This and the next take the slices that
+// they look at: the compiler keeps the next as a call, and with a ring, which goes through memory, number 2's test takes 1.05 times as long.
+fn live_run<'a>(
+    sizes: &'a [u32],
+    sent: &'a [u64],
+    mtu: u64,
+    clock: u64,
+    from: usize,
+    to: usize,
+) -> bool
+    requires { (from ≤ to) × (to ≤ length sizes.now) × (to ≤ length sent.now) }
+    ensures { result ≡ all_in (live_at mtu clock sizes.now sent.now) from to }
 {
-    sizes_within(
-        ring.sizes,
-        crate::SIZE_LEAST,
-        mtu,
-        crate::RESENT_MOST,
-        from,
-        to,
-    ) & times_until(ring.sent, clock, from, to)
+    sizes_within(sizes, crate::SIZE_LEAST, mtu, crate::RESENT_MOST, from, to)
+        & times_until(sent, clock, from, to)
 }
 
 // Whether the slots from..to-1 are all zero, but for the marked bits.
-fn zero_run(ring: Ring<'_>, from: usize, to: usize) -> bool
-    requires from_le_to { (from ≤ to) × (to ≤ length ring.outstanding.now * word_bits) × (length ring.outstanding.now ≤ word_bits) }
-    requires to_in_bounds { (to ≤ length ring.sizes.now) × (to ≤ length ring.sent.now) }
-    ensures { result ≡ all_in (zero_at ring.entry.outstanding.now ring.entry.sizes.now ring.entry.sent.now) from to }
+fn zero_run<'a>(
+    outstanding: &'a [u64],
+    sizes: &'a [u32],
+    sent: &'a [u64],
+    from: usize,
+    to: usize,
+) -> bool
+    requires from_le_to { (from ≤ to) × (to ≤ length outstanding.now * word_bits) × (length outstanding.now ≤ word_bits) }
+    requires to_in_bounds { (to ≤ length sizes.now) × (to ≤ length sent.now) }
+    ensures { result ≡ all_in (zero_at outstanding.now sizes.now sent.now) from to }
 {
-    none_set(ring.outstanding, from, to)
-        & all_are(ring.sizes, 0, from, to)
-        & all_are(ring.sent, 0, from, to)
+    none_set(outstanding, from, to) & all_are(sizes, 0, from, to) & all_are(sent, 0, from, to)
 }
 
 // Every slot, but for the marked bits: those of the n packets from low on are one run, or one up to the ring's end and one from its start
@@ -73,11 +79,13 @@ fn slots_ok(ring: Ring<'_>, mtu: u64, clock: u64, low: u32, n: u32) -> bool
     let i = place(cap, low);
     let end = i + n as usize;
     if end <= cap {
-        return live_run(ring, mtu, clock, i, end) & zero_run(ring, end, cap) & zero_run(ring, 0, i);
+        return live_run(ring.sizes, ring.sent, mtu, clock, i, end)
+            & zero_run(ring.outstanding, ring.sizes, ring.sent, end, cap)
+            & zero_run(ring.outstanding, ring.sizes, ring.sent, 0, i);
     }
-    zero_run(ring, end - cap, i)
-        & live_run(ring, mtu, clock, i, cap)
-        & live_run(ring, mtu, clock, 0, end - cap)
+    zero_run(ring.outstanding, ring.sizes, ring.sent, end - cap, i)
+        & live_run(ring.sizes, ring.sent, mtu, clock, i, cap)
+        & live_run(ring.sizes, ring.sent, mtu, clock, 0, end - cap)
 }
 
 // Whether low is not done while low and next differ: done is a packet with neither bit.

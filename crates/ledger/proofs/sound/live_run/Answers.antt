@@ -10,5 +10,5 @@ unfolding live_at
 returns c =
     let a = c.args in
     ap₂ (λ (x y : Bool). x && y) c.sizes_within.ensures c.times_until.ensures
-    ∙ in_and (sized_at size_least a.mtu resent_most a.ring.sizes.now) (timed_at a.clock a.ring.sent.now)
-    (live_at a.mtu a.clock a.ring.sizes.now a.ring.sent.now) a.from a.to (λ i. refl)
+    ∙ in_and (sized_at size_least a.mtu resent_most a.sizes.now) (timed_at a.clock a.sent.now)
+    (live_at a.mtu a.clock a.sizes.now a.sent.now) a.from a.to (λ i. refl)

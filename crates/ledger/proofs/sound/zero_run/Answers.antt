@@ -18,13 +18,13 @@ pub returns : goal.returns
 unfolding zero_at sized_at timed_at
 returns c =
     let a = c.args in
-    let f = clear_at a.ring.outstanding.now in
-    let g = sized_at 0 0 0 a.ring.sizes.now in
-    let h = timed_at 0 a.ring.sent.now in
-    let sizes = in_same (λ i. eqb (get_or a.ring.sizes.now i 0) 0) g a.from a.to (λ i. sym (none_sized (get_or a.ring.sizes.now i 0))) in
-    let times = in_same (λ i. eqb (get_or a.ring.sent.now i 0) 0) h a.from a.to (λ i. sym (none_timed (get_or a.ring.sent.now i 0))) in
+    let f = clear_at a.outstanding.now in
+    let g = sized_at 0 0 0 a.sizes.now in
+    let h = timed_at 0 a.sent.now in
+    let sizes = in_same (λ i. eqb (get_or a.sizes.now i 0) 0) g a.from a.to (λ i. sym (none_sized (get_or a.sizes.now i 0))) in
+    let times = in_same (λ i. eqb (get_or a.sent.now i 0) 0) h a.from a.to (λ i. sym (none_timed (get_or a.sent.now i 0))) in
     ap₂ (λ (x y : Bool). x && y)
     (ap₂ (λ (x y : Bool). x && y) c.none_set.ensures (c.all_are.ensures ∙ sizes)
     ∙ in_and f g (λ i. f i && g i) a.from a.to (λ i. refl))
     (c.all_are-2.ensures ∙ times)
-    ∙ in_and (λ i. f i && g i) h (zero_at a.ring.outstanding.now a.ring.sizes.now a.ring.sent.now) a.from a.to (λ i. refl)
+    ∙ in_and (λ i. f i && g i) h (zero_at a.outstanding.now a.sizes.now a.sent.now) a.from a.to (λ i. refl)
