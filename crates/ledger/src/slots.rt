@@ -72,9 +72,10 @@ pub fn find(flow: Flow, ring: Ring<'_>, psn: u32) -> Packet
     let offset = serial::psn_minus(psn, flow.low);
     if offset < long(flow) {
         let i = place(ring.sent.len(), psn);
+        let status = status_at(ring.outstanding, ring.marked, i);
         let w = ring.sizes[i];
         return Packet {
-            status: status_at(ring.outstanding, ring.marked, i),
+            status,
             size: size_in(w),
             sent: ring.sent[i],
             resent: resent_in(w),

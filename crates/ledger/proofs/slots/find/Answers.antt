@@ -18,12 +18,12 @@ returns-then-offset-long c =
     let m = memory_of a.ring in
     let W : Words m =
     record {
-      outstanding = c.status_at.ensures.words.0;
-      marked = c.status_at.ensures.words.1;
+      outstanding = c.status_at-status.ensures.words.0;
+      marked = c.status_at-status.ensures.words.1;
     } in
     found a.flow m c.requires W a.psn _ _ _ _ _ _ _ c.ranges.psn.fits
     (omega (arith, c.if-offset-long.true, c.long.ensures, c.psn_minus-offset.ensures))
-    c.place-i.ensures.0 c.status_at.ensures.status refl refl
+    c.place-i.ensures.0 c.status_at-status.ensures.status refl refl
     c.size_in.ensures.0 refl c.resent_in.ensures
 
 pub returns : goal.returns
