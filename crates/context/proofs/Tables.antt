@@ -1,16 +1,18 @@
 -- An event over a table of records: between the lent records, the table by value and the words that the entry point works on.
---     Lends, step_fits, step-answer    the step over the table by value: what is left of the words is records again, and what it answers
+--     Lends, step_fits, step_left    the step over the table by value: what is left of the words is records again
+--     called_answer, step_answer    what it answers, of an event whose call is known only by what its closure promises
 --     over-table, over-said     the records stored again: the table that was lent is left as the event's definition says
 -- Assumes nothing.
 use mathlib.Core.Path.{◌≡◌, refl, sym, ap, ◌∙◌}
 use mathlib.Core.Bool.{true, false}
 use mathlib.Core.Logic.{⊎_elim}
 use mathlib.Core.List.{List, [], ◌++◌, append-nil}
+use Rattle.std.proofs.Common.{MutBor}
 use Prim.Native.Nat.{ℕ, ◌-◌, ◌*◌, ◌≤◌, ◌<◌}
 use native.Mathlib.Omega.{arith}
 use lib.ListN.{length, take, drop}
-use Rattle.rules.specs.Branch.{lt_both, lt_no}
-use Rattle.ledger.specs.Memory.{Memory}
+use Rattle.rules.specs.Branch.{lt_both}
+use Rattle.ledger.specs.Memory.{Memory, memory}
 use Rattle.ledger.specs.declared.Flow.{Flow}
 use Rattle.flow_table.specs.Words.{flow_words, flows_most, count_of, words_of, first_flows, AllFit}
 use Rattle.flow_table.specs.Lent.{loaded, saved, value_words, value_from}
@@ -18,9 +20,9 @@ use Rattle.flow_table.specs.declared.lent.Flows.{Flows}
 use Rattle.flow_table.proofs.Plain.{outcome}
 use Rattle.flow_table.proofs.Records.{words_length, words_count, first_front, flows_words}
 use Rattle.flow_table.proofs.Trips.{load_save, lent_words, flows_saved, front_fit, left_front, left_length, left_fit}
-use Rattle.context.specs.Context.{Context, context, Answered, flow_count}
+use Rattle.context.specs.Context.{Context, context, Answered, answered, flow_count}
 use Rattle.context.specs.Sound.{sound_context}
-use Rattle.context.specs.Table.{Tabled, tabled, in_records, Stepped, stepped, by_value, unless_many, on_flows}
+use Rattle.context.specs.Table.{Tabled, tabled, in_records, Keeps, Stepped, stepped, by_value, unless_many, on_flows}
 use Rattle.context.specs.declared.Controller.{Controller}
 use Rattle.context.proofs.Sounds.{context_facts}
 use Rattle.context.proofs.Joins.{flow_fits}
@@ -45,24 +47,18 @@ module _ (on : Context → Answered) (E : Event on) where
       (λ e. let same : (on x).after.flows ≡ x.flows = ap (λ (r : Answered). r.after.flows) (E.refuses x e) in rw same fit)
       (outcome (sound_context x))
 
--- ---- the step: the words ws of the eight records, of which those of the n that there are were lent, and answered r
+-- ---- the step: the words ws of the eight records, of which those of the n that there are were lent, and left as ys
 
-pub record Lends (on : Context → Answered) (fs : Flows) (ws : List ℕ) (c : Controller) (m : Memory) (t : List ℕ) (r : Answered) : Type 0
-  where
-    pub event : Event on
-    pub words : ws ≡ value_words fs
-    pub eight : length fs.at ≡ flows_most
-    pub few : fs.n ≤ flows_most
-    pub answer : r ≡ on (context c (take (flow_words * fs.n - 0) ws) m t)
+pub record Lends (fs : Flows) (ws ys : List ℕ) : Type 0 where
+  pub words : ws ≡ value_words fs
+  pub eight : length fs.at ≡ flows_most
+  pub few : fs.n ≤ flows_most
+  pub keeps : Keeps (take (flow_words * fs.n - 0) ws) ys
 
-module _ {on : Context → Answered} {fs : Flows} {ws : List ℕ} {c : Controller} {m : Memory} {t : List ℕ} {r : Answered}
-    (L : Lends on fs ws c m t r) where
-  abbrev seen : Context
-  seen = context c (take (flow_words * fs.n - 0) ws) m t
-
+module _ {fs : Flows} {ws ys : List ℕ} (L : Lends fs ws ys) where
   -- the words after it, and those that were not lent behind them
   abbrev left : List ℕ
-  left = r.after.flows ++ drop (flow_words * fs.n - 0) ws
+  left = ys ++ drop (flow_words * fs.n - 0) ws
 
   whole_long : length ws ≡ flow_words * flows_most
   whole_long = ap length L.words ∙ words_length fs.at ∙ ap (λ (n : ℕ). flow_words * n) L.eight
@@ -70,43 +66,58 @@ module _ {on : Context → Answered} {fs : Flows} {ws : List ℕ} {c : Controlle
   room_n : flow_words * fs.n ≤ length ws
   room_n = omega (arith, whole_long, L.few)
 
-  same_flows : r.after.flows ≡ (on seen).after.flows
-  same_flows = ap (λ (a : Answered). a.after.flows) L.answer
-
-  as_long : length r.after.flows ≡ length (take (flow_words * fs.n - 0) ws)
-  as_long = ap length same_flows ∙ L.event.long seen
-
   pub step_long : length left ≡ flow_words * flows_most
-  step_long = left_length fs.n ws room_n r.after.flows as_long ∙ whole_long
+  step_long = left_length fs.n ws room_n ys L.keeps.0 ∙ whole_long
 
   -- WHAT IS LEFT IS RECORDS AGAIN: what `from_words` asks
   pub step_fits : AllFit flows_most ws → ((fs.n ≤ flows_most) × (flow_words * fs.n ≤ length left)) × AllFit fs.n left
   step_fits fit =
-      let lent : AllFit (count_of seen.flows) seen.flows =
-      front_fit fs.n ws room_n (λ k h. fit k (omega (arith, L.few))) in
-      let after : AllFit (count_of r.after.flows) r.after.flows = rw same_flows (left_fits on L.event seen lent) in
-      ((L.few, omega (arith, step_long, L.few)), left_fit fs.n ws room_n r.after.flows as_long after)
+      let lent = front_fit fs.n ws room_n (λ k h. fit k (omega (arith, L.few))) in
+      ((L.few, omega (arith, step_long, L.few)), left_fit fs.n ws room_n ys L.keeps.0 (L.keeps.1 lent))
 
-  -- THE STEP'S ANSWER
-  pub step_answer : (gs : Flows) → gs ≡ value_from fs.n left
-      → stepped r.number r.after.state gs r.after.slots r.after.times
-      ≡ on_flows fs on (context c (take (flow_words * fs.n) (value_words fs)) m t)
-  step_answer gs g =
-      let start : flow_words * fs.n - 0 ≡ flow_words * fs.n = omega arith in
-      let front : value_from fs.n left ≡ value_from fs.n r.after.flows =
-      rw (first_front fs.n r.after.flows (drop (flow_words * fs.n - 0) ws) (left_front fs.n ws room_n r.after.flows as_long))
-      refl in
-      let same : on seen ≡ on (context c (take (flow_words * fs.n) (value_words fs)) m t) = rw (start, L.words) refl in
-      lt_no flows_most fs.n _ _ _ L.few
-      (ap (λ (l : Flows). stepped r.number r.after.state l r.after.slots r.after.times) (g ∙ front)
-      ∙ ap (by_value fs.n) (L.answer ∙ same))
+  -- what the event saw, and what is read of what it left
+  pub step_given : take (flow_words * fs.n - 0) ws ≡ take (flow_words * fs.n) (value_words fs)
+  step_given = let start : flow_words * fs.n - 0 ≡ flow_words * fs.n = omega arith in rw (start, L.words) refl
 
-  -- and what else the entry point says
-  pub step_said : {A : Type 0} (say : Context → A) (refused : A) {v : A} → v ≡ say seen
-      → v ≡ unless_many fs refused (say (context c (take (flow_words * fs.n) (value_words fs)) m t))
-  step_said say refused e =
-      let start : flow_words * fs.n - 0 ≡ flow_words * fs.n = omega arith in
-      lt_no flows_most fs.n _ _ _ L.few (e ∙ rw (start, L.words) refl)
+  pub step_left : value_from fs.n left ≡ value_from fs.n ys
+  step_left = rw (first_front fs.n ys (drop (flow_words * fs.n - 0) ws) (left_front fs.n ws room_n ys L.keeps.0)) refl
+
+-- ---- the step's answer, of an event
+
+-- what is asked of the event's call
+pub event_keeps : (on : Context → Answered) → Event on → (x : Context) (r : Answered) → r ≡ on x → Keeps x.flows r.after.flows
+event_keeps on E x r e =
+    let same = ap (λ (a : Answered). a.after.flows) e in (ap length same ∙ E.long x, λ fit. rw same (left_fits on E x fit))
+
+-- THE STEP'S ANSWER, of more flows than there is room for and of others, and what else the event says
+pub step_answer : (on : Context → Answered) {fs : Flows} {x : Context} {r : Stepped}
+    → (flows_most < fs.n → r ≡ stepped 2 x.state fs x.slots x.times) → (fs.n ≤ flows_most → r ≡ by_value fs.n (on x)) → r ≡ on_flows fs on x
+step_answer on {fs = fs} {r = r} many few = lt_both (λ (v : Stepped). r ≡ v) flows_most fs.n _ _ many few
+
+pub step_said : {A : Type 0} (fs : Flows) {v refused said : A} → (flows_most < fs.n → v ≡ refused) → (fs.n ≤ flows_most → v ≡ said)
+    → v ≡ unless_many fs refused said
+step_said fs {v = v} many few = lt_both (λ (w : _). v ≡ w) flows_most fs.n _ _ many few
+
+-- ---- a call of an event in the step, whatever it may say of the twelve references
+
+-- the step's call: what it says, the context that it saw, and the step's answer
+abbrev pub Called : (MutBor (List ℕ) → MutBor (List ℕ) → MutBor (List ℕ) → MutBor (List ℕ) → MutBor (List ℕ) → MutBor (List ℕ) → MutBor (List ℕ) → MutBor (List ℕ) → MutBor (List ℕ) → MutBor (List ℕ) → MutBor (List ℕ) → MutBor (List ℕ) → Type 0)
+    → Controller → Context → ℕ → ℕ → Controller → Stepped → Type 0
+Called Post c x k n left v = (p o m z s e p' o' m' z' s' e' : MutBor (List ℕ)) × Post p o m z s e p' o' m' z' s' e'
+    × (context c p.now (memory o.now m.now z.now s.now) e.now ≡ x)
+    × (v ≡ by_value k (answered n left p'.now (memory o'.now m'.now z'.now s'.now) e'.now))
+
+pub called_answer : {Post : MutBor (List ℕ) → MutBor (List ℕ) → MutBor (List ℕ) → MutBor (List ℕ) → MutBor (List ℕ) → MutBor (List ℕ) → MutBor (List ℕ) → MutBor (List ℕ) → MutBor (List ℕ) → MutBor (List ℕ) → MutBor (List ℕ) → MutBor (List ℕ) → Type 0}
+    (on : Context → Answered) {c left : Controller} {x : Context} {k n : ℕ} {v : Stepped} → Called Post c x k n left v
+    → ((p o m z s e p' o' m' z' s' e' : MutBor (List ℕ)) → Post p o m z s e p' o' m' z' s' e'
+    → answered n left p'.now (memory o'.now m'.now z'.now s'.now) e'.now ≡ on (context c p.now (memory o.now m.now z.now s.now) e.now))
+    → v ≡ by_value k (on x)
+called_answer on {k = k} C f = C.14 ∙ ap (by_value k) (f _ _ _ _ _ _ _ _ _ _ _ _ C.12 ∙ ap on C.13)
+
+pub called_said : {Post : MutBor (List ℕ) → MutBor (List ℕ) → MutBor (List ℕ) → MutBor (List ℕ) → MutBor (List ℕ) → MutBor (List ℕ) → MutBor (List ℕ) → MutBor (List ℕ) → MutBor (List ℕ) → MutBor (List ℕ) → MutBor (List ℕ) → MutBor (List ℕ) → Type 0}
+    {A : Type 0} (say : Context → A) {c left : Controller} {x : Context} {k n : ℕ} {v : Stepped} {w : A} → Called Post c x k n left v
+    → ((p o m z s e p' o' m' z' s' e' : MutBor (List ℕ)) → Post p o m z s e p' o' m' z' s' e' → w ≡ say (context c p.now (memory o.now m.now z.now s.now) e.now)) → w ≡ say x
+called_said say C f = f _ _ _ _ _ _ _ _ _ _ _ _ C.12 ∙ ap say C.13
 
 -- ---- the records of a table ys, loaded, and stored again
 

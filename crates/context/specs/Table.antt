@@ -2,12 +2,14 @@
 -- eight flow structs, taken apart and handed to the by-value ledger step". What is promised of the records is the event's own definition,
 -- on the context whose table is the records' words; the step between them has the table by value.
 -- Assumes nothing.
-use Rattle.std.specs.Prelude.{List, ℕ, ◌*◌, take}
+use Rattle.std.specs.Prelude.{List, ℕ, ◌≡◌, ◌*◌, take, length, Result, Err}
+use Rattle.rules.specs.declared.verdict.Refusal.{Refusal}
+use Rattle.rules.specs.declared.verdict.Refusal.TheVariants.{Unsound}
 use Rattle.rules.specs.Branch.{if_lt}
 use Rattle.ledger.specs.Memory.{Memory}
 use Rattle.ledger.specs.Lent.{LentSlice, memory_before, memory_after}
 use Rattle.ledger.specs.declared.Flow.{Flow}
-use Rattle.flow_table.specs.Words.{flow_words, flows_most, words_of, flows_of}
+use Rattle.flow_table.specs.Words.{flow_words, flows_most, count_of, words_of, flows_of, AllFit}
 use Rattle.flow_table.specs.Lent.{value_words, value_from}
 use Rattle.flow_table.specs.declared.lent.Flows.{Flows}
 use Rattle.context.specs.Context.{Context, context, Answered, Routing}
@@ -75,6 +77,14 @@ by_value n r = stepped r.number r.after.state (value_from n r.after.flows) r.aft
 -- of more flows than there is room for, what is answered is the first
 abbrev pub unless_many : {A : Type 0} → Flows → A → A → A
 unless_many fs refused answer = if_lt flows_most fs.n refused answer
+
+-- what a step asks of an event's call: it leaves as many words, and PSNs where there were PSNs
+abbrev pub Keeps : List ℕ → List ℕ → Type 0
+Keeps ws left = (length left ≡ length ws) × (AllFit (count_of ws) ws → AllFit (count_of left) left)
+
+-- refusal 2 of any event
+abbrev pub unsound : {T : Type 0} → Result T Refusal
+unsound = Err Unsound
 
 -- the event of a table by value, of the context x whose table is its words: 2, and all as it was, where it has more than eight flows
 abbrev pub on_flows : Flows → (Context → Answered) → Context → Stepped

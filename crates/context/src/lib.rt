@@ -58,7 +58,7 @@ impl Controller {
             ≡ in_records (on_new_data time flow bytes (words_before self table.old outstanding.old marked.old sizes.old sent.old evs.old)) }
     {
         let fs = flow_table::lent::load(table);
-        let r = table::new_data(
+        let r = table::make_step(
             self,
             fs,
             outstanding,
@@ -66,9 +66,7 @@ impl Controller {
             sizes,
             sent,
             evs,
-            time,
-            flow,
-            bytes,
+            |w, o, m, z, s, e| entry::new_data(self, w, o, m, z, s, e, time, flow, bytes),
         );
         flow_table::lent::save(table, r.flows);
         r.answer
@@ -91,7 +89,7 @@ impl Controller {
             ≡ in_records (on_send time flow a (words_before self table.old outstanding.old marked.old sizes.old sent.old evs.old)) }
     {
         let fs = flow_table::lent::load(table);
-        let r = table::send(
+        let r = table::make_step(
             self,
             fs,
             outstanding,
@@ -99,9 +97,7 @@ impl Controller {
             sizes,
             sent,
             evs,
-            time,
-            flow,
-            a,
+            |w, o, m, z, s, e| entry::send(self, w, o, m, z, s, e, time, flow, a),
         );
         flow_table::lent::save(table, r.flows);
         r.answer
@@ -125,7 +121,7 @@ impl Controller {
             × (says_of result.outcome ≡ ack_says time flow a (words_before self table.old outstanding.old marked.old sizes.old sent.old evs.old)) }
     {
         let fs = flow_table::lent::load(table);
-        let r = table::ack(
+        let r = table::make_step(
             self,
             fs,
             outstanding,
@@ -133,9 +129,7 @@ impl Controller {
             sizes,
             sent,
             evs,
-            time,
-            flow,
-            a,
+            |w, o, m, z, s, e| entry::ack(self, w, o, m, z, s, e, time, flow, a),
         );
         flow_table::lent::save(table, r.flows);
         r.answer
@@ -159,7 +153,7 @@ impl Controller {
             × (says_of result.outcome ≡ nack_says time flow a (words_before self table.old outstanding.old marked.old sizes.old sent.old evs.old)) }
     {
         let fs = flow_table::lent::load(table);
-        let r = table::nack(
+        let r = table::make_step(
             self,
             fs,
             outstanding,
@@ -167,9 +161,7 @@ impl Controller {
             sizes,
             sent,
             evs,
-            time,
-            flow,
-            a,
+            |w, o, m, z, s, e| entry::nack(self, w, o, m, z, s, e, time, flow, a),
         );
         flow_table::lent::save(table, r.flows);
         r.answer
@@ -192,7 +184,7 @@ impl Controller {
             ≡ in_records (on_loss time flow a (words_before self table.old outstanding.old marked.old sizes.old sent.old evs.old)) }
     {
         let fs = flow_table::lent::load(table);
-        let r = table::loss(
+        let r = table::make_step(
             self,
             fs,
             outstanding,
@@ -200,9 +192,7 @@ impl Controller {
             sizes,
             sent,
             evs,
-            time,
-            flow,
-            a,
+            |w, o, m, z, s, e| entry::loss(self, w, o, m, z, s, e, time, flow, a),
         );
         flow_table::lent::save(table, r.flows);
         r.answer
@@ -225,7 +215,16 @@ impl Controller {
             × (result_unwrap_or result.outcome 0 ≡ (on_path time flow (words_before self table.old outstanding.old marked.old sizes.old sent.old evs.old)).ev) }
     {
         let fs = flow_table::lent::load(table);
-        let r = table::path(self, fs, outstanding, marked, sizes, sent, evs, time, flow);
+        let r = table::make_step(
+            self,
+            fs,
+            outstanding,
+            marked,
+            sizes,
+            sent,
+            evs,
+            |w, o, m, z, s, e| entry::path(self, w, o, m, z, s, e, time, flow),
+        );
         flow_table::lent::save(table, r.flows);
         r.answer
     }
