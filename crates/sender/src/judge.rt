@@ -29,12 +29,10 @@ pub(crate) fn judge_new_data(c: Controller, time: u64, bytes: u64) -> Verdict
     requires { Bounded c }
     ensures { number_of result ≡ first_of (new_data_rows time bytes c) }
 {
-    let flow = c.flow;
-    let backlog = flow.backlog;
     if bad_time(time, c.clock) {
         return Err(Refusal::Time);
     }
-    if (bytes == 0) | (ledger::BACKLOG_MOST - backlog < bytes) {
+    if (bytes == 0) | (ledger::BACKLOG_MOST - c.flow.backlog < bytes) {
         return Err(Refusal::Bytes);
     }
     Ok(())
@@ -59,18 +57,14 @@ pub(crate) fn judge_send(c: Controller, ring: Ring<'_>, time: u64, a: Send) -> V
     ensures { number_of result ≡ first_of (send_all_rows time a c
         (shown c.flow.low c.flow.next (memory_of ring.entry))) }
 {
-    let settings = c.settings;
-    let flow = c.flow;
-    let window = c.window;
-    let totals = c.totals;
     if bad_time(time, c.clock) {
         return Err(Refusal::Time);
     }
-    if !rules::within(ledger::SIZE_LEAST as u64, a.size as u64, settings.mtu) {
+    if !rules::within(ledger::SIZE_LEAST as u64, a.size as u64, c.settings.mtu) {
         return Err(Refusal::Size);
     }
-    judge_packet(flow, ring, a)?;
-    if has_room(settings.mtu, window.cwnd, totals.in_flight) {
+    judge_packet(c.flow, ring, a)?;
+    if has_room(c.settings.mtu, c.window.cwnd, c.totals.in_flight) {
         return Ok(());
     }
     Err(Refusal::WindowFull)
@@ -81,16 +75,14 @@ pub(crate) fn judge_ack(c: Controller, time: u64, a: Ack) -> Verdict
     requires { Bounded c }
     ensures { number_of result ≡ first_of (ack_all_rows time a c) }
 {
-    let settings = c.settings;
-    let flow = c.flow;
-    let totals = c.totals;
+    let Controller { flow, totals, .. } = c;
     if bad_time(time, c.clock) {
         return Err(Refusal::Time);
     }
     if serial::COUNTS <= a.count as u64 {
         return Err(Refusal::Count);
     }
-    if settings.ev_count <= a.ev as u64 {
+    if c.settings.ev_count <= a.ev as u64 {
         return Err(Refusal::Ev);
     }
     if !serial::covers(a.cum, a.map, a.trigger) {
@@ -106,16 +98,14 @@ pub(crate) fn judge_nack(c: Controller, ring: Ring<'_>, time: u64, a: Nack) -> V
     ensures { number_of result ≡ first_of (nack_all_rows time a c
         (shown c.flow.low c.flow.next (memory_of ring.entry))) }
 {
-    let settings = c.settings;
-    let flow = c.flow;
-    let totals = c.totals;
+    let Controller { flow, totals, .. } = c;
     if bad_time(time, c.clock) {
         return Err(Refusal::Time);
     }
     if crate::REASON_MOST < a.reason {
         return Err(Refusal::Reason);
     }
-    if settings.ev_count <= a.ev as u64 {
+    if c.settings.ev_count <= a.ev as u64 {
         return Err(Refusal::Ev);
     }
     ledger::judge::judge_mark(Books { flow, totals }, ring, a.psn)
@@ -128,13 +118,11 @@ pub(crate) fn judge_loss(c: Controller, ring: Ring<'_>, time: u64, a: Loss) -> V
     ensures { number_of result ≡ first_of (loss_all_rows time a c
         (shown c.flow.low c.flow.next (memory_of ring.entry))) }
 {
-    let settings = c.settings;
-    let flow = c.flow;
-    let totals = c.totals;
+    let Controller { flow, totals, .. } = c;
     if bad_time(time, c.clock) {
         return Err(Refusal::Time);
     }
-    if settings.ev_count <= a.ev as u64 {
+    if c.settings.ev_count <= a.ev as u64 {
         return Err(Refusal::Ev);
     }
     ledger::judge::judge_mark(Books { flow, totals }, ring, a.psn)

@@ -52,12 +52,9 @@ pub(crate) fn new_data(c: Controller, time: u64, bytes: u64) -> Controller
     requires c_value { first_of (new_data_rows time bytes c) ≡ 0 }
     ensures { result ≡ new_data_state time bytes c }
 {
-    let settings = c.settings;
-    let flow = c.flow;
-    let totals = c.totals;
-    let window = c.window;
-    let after = ledger::send::supply(bytes, Books { flow, totals });
-    state_of(settings, after.flow, after.totals, window, time, c.cursor)
+    let Controller { flow, totals, .. } = c;
+    let Books { flow, totals } = ledger::send::supply(bytes, Books { flow, totals });
+    state_of(c.settings, flow, totals, c.window, time, c.cursor)
 }
 
 // A new packet or a resend.
@@ -74,17 +71,14 @@ pub(crate) fn send(
     ensures left { world result (memory_of_mut ring.new) evs.now
         ≡ world_of (send_step time a (view_of (world c (memory_of_mut ring.old) evs.now))) }
 {
-    let settings = c.settings;
-    let window = c.window;
-    let flow = c.flow;
-    let totals = c.totals;
+    let Controller { flow, totals, .. } = c;
     let books = Books { flow, totals };
     if a.resend {
-        let after = ledger::send::resend(time, a.psn, books, ring);
-        return state_of(settings, after.flow, after.totals, window, time, c.cursor);
+        let Books { flow, totals } = ledger::send::resend(time, a.psn, books, ring);
+        return state_of(c.settings, flow, totals, c.window, time, c.cursor);
     }
-    let after = ledger::send::push(time, a.size, books, ring);
-    state_of(settings, after.flow, after.totals, window, time, c.cursor)
+    let Books { flow, totals } = ledger::send::push(time, a.size, books, ring);
+    state_of(c.settings, flow, totals, c.window, time, c.cursor)
 }
 
 // An ACK: the sample is read before the ledger's step, and the window's rules come after it.
@@ -102,20 +96,19 @@ pub(crate) fn ack(
         ≡ world_of (ack_step time a (view_of (world c (memory_of_mut ring.old) evs.old))) }
     ensures sampling_value { result.gives ≡ ack_sampling time a (view_of (world c (memory_of_mut ring.old) evs.old)) }
 {
+    let Controller { flow, totals, .. } = c;
     let settings = c.settings;
-    let flow = c.flow;
-    let totals = c.totals;
     let window = c.window;
-    let base = window.base;
     let newly = ledger::judge::newly(a.count, flow.held);
     let x = ledger::slots::find(flow, ring.look(), a.trigger);
     let sampling = sampled(x, a.retx, time, a.service as u64);
     let sample = sample_in(sampling);
-    let after = ledger::deliver::acknowledge(a.cum, a.map, a.count, Books { flow, totals }, ring);
-    let f = after.flow;
-    let t = after.totals;
+    let books = Books { flow, totals };
+    let Books { flow: f, totals: t } = ledger::deliver::acknowledge(
+        a.cum, a.map, a.count, books, ring,
+    );
     let w = window::events::ack(settings, time, newly, a.marked, sample, t.in_flight, window);
-    avoid(a.marked, a.ev, time, base, evs);
+    avoid(a.marked, a.ev, time, window.base, evs);
     let state = state_of(settings, f, t, w, time, c.cursor);
     Step {
         state,
@@ -138,29 +131,23 @@ pub(crate) fn nack(
         ≡ world_of (nack_step time a (view_of (world c (memory_of_marks ring.old) evs.old))) }
     ensures sampling_value { result.gives ≡ nack_sampling time a (view_of (world c (memory_of_marks ring.old) evs.old)) }
 {
-    let settings = c.settings;
-    let flow = c.flow;
-    let totals = c.totals;
-    let window = c.window;
-    let base = window.base;
+    let Controller { flow, totals, .. } = c;
     let x = ledger::slots::find(flow, ring.look(), a.psn);
     let sampling = sampled(x, a.retx, time, 0);
     let sample = sample_in(sampling);
     let books = Books { flow, totals };
-    let after = ledger::mark::mark(a.psn, books, ring);
-    let f = after.flow;
-    let t = after.totals;
+    let Books { flow, totals } = ledger::mark::mark(a.psn, books, ring);
     let w = window::events::nack(
-        settings,
+        c.settings,
         time,
         x.size as u64,
         a.reason as u64,
         sample,
-        t.in_flight,
-        window,
+        totals.in_flight,
+        c.window,
     );
-    avoid(a.marked | (a.reason == 0), a.ev, time, base, evs);
-    let state = state_of(settings, f, t, w, time, c.cursor);
+    avoid(a.marked | (a.reason == 0), a.ev, time, c.window.base, evs);
+    let state = state_of(c.settings, flow, totals, w, time, c.cursor);
     Step {
         state,
         gives: sampling,
@@ -181,19 +168,13 @@ pub(crate) fn loss(
     ensures left { world result (memory_of_marks ring.new) evs.new
         ≡ world_of (loss_step time a (view_of (world c (memory_of_marks ring.old) evs.old))) }
 {
-    let settings = c.settings;
-    let flow = c.flow;
-    let totals = c.totals;
-    let window = c.window;
-    let base = window.base;
+    let Controller { flow, totals, .. } = c;
     let x = ledger::slots::find(flow, ring.look(), a.psn);
     let books = Books { flow, totals };
-    let after = ledger::mark::mark(a.psn, books, ring);
-    let f = after.flow;
-    let t = after.totals;
-    let w = window::events::loss(settings, time, x.size as u64, t.in_flight, window);
-    avoid(true, a.ev, time, base, evs);
-    state_of(settings, f, t, w, time, c.cursor)
+    let Books { flow, totals } = ledger::mark::mark(a.psn, books, ring);
+    let w = window::events::loss(c.settings, time, x.size as u64, totals.in_flight, c.window);
+    avoid(true, a.ev, time, c.window.base, evs);
+    state_of(c.settings, flow, totals, w, time, c.cursor)
 }
 
 // The next path.
@@ -204,12 +185,9 @@ pub(crate) fn path(c: Controller, evs: &[u64], time: u64) -> Step<u32>
     ensures { (result.state ≡ path_state time (choice time c.cursor evs.now).cursor c)
         × (result.gives ≡ (choice time c.cursor evs.now).ev) }
 {
-    let settings = c.settings;
-    let flow = c.flow;
-    let totals = c.totals;
-    let window = c.window;
     let taken = paths::choose(evs, c.cursor as usize, time);
-    let state = state_of(settings, flow, totals, window, time, taken.cursor as u32);
+    let cursor = taken.cursor as u32;
+    let state = state_of(c.settings, c.flow, c.totals, c.window, time, cursor);
     Step {
         state,
         gives: taken.ev as u32,

@@ -16,21 +16,21 @@ unfolding number_of
 returns-then-a-ge-COUNTS c =
     judged_field _ _ _ _ (sym c.bad_time.ensures ∙ c.if-bad_time.false) (le-leb _ _ c.if-a-ge-COUNTS.true)
 
-pub returns-then-settings-a : goal.returns-then-settings-a
+pub returns-then-c-a : goal.returns-then-c-a
 unfolding number_of
-returns-then-settings-a c =
+returns-then-c-a c =
     judged_on _ _ _ _ (sym c.bad_time.ensures ∙ c.if-bad_time.false) (lt-leb _ _ c.if-a-ge-COUNTS.false) _
-    (first_here _ _ _ _ (le-leb _ _ c.if-settings-a.true) refl)
+    (first_here _ _ _ _ (le-leb _ _ c.if-c-a.true) refl)
 
 pub returns-then-not-covers : goal.returns-then-not-covers
 unfolding number_of
 returns-then-not-covers c =
     judged_on _ _ _ _ (sym c.bad_time.ensures ∙ c.if-bad_time.false) (lt-leb _ _ c.if-a-ge-COUNTS.false) _
-    (first_later _ _ _ _ (lt-leb _ _ c.if-settings-a.false) (first_here _ _ _ _ (ap not (sym c.covers.ensures ∙ c.if-not-covers.true)) refl))
+    (first_later _ _ _ _ (lt-leb _ _ c.if-c-a.false) (first_here _ _ _ _ (ap not (sym c.covers.ensures ∙ c.if-not-covers.true)) refl))
 
 pub returns : goal.returns
 unfolding number_of
 returns c =
     judged_on _ _ _ _ (sym c.bad_time.ensures ∙ c.if-bad_time.false) (lt-leb _ _ c.if-a-ge-COUNTS.false) _
-    (first_later _ _ _ _ (lt-leb _ _ c.if-settings-a.false)
+    (first_later _ _ _ _ (lt-leb _ _ c.if-c-a.false)
     (first_later _ _ _ _ (ap not (sym c.covers.ensures ∙ c.if-not-covers.false)) c.judge_ack.ensures))

@@ -12,10 +12,10 @@ pub returns-then-bad_time : goal.returns-then-bad_time
 unfolding number_of
 returns-then-bad_time c = judged_3 _ _ _ _ (sym c.bad_time.ensures ∙ c.if-bad_time.true)
 
-pub returns-then-settings-a : goal.returns-then-settings-a
+pub returns-then-c-a : goal.returns-then-c-a
 unfolding number_of
-returns-then-settings-a c =
-    judged_field _ _ _ _ (sym c.bad_time.ensures ∙ c.if-bad_time.false) (le-leb _ _ c.if-settings-a.true)
+returns-then-c-a c =
+    judged_field _ _ _ _ (sym c.bad_time.ensures ∙ c.if-bad_time.false) (le-leb _ _ c.if-c-a.true)
 
 pub returns : goal.returns
 unfolding number_of
@@ -25,4 +25,4 @@ returns c =
     let a = c.args in
     judged_on _ _ _ (mark_rows a.c.flow a.c.totals.in_flight (slots) a.a.psn)
     (sym c.bad_time.ensures ∙ c.if-bad_time.false)
-    (lt-leb _ _ c.if-settings-a.false) (number_of c.judge_mark.result) c.judge_mark.ensures
+    (lt-leb _ _ c.if-c-a.false) (number_of c.judge_mark.result) c.judge_mark.ensures

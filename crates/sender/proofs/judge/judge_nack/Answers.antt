@@ -15,14 +15,14 @@ unfolding number_of
 returns-then-a-gt-REASON_MOST c =
     judged_field _ _ _ _ (sym c.bad_time.ensures ∙ c.if-bad_time.false) (lt-ltb _ _ c.if-a-gt-REASON_MOST.true)
 
-pub returns-then-settings-a : goal.returns-then-settings-a
+pub returns-then-c-a : goal.returns-then-c-a
 unfolding number_of
-returns-then-settings-a c =
+returns-then-c-a c =
     judged_on _ _ _ _ (sym c.bad_time.ensures ∙ c.if-bad_time.false) (le-ltb _ _ c.if-a-gt-REASON_MOST.false) _
-    (first_here _ _ _ _ (le-leb _ _ c.if-settings-a.true) refl)
+    (first_here _ _ _ _ (le-leb _ _ c.if-c-a.true) refl)
 
 pub returns : goal.returns
 unfolding number_of
 returns c =
     judged_on _ _ _ _ (sym c.bad_time.ensures ∙ c.if-bad_time.false) (le-ltb _ _ c.if-a-gt-REASON_MOST.false) _
-    (first_later _ _ _ _ (lt-leb _ _ c.if-settings-a.false) c.judge_mark.ensures)
+    (first_later _ _ _ _ (lt-leb _ _ c.if-c-a.false) c.judge_mark.ensures)

@@ -10,14 +10,14 @@ pub returns-then-bad_time : goal.returns-then-bad_time
 unfolding number_of
 returns-then-bad_time c = judged_3 _ _ _ _ (sym c.bad_time.ensures ∙ c.if-bad_time.true)
 
-pub returns-then-bytes-backlog : goal.returns-then-bytes-backlog
+pub returns-then-bytes-c : goal.returns-then-bytes-c
 unfolding number_of
-returns-then-bytes-backlog c =
+returns-then-bytes-c c =
     judged_field _ _ _ _ (sym c.bad_time.ensures ∙ c.if-bad_time.false)
-    (rw (← over_test backlog_most c.args.c.flow.backlog c.args.bytes c.requires.backlog_high) c.if-bytes-backlog.true)
+    (rw (← over_test backlog_most c.args.c.flow.backlog c.args.bytes c.requires.backlog_high) c.if-bytes-c.true)
 
 pub returns : goal.returns
 unfolding number_of
 returns c =
     judged_on _ _ _ _ (sym c.bad_time.ensures ∙ c.if-bad_time.false)
-    (rw (← over_test backlog_most c.args.c.flow.backlog c.args.bytes c.requires.backlog_high) c.if-bytes-backlog.false) 0 first_none
+    (rw (← over_test backlog_most c.args.c.flow.backlog c.args.bytes c.requires.backlog_high) c.if-bytes-c.false) 0 first_none

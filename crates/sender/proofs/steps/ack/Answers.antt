@@ -10,7 +10,7 @@ use Rattle.sender.proofs.Views.{sound_lengths}
 use Rattle.sender.proofs.Stepping.{Ackable, ack_facts, avoid_asks, Ready, ready_above, ready_word, state_asks, ack_ready, sample_at}
 use Rattle.sender.proofs.Stepping.{sampled_at, ack_is, ack_says_lem}
 use Rattle.sender.proofs.steps.ack.Goals as goal
-use Rattle.sender.proofs.steps.ack.Goals.{After-acknowledge-after, Start}
+use Rattle.sender.proofs.steps.ack.Goals.{After-acknowledge, Start}
 
 facts : (c : Start) →
     let world-in = world c.args.c (memory_of_mut c.args.ring.now)
@@ -24,7 +24,7 @@ facts c =
 accepted : (c : Start) → Ackable c.args.time c.args.a c.args.c
 accepted c = ack_facts c.args.time c.args.a c.args.c c.requires.c_value
 
-after : (c : After-acknowledge-after) →
+after : (c : After-acknowledge) →
     let world-in = world c.args.c (memory_of_mut c.args.ring.now)
     c.args.evs.now in
     let ledger-out = acknowledge_of c.args.a.cum c.args.a.map c.args.a.count (ledger_of (world-in)) in
@@ -43,24 +43,24 @@ find-x-requires c =
     c.args.evs.now in
     rw c.look.ensures (sound_lengths _ (world-in) c.requires.holds.so)
 
-pub acknowledge-after-requires : goal.acknowledge-after-requires
-acknowledge-after-requires c =
+pub acknowledge-requires : goal.acknowledge-requires
+acknowledge-requires c =
     let world-in = world c.args.c (memory_of_mut c.args.ring.now)
     c.args.evs.now in
     record {
       sound_ledger = holds_ledger (world-in) c.requires.holds;
-      count_value = (accepted (goal.at.acknowledge-after-requires c).Start).rows;
+      count_value = (accepted (goal.at.acknowledge-requires c).Start).rows;
     }
 
 pub ack-w-requires : goal.ack-w-requires
 ack-w-requires c =
-    let R = after (goal.at.ack-w-requires c).After-acknowledge-after in
+    let R = after (goal.at.ack-w-requires c).After-acknowledge in
     record {
       in_range = R.range;
       sound_window = R.sound_window_lem;
       sampled = sampled_at _ _ _ _ _ _ c.sample_in-sample.ensures
           c.sampled-sampling.ensures;
-      newly_lt_newly_end = (c.newly-newly.ensures.1, R.early, ready_above R c.acknowledge-after.ensures.kept);
+      newly_lt_newly_end = (c.newly-newly.ensures.1, R.early, ready_above R c.acknowledge.ensures.kept);
     }
 
 -- what the last two calls ask are bounds that the window before the ACK and the one after it both keep: a step that hands on the wrong one
@@ -72,9 +72,9 @@ avoid-requires c =
 
 pub state_of-state-requires : goal.state_of-state-requires
 state_of-state-requires c =
-    let R = after (goal.at.state_of-state-requires c).After-acknowledge-after in
-    let old = state_asks R c.acknowledge-after.ensures.kept R.sound_window_lem in
-    let new = state_asks R c.acknowledge-after.ensures.kept c.ack-w.ensures.sound in
+    let R = after (goal.at.state_of-state-requires c).After-acknowledge in
+    let old = state_asks R c.acknowledge.ensures.kept R.sound_window_lem in
+    let new = state_asks R c.acknowledge.ensures.kept c.ack-w.ensures.sound in
     record {
       flown = new.0;
       mtu_bound = (new.1.0, omega (arith, old.1.1, new.1.1));
@@ -84,11 +84,11 @@ pub returns-clause-evs_value : goal.returns-clause-evs_value
 returns-clause-evs_value c =
     let world-in = world c.args.c (memory_of_mut c.args.ring.now)
     c.args.evs.now in
-    let kept_out = kept c.acknowledge-after.result.flow c.acknowledge-after.result.totals (memory_of_mut c.acknowledge-after.new.ring) in
+    let kept_out = kept c.acknowledge.result.flow c.acknowledge.result.totals (memory_of_mut c.acknowledge.new.ring) in
     ack_is c.args.time (view_of (world-in)) {m = (kept_out).slots}
-    (ready_word (after (goal.at.returns-clause-evs_value c).After-acknowledge-after) c.acknowledge-after.ensures.kept)
+    (ready_word (after (goal.at.returns-clause-evs_value c).After-acknowledge) c.acknowledge.ensures.kept)
     c.state_of-state.ensures c.args.a c.newly-newly.ensures.0 (rw c.look.ensures at c.find-x.ensures)
-    (sample_at _ _ _ _ _ _ c.sample_in-sample.ensures c.sampled-sampling.ensures) c.acknowledge-after.ensures.kept c.ack-w.ensures.is
+    (sample_at _ _ _ _ _ _ c.sample_in-sample.ensures c.sampled-sampling.ensures) c.acknowledge.ensures.kept c.ack-w.ensures.is
     c.avoid.ensures
 
 pub returns-clause-sampling_value : goal.returns-clause-sampling_value

@@ -23,8 +23,8 @@ choose-taken-requires c = record {
   early = (times_early c.args.evs.now c.requires.evs_value.0, omega arith);
 }
 
-pub overflow_cast-taken : goal.overflow_cast-taken
-overflow_cast-taken c = omega (arith, inside (goal.at.overflow_cast-taken c).After-choose-taken)
+pub overflow_cast-cursor : goal.overflow_cast-cursor
+overflow_cast-cursor c = omega (arith, inside (goal.at.overflow_cast-cursor c).After-choose-taken)
 
 pub overflow_cast-result : goal.overflow_cast-result
 overflow_cast-result c = omega (arith, inside (goal.at.overflow_cast-result c).After-choose-taken)

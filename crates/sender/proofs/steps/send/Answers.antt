@@ -11,7 +11,7 @@ use Rattle.sender.specs.Steps.{send_step}
 use Rattle.sender.proofs.Sounds.{SoundFacts, among_facts, holds_ledger}
 use Rattle.sender.proofs.Stepping.{Sendable, send_facts, Ready, state_asks, push_asks, resend_asks, send_ready, settles}
 use Rattle.sender.proofs.steps.send.Goals as goal
-use Rattle.sender.proofs.steps.send.Goals.{After-push-after, After-resend-after, Start}
+use Rattle.sender.proofs.steps.send.Goals.{After-push, After-resend, Start}
 
 facts : (c : Start) →
     let world-in = world c.args.c (memory_of_mut c.args.ring.now)
@@ -39,39 +39,39 @@ ready : (c : Start) →
     Ready c.requires.holds.others c.args.c.settings c.args.time c.args.c.window (sent-of)
 ready c = send_ready (facts c) (accepted c)
 
-is_resend : (c : After-resend-after) →
-    let kept-resend = kept c.resend-after.result.flow c.resend-after.result.totals
-    (memory_of_mut c.resend-after.new.ring) in
+is_resend : (c : After-resend) →
+    let kept-resend = kept c.resend.result.flow c.resend.result.totals
+    (memory_of_mut c.resend.new.ring) in
     let world-in = world c.args.c (memory_of_mut c.args.ring.now)
     c.args.evs.now in
     let sent-of = if_so c.args.a.resend (resend_of c.args.time c.args.a.psn (ledger_of (world-in)))
     (push_of c.args.time c.args.a.size (ledger_of (world-in))) in
     kept-resend ≡ kept_of (sent-of)
-is_resend c = c.resend-after.ensures.kept ∙ ap kept_of (so_yes _ _ _ _ c.if-a.true refl)
+is_resend c = c.resend.ensures.kept ∙ ap kept_of (so_yes _ _ _ _ c.if-a.true refl)
 
-is_push : (c : After-push-after) →
-    let kept_push = kept c.push-after.result.flow c.push-after.result.totals
-    (memory_of_mut c.push-after.new.ring) in
+is_push : (c : After-push) →
+    let kept_push = kept c.push.result.flow c.push.result.totals
+    (memory_of_mut c.push.new.ring) in
     let world-in = world c.args.c (memory_of_mut c.args.ring.now)
     c.args.evs.now in
     let sent-of = if_so c.args.a.resend (resend_of c.args.time c.args.a.psn (ledger_of (world-in)))
     (push_of c.args.time c.args.a.size (ledger_of (world-in))) in
     kept_push ≡ kept_of (sent-of)
-is_push c = c.push-after.ensures.kept ∙ ap kept_of (so_no _ _ _ _ c.if-a.false refl)
+is_push c = c.push.ensures.kept ∙ ap kept_of (so_no _ _ _ _ c.if-a.false refl)
 
-pub resend-after-requires : goal.resend-after-requires
-resend-after-requires c =
+pub resend-requires : goal.resend-requires
+resend-requires c =
     let world-in = world c.args.c (memory_of_mut c.args.ring.now)
     c.args.evs.now in
     record {
       sound_ledger = holds_ledger (world-in) c.requires.holds;
-      psn_value = resend_asks (facts (goal.at.resend-after-requires c).Start) (accepted (goal.at.resend-after-requires c).Start) c.if-a.true;
+      psn_value = resend_asks (facts (goal.at.resend-requires c).Start) (accepted (goal.at.resend-requires c).Start) c.if-a.true;
     }
 
 pub state_of-requires : goal.state_of-requires
 state_of-requires c = record {
-  flown = (state_asks (ready (goal.at.state_of-requires c).Start) (is_resend (goal.at.state_of-requires c).After-resend-after) (ready (goal.at.state_of-requires c).Start).sound_window_lem).0;
-  mtu_bound = (state_asks (ready (goal.at.state_of-requires c).Start) (is_resend (goal.at.state_of-requires c).After-resend-after) (ready (goal.at.state_of-requires c).Start).sound_window_lem).1;
+  flown = (state_asks (ready (goal.at.state_of-requires c).Start) (is_resend (goal.at.state_of-requires c).After-resend) (ready (goal.at.state_of-requires c).Start).sound_window_lem).0;
+  mtu_bound = (state_asks (ready (goal.at.state_of-requires c).Start) (is_resend (goal.at.state_of-requires c).After-resend) (ready (goal.at.state_of-requires c).Start).sound_window_lem).1;
 }
 
 pub returns-then-a-clause-left : goal.returns-then-a-clause-left
@@ -81,16 +81,16 @@ returns-then-a-clause-left c =
     c.args.evs.now in
     let sent-of = if_so c.args.a.resend (resend_of c.args.time c.args.a.psn (ledger_of (world-in)))
     (push_of c.args.time c.args.a.size (ledger_of (world-in))) in
-    let kept-resend = kept c.resend-after.result.flow c.resend-after.result.totals
-    (memory_of_mut c.resend-after.new.ring) in
-    settles c.args.time c.args.c (sent-of) {m = (kept-resend).slots} (is_resend (goal.at.returns-then-a-clause-left c).After-resend-after) refl refl c.state_of.ensures
+    let kept-resend = kept c.resend.result.flow c.resend.result.totals
+    (memory_of_mut c.resend.new.ring) in
+    settles c.args.time c.args.c (sent-of) {m = (kept-resend).slots} (is_resend (goal.at.returns-then-a-clause-left c).After-resend) refl refl c.state_of.ensures
 
-pub push-after-requires : goal.push-after-requires
-push-after-requires c =
+pub push-requires : goal.push-requires
+push-requires c =
     let world-in = world c.args.c (memory_of_mut c.args.ring.now)
     c.args.evs.now in
     let w = world-in in
-    let asks = push_asks (facts (goal.at.push-after-requires c).Start) (accepted (goal.at.push-after-requires c).Start) c.if-a.false in
+    let asks = push_asks (facts (goal.at.push-requires c).Start) (accepted (goal.at.push-requires c).Start) c.if-a.false in
     record {
       sound_ledger = holds_ledger w c.requires.holds;
       bytes_le_backlog = asks.0;
@@ -99,8 +99,8 @@ push-after-requires c =
 
 pub state_of-requires-2 : goal.state_of-requires-2
 state_of-requires-2 c = record {
-  flown = (state_asks (ready (goal.at.state_of-requires-2 c).Start) (is_push (goal.at.state_of-requires-2 c).After-push-after) (ready (goal.at.state_of-requires-2 c).Start).sound_window_lem).0;
-  mtu_bound = (state_asks (ready (goal.at.state_of-requires-2 c).Start) (is_push (goal.at.state_of-requires-2 c).After-push-after) (ready (goal.at.state_of-requires-2 c).Start).sound_window_lem).1;
+  flown = (state_asks (ready (goal.at.state_of-requires-2 c).Start) (is_push (goal.at.state_of-requires-2 c).After-push) (ready (goal.at.state_of-requires-2 c).Start).sound_window_lem).0;
+  mtu_bound = (state_asks (ready (goal.at.state_of-requires-2 c).Start) (is_push (goal.at.state_of-requires-2 c).After-push) (ready (goal.at.state_of-requires-2 c).Start).sound_window_lem).1;
 }
 
 pub returns-clause-left : goal.returns-clause-left
@@ -110,6 +110,6 @@ returns-clause-left c =
     c.args.evs.now in
     let sent-of = if_so c.args.a.resend (resend_of c.args.time c.args.a.psn (ledger_of (world-in)))
     (push_of c.args.time c.args.a.size (ledger_of (world-in))) in
-    let kept_push = kept c.push-after.result.flow c.push-after.result.totals
-    (memory_of_mut c.push-after.new.ring) in
-    settles c.args.time c.args.c (sent-of) {m = (kept_push).slots} (is_push (goal.at.returns-clause-left c).After-push-after) refl refl c.state_of-2.ensures
+    let kept_push = kept c.push.result.flow c.push.result.totals
+    (memory_of_mut c.push.new.ring) in
+    settles c.args.time c.args.c (sent-of) {m = (kept_push).slots} (is_push (goal.at.returns-clause-left c).After-push) refl refl c.state_of-2.ensures
