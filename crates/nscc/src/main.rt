@@ -6,7 +6,7 @@
 mod options;
 
 use crate::options::{Log, Options, WORD_MOST};
-use replay_stream::Task;
+use replay_stream::{Task, Trouble};
 use std::env::Env;
 use std::fs::OpenOptions;
 use std::io::{Cursor, ErrorKind, Read, Write};
@@ -95,23 +95,18 @@ fn tell_long(messages: &impl Print, name: &[u8]) -> Failure {
     Failure::Failed
 }
 
-// Says why a log was not replayed to its end, where it was not.
-fn tell_ending(
-    messages: &impl Print,
-    input: replay_stream::Input,
-    name: &[u8],
-) -> Result<(), Failure> {
-    match input {
-        replay_stream::Input::Done => Ok(()),
-        replay_stream::Input::Long => Err(tell_long(messages, name)),
-        replay_stream::Input::Failed(why) => Err(tell_failed(messages, name, why)),
-        replay_stream::Input::Unwritten(why) => tell_written(messages, Err(why)),
-    }
+// Says why a text was not written.
+fn tell_unwritten(messages: &impl Print, why: io::Error) -> Failure {
+    tell_failed(messages, b"standard output", why)
 }
 
-// Says why a text was not written, where it was not.
-fn tell_written(messages: &impl Print, written: io::Result<()>) -> Result<(), Failure> {
-    written.map_err(|why| tell_failed(messages, b"standard output", why))
+// Says why a log was not replayed to its end.
+fn tell_trouble(messages: &impl Print, trouble: Trouble, name: &[u8]) -> Failure {
+    match trouble {
+        Trouble::Long => tell_long(messages, name),
+        Trouble::Failed(why) => tell_failed(messages, name, why),
+        Trouble::Unwritten(why) => tell_unwritten(messages, why),
+    }
 }
 
 // Writes each line, whether those before are written or not, and answers whether all are: if not, why the last that is not was not.
@@ -133,7 +128,9 @@ fn replay_log<L: Read, R: Print + Eprint>(
     task: Task,
 ) -> Result<(), Failure> {
     let replayed = replay_stream::replay_from(rt, log, task);
-    tell_ending(messages, replayed.input, name)
+    replayed
+        .ended
+        .map_err(|trouble| tell_trouble(messages, trouble, name))
 }
 
 // Replays the log that standard input gives.
@@ -206,10 +203,12 @@ fn perform<R: Print + Eprint + Input + Files + Env>(
         return Err(tell_unknown(rt, messages, index));
     }
     if o.help {
-        return tell_written(messages, write_help(rt));
+        return write_help(rt).map_err(|why| tell_unwritten(messages, why));
     }
     if o.version {
-        return tell_written(messages, rt.write_all(b"nscc 1.0.0\n"));
+        return rt
+            .write_all(b"nscc 1.0.0\n")
+            .map_err(|why| tell_unwritten(messages, why));
     }
     match o.log {
         Log::Unnamed => replay_input(rt, messages, o.task()),

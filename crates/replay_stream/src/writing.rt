@@ -1,22 +1,25 @@
 // What the programs write: progress to standard error; header, lines and report to standard output, where each write's answer is looked at.
-use crate::Task;
-use crate::reading::Reading;
+use crate::{Task, Trouble};
 use replay::Place;
 use report_text::SHEET_MOST;
 use std::io;
 
 // How many records are done, on standard error. Whether that is written is not looked at.
 fn tell(rt: &impl Eprint, place: Place) {
-    let done = place.done;
-    let _ = eprintln!(rt; "nscc: {done} records");
+    let _ = eprintln!(rt; "nscc: {} records", place.done);
 }
 
 // Behind each part of a report that brought bytes; those of lines are told as they are written.
-pub(crate) fn tell_counted(rt: &impl Eprint, task: Task, part: Reading, place: Place) {
+pub(crate) fn tell_counted(
+    rt: &impl Eprint,
+    task: Task,
+    over: Option<Result<(), Trouble>>,
+    place: Place,
+) {
     let Task::Report { progress } = task else {
         return;
     };
-    if progress & part.on {
+    if progress && over.is_none() {
         tell(rt, place);
     }
 }

@@ -4,7 +4,7 @@
 ghost use Rattle.std.specs.Prelude.{◌≤◌, length, IfOk};
 
 use log_records::back::write_back;
-use replay_stream::{Input, Task};
+use replay_stream::{Task, Trouble};
 use std::env::{Env, FillError};
 use std::io::{ErrorKind, Read};
 use std::rt::Files;
@@ -17,12 +17,11 @@ const NAME_MOST: usize = 4096;
 const LOG_MOST: usize = 64 << 10;
 
 // What stands behind the lines of a log that was not replayed to its end.
-fn complain(rt: &impl Print, input: Input) -> io::Result<()> {
-    match input {
-        Input::Done => Ok(()),
-        Input::Long => println!(rt; "reaches 2^48 bytes"),
-        Input::Failed(_) => println!(rt; "not read"),
-        Input::Unwritten(why) => Err(why),
+fn complain(rt: &impl Print, trouble: Trouble) -> io::Result<()> {
+    match trouble {
+        Trouble::Long => println!(rt; "reaches 2^48 bytes"),
+        Trouble::Failed(_) => println!(rt; "not read"),
+        Trouble::Unwritten(why) => Err(why),
     }
 }
 
@@ -76,7 +75,7 @@ fn back_one<R: Print + Files>(rt: &R, name: &[u8]) -> io::Result<()> {
 // Replays a log, writes its lines, and says where it did not come to its end.
 fn replay_lines<L: Read, R: Print + Eprint>(rt: &R, log: &mut L) -> io::Result<()> {
     let replayed = replay_stream::replay_from(rt, log, Task::Lines { progress: false });
-    complain(rt, replayed.input)
+    replayed.ended.or_else(|trouble| complain(rt, trouble))
 }
 
 // One log: its name, what its replay writes, and how much of it is written back. One that can't be opened has the header only, and is not
@@ -89,7 +88,7 @@ fn replay_one<R: Print + Eprint + Files>(rt: &R, name: &[u8]) -> io::Result<()> 
         Ok(mut log) => replay_lines(rt, &mut log)?,
         Err(why) => {
             replay_lines(rt, &mut io::empty())?;
-            complain(rt, Input::Failed(why))?;
+            complain(rt, Trouble::Failed(why))?;
         }
     }
     back_one(rt, name)
