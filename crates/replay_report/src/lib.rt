@@ -73,9 +73,7 @@ fn tally_turns<'a, 'b, 'c, 'd, 'e, 'f, 'g, 'h>(
                 state,
             };
         }
-        let shown = t.shown;
-        let verdict = t.verdict;
-        count(figures, stands_at(source, log, at), verdict, shown);
+        count(figures, stands_at(source, log, at), t.verdict, t.shown);
     }
 }
 
