@@ -137,8 +137,7 @@ module _ (at : ℕ) (bs cs : List ℕ) (long : length bs ≡ length cs) (r : Rec
       (λ four e.
       sym (lt_no (length cs) 4 (whole r next) (Err Cut) _ (omega arith)
       (sym (ap (λ (n : ℕ). look_up table n (whole_of at cs) (Err Malformed)) (sym (key_alike bs cs long head))
-      ∙ look_two (λ (p q : Parsed). p ≡ whole r next → q ≡ whole r next) k
-      (whole_of at bs) (whole_of at cs) (Err Malformed) (Err Malformed) table
+      ∙ look_two (λ (p q : Parsed). p ≡ whole r next → q ≡ whole r next) k (whole_of at bs) (whole_of at cs) (Err Malformed) (Err Malformed) table
       (each_map (λ x. head_size + total x.fields ≤ x.len + 2)
       (λ x. k ≡ key_of x → whole_of at bs x ≡ whole r next → whole_of at cs x ≡ whole r next)
       (λ x fits _. row_alike x fits) table ends)
@@ -270,14 +269,12 @@ module _ (at : ℕ) (bs : List ℕ) (time cum map trigger count service ev flags
         }
 
     -- its row is found by its key
-    ack_row_lem : (whose : Option ℕ) → look_up table (key_of (ack_row whose)) (whole_of at cs) (Err Malformed)
-        ≡ whole_of at cs (ack_row whose)
+    ack_row_lem : (whose : Option ℕ) → look_up table (key_of (ack_row whose)) (whole_of at cs) (Err Malformed) ≡ whole_of at cs (ack_row whose)
     unfolding look_up if_eq
     ack_row_lem None = refl
     ack_row_lem (Some flow) = refl
 
-    front_other : (whose : Option ℕ) → Unserved whose → front_of at bs ≡ whole (heard whose) next
-        → front_of at cs ≡ whole (other whose) next
+    front_other : (whose : Option ℕ) → Unserved whose → front_of at bs ≡ whole (heard whose) next → front_of at cs ≡ whole (other whose) next
     unfolding front_of
     front_other whose u e =
         let a = ack_told whose e in
@@ -293,8 +290,7 @@ module _ (log : List ℕ) (at : ℕ) (r : Record) (next : ℕ) where
   parse_front : parse_at log at ≡ whole r next → (at < length log) × (front_of at (drop at log) ≡ whole r next)
   unfolding parse_at
   parse_front =
-      lt_both (λ (p : Parsed). p ≡ whole r next → (at < length log) × (front_of at (drop at log) ≡ whole r next))
-      at (length log) _ (Ok None)
+      lt_both (λ (p : Parsed). p ≡ whole r next → (at < length log) × (front_of at (drop at log) ≡ whole r next)) at (length log) _ (Ok None)
       (λ h e. (h, e))
       (λ _ e. let z : ◌≡◌ {A = ℕ} 0 1 = cc in absurd (let wrong : ⊥ = omega arith in wrong))
 
@@ -315,8 +311,7 @@ module _ (log other : List ℕ) (at : ℕ) (long : length log ≡ length other) 
   rest_alike same =
       let rest : drop at log ≡ drop at other = ext_get_or 0 (drop at log) (drop at other) drop_long
       (λ i _. drop_alike i (same (at + i) (omega arith))) in
-      ap (λ (n : ℕ). if_lt at n (front_of at (drop at log)) (Ok None)) long
-      ∙ ap (λ (l : List ℕ). if_lt at (length other) (front_of at l) (Ok None)) rest
+      ap (λ (n : ℕ). if_lt at n (front_of at (drop at log)) (Ok None)) long ∙ ap (λ (l : List ℕ). if_lt at (length other) (front_of at l) (Ok None)) rest
 
   -- a record whose bytes are alike is the same
   pub parse_alike : (r : Record) (next : ℕ) → Alike log other at (at + head_size) → Alike log other at next
