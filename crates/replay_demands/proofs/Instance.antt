@@ -48,12 +48,12 @@ use Rattle.context.specs.Context.{Context, context, Answered, joined_of, shared_
 use Rattle.context.specs.Sound.{is_cut, stands_at, totals_over, named_ok, sound_context}
 use Rattle.context.specs.Start.{lengths_ok, fresh_state, fresh_table, on_set_up}
 use Rattle.context.specs.Events.{decided, on_new_data, on_send, on_ack}
-use Rattle.std.specs.Prelude.{None, Some}
 use Rattle.log_records.specs.Layout.{look_up}
 use Rattle.log_records.specs.Parse.{proper_of, check_of, whole_of, front_of, parse_at}
 use Rattle.log_records.specs.Logs.{read_in, read_from, records_of}
 use Rattle.log_records.specs.declared.record.Record.{Record}
 use Rattle.log_records.specs.declared.record.Record.TheVariants as log
+use Rattle.log_records.specs.declared.record.Whose.TheVariants.{First, Flow}
 use Rattle.replay.specs.Places.{Turning}
 use Rattle.demands.specs.Cases.{settings_e}
 use Rattle.demands.specs.Events.{Event, new_data, send, ack}
@@ -79,13 +79,13 @@ worked =
 -- the records behind record 1
 abbrev pub behind : List Record
 behind =
-    log.NewData 0 None 8192
-    ∷ log.Send 10 None 4096 0 0
-    ∷ log.Send 20 None 4096 2 0
-    ∷ log.Ack 110 None 0 0 16 4 0 0 0
-    ∷ log.NewData 110 (Some 1) 4096
-    ∷ log.Send 120 (Some 1) 4096 0 0
-    ∷ log.Send 120 (Some 2) 4096 0 0
+    log.NewData 0 First 8192
+    ∷ log.Send 10 First 4096 0 0
+    ∷ log.Send 20 First 4096 2 0
+    ∷ log.Ack 110 First 0 0 16 4 0 0 0
+    ∷ log.NewData 110 (Flow 1) 4096
+    ∷ log.Send 120 (Flow 1) 4096 0 0
+    ∷ log.Send 120 (Flow 2) 4096 0 0
     ∷ []
 
 -- settings E

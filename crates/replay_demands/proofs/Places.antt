@@ -11,7 +11,9 @@ use Rattle.rules.specs.Branch.{eq_both}
 use Rattle.window.specs.declared.Settings.{Settings}
 use Rattle.context.specs.Context.{Context, Answered}
 use Rattle.log_records.specs.Logs.{stop_of}
-use Rattle.log_records.specs.Parse.{parse_at, parsed_number, Parsed}
+use Rattle.log_records.specs.Parse.{parse_at, parsed_number}
+use Rattle.log_records.specs.declared.parse.Parsed.{Parsed}
+use Rattle.log_records.specs.declared.parse.Parsed.TheVariants.{Whole, End, Cut, Malformed}
 use Rattle.log_records.specs.declared.record.Record.{Record}
 use Rattle.replay.specs.Places.{Feed, logged, Turning, place_after, turn_of, turns_of}
 use Rattle.replay.specs.Records.{event_of}
@@ -25,7 +27,6 @@ use Rattle.replay_demands.specs.Histories.{start, turns, events_of, with_stop, s
 use Rattle.replay_demands.specs.Histories.{answers, stop}
 use Rattle.replay_demands.specs.Recorded.{RecordCounted, ContextAfter, NumberOf, NoEvent}
 use Rattle.replay_demands.proofs.Replays.{stopped_turns, replayed}
-use Rattle.std.specs.Prelude.{Ok, Err}
 
 -- ---- lists
 
@@ -134,8 +135,10 @@ stops_so (r ∷ rs) n so = by (event_of r) (stops_so rs n so)
     by (event.SetUp s) more = inr refl
 
 read_so : (x : Parsed) → (parsed_number x ≡ 0) ⊎ (parsed_number x ≡ 12)
-read_so (Ok x) = inl refl
-read_so (Err why) = inr refl
+read_so (Whole r next) = inl refl
+read_so End = inl refl
+read_so Cut = inr refl
+read_so Malformed = inr refl
 
 -- behind the events there is a refusal or nothing
 no_event_at : (es : List Flowed) (w : Context) (n k : ℕ) (a : Answered) → (n ≡ 0) ⊎ (n ≡ 12) → get_elem? es k ≡ none

@@ -16,10 +16,12 @@ use Rattle.window.specs.declared.Settings.{Settings}
 use Rattle.context.specs.Context.{Context, Answered}
 use Rattle.context.specs.Start.{on_set_up}
 use Rattle.sender.specs.Statements.{First}
-use Rattle.log_records.specs.Parse.{parse_at, parsed_number, Parsed, whole}
+use Rattle.log_records.specs.Parse.{parse_at, parsed_number}
 use Rattle.log_records.specs.Logs.{Reading, read_from, records_of, stop_of}
 use Rattle.log_records.specs.Statements.{Run, ended, refused, onward}
 use Rattle.log_records.specs.declared.record.Record.{Record}
+use Rattle.log_records.specs.declared.parse.Parsed.{Parsed}
+use Rattle.log_records.specs.declared.parse.Parsed.TheVariants.{Whole, End, Cut, Malformed}
 use Rattle.log_records.proofs.Logs.{read_on_lem, read_end, read_twelve}
 use Rattle.log_records.proofs.Runs.{every_log}
 use Rattle.replay.specs.Answers.{malformed, shown_says, shown_path, shown_first, on_first, on_later, on_event}
@@ -37,7 +39,6 @@ use Rattle.context_demands.specs.Events.{Flowed, rows_at, rows_of, answer, run}
 use Rattle.context_demands.proofs.Theorems.{number_exact}
 use Rattle.replay_demands.specs.Histories.{start, of, with_event, with_stop, events_of, stops_with, answer_of, answers, stop}
 use Rattle.replay_demands.specs.Recorded.{Replayed}
-use Rattle.std.specs.Prelude.{None, Ok, Err}
 
 -- ---- no event is answered 12, at which a replay stops
 
@@ -96,9 +97,9 @@ module _ (log : List ℕ) (at done : ℕ) (w : Context) where
   turn_at x e = ap (λ (y : Parsed). on_found (place at done) w (found_in y)) e
 
   -- none at the end
-  pub end_turns : parse_at log at ≡ Ok None → turns_of (logged log) (place at done) w ≡ []
+  pub end_turns : parse_at log at ≡ End → turns_of (logged log) (place at done) w ≡ []
   unfolding on_found found_in
-  end_turns e = turns_none (logged log) (place at done) w (ap (λ (t : Turning). t.ended) (turn_at (Ok None) e))
+  end_turns e = turns_none (logged log) (place at done) w (ap (λ (t : Turning). t.ended) (turn_at End e))
 
   -- one, and those behind it
   pub one_turn : (t : Turning) → turn_of (logged log) (place at done) w ≡ t → t.ended ≡ false
@@ -112,8 +113,10 @@ stopped_turns log p w s = turns_none (logged log) p w (ap (λ (t : Turning). t.e
 -- a refusal 12 stops a replay: one turn, which changes nothing
 found_twelve : (x : Parsed) → parsed_number x ≡ 12 → found_in x ≡ found.Malformed
 unfolding found_in
-found_twelve (Ok x) n = absurd (let no_record : ⊥ = omega (arith, n) in no_record)
-found_twelve (Err why) n = refl
+found_twelve (Whole r next) n = absurd (let no_record : ⊥ = omega (arith, n) in no_record)
+found_twelve End n = absurd (let no_record : ⊥ = omega (arith, n) in no_record)
+found_twelve Cut n = refl
+found_twelve Malformed n = refl
 
 pub refused_turn : (log : List ℕ) (at done : ℕ) (w : Context) → parsed_number (parse_at log at) ≡ 12
     → turn_of (logged log) (place at done) w ≡ turned (place at done) at (malformed w)
@@ -130,11 +133,11 @@ twelve_turns log p next w e =
     ∙ ap (λ (ts : List Turning). t ∷ ts) (stopped_turns log t.place w refl)
 
 -- a record behind record 1
-module _ (log : List ℕ) (at next done : ℕ) (w : Context) (r : Record) (past : done ≡ 0 → ⊥) (reads : parse_at log at ≡ whole r next) where
+module _ (log : List ℕ) (at next done : ℕ) (w : Context) (r : Record) (past : done ≡ 0 → ⊥) (reads : parse_at log at ≡ Whole r next) where
   later_turn : (e : Logged) → event_of r ≡ e → turn_of (logged log) (place at done) w ≡ turned (place at done) next (on_later e w)
   unfolding on_found found_in on_event
   later_turn e is =
-      turn_at log at done w (whole r next) reads
+      turn_at log at done w (Whole r next) reads
       ∙ ap (turned (place at done) next) (sym (eq_no done 0 _ _ _ past refl) ∙ ap (λ (x : Logged). on_later x w) is)
 
   -- one that is an event
@@ -190,7 +193,7 @@ later {log} {at} (ended past e) done behind w = rw (read_end log at e, end_turns
 later {log} {at} (refused i n) done behind w =
     rw (read_twelve log at n, n) (ap (map answer_of) (twelve_turns log (place at done) at w (refused_turn log at done w n)))
 later {log} {at} (onward {next = next} {r = r} e a b on) done behind w =
-    rw (read_on_lem log at (whole r next) e)
+    rw (read_on_lem log at (Whole r next) e)
     (by_event log at next done w r behind e (events_of (read_from log next).records) _ (later on (done + 1) (λ z. omega arith))
     (event_of r) refl)
 
@@ -199,7 +202,7 @@ later {log} {at} (onward {next = next} {r = r} e a b on) done behind w =
 -- where it stands, and what is read behind it
 record Front (log : List ℕ) (first : Record) (behind : List Record) : Type 0 where
   next : ℕ
-  reads : parse_at log 0 ≡ whole first next
+  reads : parse_at log 0 ≡ Whole first next
   rest : (read_from log next).records ≡ behind
   stop_is : (read_from log next).stop ≡ stop_of log
   on : Run log next
@@ -214,24 +217,24 @@ front_of log at z (ended past e) first behind is = absurd (nothing_read first be
 front_of log at z (refused i n) first behind is = absurd (nothing_read first behind
     (ap (λ (R : Reading). R.records) (sym (read_twelve log 0 (rw z at n))) ∙ is))
 front_of log at z (onward {next = next} {r = r} e a b on) first behind is =
-    let reads : parse_at log 0 ≡ whole r next = rw z at e in
+    let reads : parse_at log 0 ≡ Whole r next = rw z at e in
     let both : r ∷ (read_from log next).records ≡ first ∷ behind =
-    ap (λ (R : Reading). R.records) (sym (read_on_lem log 0 (whole r next) reads)) ∙ is in
+    ap (λ (R : Reading). R.records) (sym (read_on_lem log 0 (Whole r next) reads)) ∙ is in
     let same : r ≡ first = cc in
     record {
       next = next;
-      reads = reads ∙ ap (λ (x : Record). whole x next) same;
+      reads = reads ∙ ap (λ (x : Record). Whole x next) same;
       rest = cc;
-      stop_is = ap (λ (R : Reading). R.stop) (sym (read_on_lem log 0 (whole r next) reads));
+      stop_is = ap (λ (R : Reading). R.stop) (sym (read_on_lem log 0 (Whole r next) reads));
       on = on;
     }
 
 -- what it is answered
-pub first_turn : (log : List ℕ) (next : ℕ) (lent : Context) (r : Record) (e : Logged) → parse_at log 0 ≡ whole r next → event_of r ≡ e
+pub first_turn : (log : List ℕ) (next : ℕ) (lent : Context) (r : Record) (e : Logged) → parse_at log 0 ≡ Whole r next → event_of r ≡ e
     → turn_of (logged log) start lent ≡ turned start next (on_first e lent)
 unfolding on_found found_in on_event if_eq
 first_turn log next lent r e reads is =
-    turn_at log 0 0 lent (whole r next) reads ∙ ap (λ (x : Logged). turned start next (on_first x lent)) is
+    turn_at log 0 0 lent (Whole r next) reads ∙ ap (λ (x : Logged). turned start next (on_first x lent)) is
 
 accepted_place : (number next : ℕ) → number ≡ 0 → place_after start next number (shown_first number) ≡ place next 1
 unfolding place_after shown_first if_eq

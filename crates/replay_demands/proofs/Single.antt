@@ -11,10 +11,11 @@ use Rattle.rules.specs.Branch.{if_eq, eq_no, eq_both}
 use Rattle.window.specs.declared.Settings.{Settings}
 use Rattle.context.specs.Context.{Context}
 use Rattle.context.specs.Start.{on_set_up}
-use Rattle.log_records.specs.Parse.{parse_at, whole}
+use Rattle.log_records.specs.Parse.{parse_at}
 use Rattle.log_records.specs.Logs.{Reading, read_from}
 use Rattle.log_records.specs.Statements.{Run, ended, refused, onward}
 use Rattle.log_records.specs.declared.record.Record.{Record}
+use Rattle.log_records.specs.declared.parse.Parsed.TheVariants.{Whole}
 use Rattle.log_records.proofs.Logs.{read_on_lem}
 use Rattle.log_records.proofs.Runs.{every_log}
 use Rattle.replay.specs.Answers.{malformed, shown_first, on_first}
@@ -47,7 +48,7 @@ unfolding place_after shown_first
 stopped_first next number n =
     eq_both (λ (p : Place). p.stopped ≡ true) number 12 _ _ (λ _. refl) (λ _. ap stops (sym (eq_no number 0 Nothing _ _ n refl)))
 
-module _ (log : List ℕ) (lent : Context) (next : ℕ) (r : Record) (reads : parse_at log 0 ≡ whole r next)
+module _ (log : List ℕ) (lent : Context) (next : ℕ) (r : Record) (reads : parse_at log 0 ≡ Whole r next)
     (none : (s : Settings) (behind : List Record) → Opened log lent s behind → ⊥) where
   by_first : (e : Logged) → event_of r ≡ e → Refused log lent
   unfolding on_first
@@ -65,7 +66,7 @@ module _ (log : List ℕ) (lent : Context) (next : ℕ) (r : Record) (reads : pa
       let behind = (read_from log next).records in
       absurd (none s behind (record {
         first = r;
-        reads = ap (λ (R : Reading). R.records) (read_on_lem log 0 (whole r next) reads);
+        reads = ap (λ (R : Reading). R.records) (read_on_lem log 0 (Whole r next) reads);
         settings = is;
         accepted = z;
       })))

@@ -14,11 +14,13 @@ use Rattle.log_bytes.specs.Little.{number_at}
 use Rattle.window.specs.declared.Sampling.TheVariants.{Taken, Cut, Gone, Ambiguous, NotPositive}
 use Rattle.context.specs.Context.{Context}
 use Rattle.sender.specs.declared.Ack.{Ack}
-use Rattle.std.specs.Prelude.{Option, Some, None, Ok, Err}
-use Rattle.log_records.specs.Parse.{parse_at, Parsed, whole}
+use Rattle.log_records.specs.Parse.{parse_at}
 use Rattle.log_records.specs.Layout.{flow_of}
+use Rattle.log_records.specs.declared.record.Whose.{Whose}
 use Rattle.log_records.specs.declared.record.Record.{Record}
 use Rattle.log_records.specs.declared.record.Record.TheVariants as rec
+use Rattle.log_records.specs.declared.parse.Parsed.{Parsed}
+use Rattle.log_records.specs.declared.parse.Parsed.TheVariants as parsed
 use Rattle.replay.specs.Answers.{on_event}
 use Rattle.replay.specs.Batches.{kind_of, fill_room_of, batch_of}
 use Rattle.replay.specs.Places.{logged, found_in, found_from, found_at, end_from, Turning, over, place_after, turned, on_found, turn_of, turns_in}
@@ -88,9 +90,10 @@ record_late (rec.SetUpEvs s evs) at i h = refl
 
 served_late : (x : Parsed) (at i : ℕ) → i < at + early → served_in x at i ≡ false
 unfolding served_in
-served_late (Ok (Some w)) at i h = record_late w.logged at i h
-served_late (Ok None) at i h = refl
-served_late (Err why) at i h = refl
+served_late (parsed.Whole r next) at i h = record_late r at i h
+served_late parsed.End at i h = refl
+served_late parsed.Cut at i h = refl
+served_late parsed.Malformed at i h = refl
 
 -- ---- the turn at a place, and the turns from there on
 
@@ -183,7 +186,7 @@ module _ (log other : List ℕ) (long : length log ≡ length other) where
         (λ i from. agree i from (kept_turn log k p w i (quiet i) (λ on. kept_stopped log k t.place t.after i (stop on))))))
         quiet
 
-    module _ (r : Record) (next : ℕ) (q : parse_at log p.at ≡ whole r next) where
+    module _ (r : Record) (next : ℕ) (q : parse_at log p.at ≡ parsed.Whole r next) where
       abbrev here : Turning
       here = turn_of (logged log) p w
 
@@ -214,8 +217,8 @@ module _ (log other : List ℕ) (long : length log ≡ length other) where
       match_other : ((i : ℕ) → served_by r p.at i ≡ false) → Match p w
       match_other no-ack = match_same (λ i. of_service i (no-ack i))
 
-    match_ack : (time : ℕ) (whose : Option ℕ) (cum map trigger count service ev flags next : ℕ)
-        → parse_at log p.at ≡ whole (rec.Ack time whose cum trigger count service ev flags map) next
+    match_ack : (time : ℕ) (whose : Whose) (cum map trigger count service ev flags next : ℕ)
+        → parse_at log p.at ≡ parsed.Whole (rec.Ack time whose cum trigger count service ev flags map) next
         → (b : Bool) → is_ambiguous (turn_of (logged log) p w) ≡ b → Match p w
     unfolding found_in served_by
     match_ack time whose cum map trigger count service ev flags next q false amb =
@@ -236,7 +239,7 @@ module _ (log other : List ℕ) (long : length log ≡ length other) where
         (ap (λ (t : Turning). t.shown) (sym (turn_here r next q)) ∙ kind_ambiguous _ amb)
         (λ i behind. free i (λ _ high. omega (arith, past)))
 
-    match_whole : (r : Record) (next : ℕ) → parse_at log p.at ≡ whole r next → Match p w
+    match_whole : (r : Record) (next : ℕ) → parse_at log p.at ≡ parsed.Whole r next → Match p w
     unfolding served_by
     match_whole (rec.NewData time whose bytes) next q = match_other _ next q (λ i. refl)
     match_whole (rec.Send time whose size psn resend) next q = match_other _ next q (λ i. refl)
@@ -254,17 +257,18 @@ module _ (log other : List ℕ) (long : length log ≡ length other) where
     match_refused x q e no-ack =
         match_none x q no-ack (λ _. ap (λ (t : Turning). t.place.stopped) (turn_is log p w _ go (found_is log p.at x q ∙ e)))
 
-    match_end : parse_at log p.at ≡ Ok None → Match p w
+    match_end : parse_at log p.at ≡ parsed.End → Match p w
     unfolding found_in served_in on_found
     match_end q =
-        match_none (Ok None) q (λ i. refl)
+        match_none parsed.End q (λ i. refl)
         (λ on. wrong (sym on ∙ ap (λ (t : Turning). t.ended) (turn_is log p w _ go (found_is log p.at _ q))))
 
     match_parsed : (x : Parsed) → parse_at log p.at ≡ x → Match p w
     unfolding found_in served_in
-    match_parsed (Ok (Some w)) q = match_whole w.logged w.next q
-    match_parsed (Ok None) q = match_end q
-    match_parsed (Err why) q = match_refused (Err why) q refl (λ i. refl)
+    match_parsed (parsed.Whole r next) q = match_whole r next q
+    match_parsed parsed.End q = match_end q
+    match_parsed parsed.Cut q = match_refused parsed.Cut q refl (λ i. refl)
+    match_parsed parsed.Malformed q = match_refused parsed.Malformed q refl (λ i. refl)
 
   -- ---- what a match tells
 

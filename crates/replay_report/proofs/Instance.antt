@@ -48,11 +48,12 @@ use Rattle.context.specs.Context.{Context, context, joined_of, shared_of, world_
 use Rattle.context.specs.Sound.{is_cut, stands_at, totals_over, named_ok, sound_context}
 use Rattle.context.specs.Start.{lengths_ok, fresh_state, fresh_table, on_set_up}
 use Rattle.context.specs.Events.{decided, on_new_data, on_send, on_ack, on_loss}
-use Rattle.std.specs.Prelude.{None, Option, Some}
 use Rattle.log_records.specs.Layout.{look_up}
 use Rattle.log_records.specs.Parse.{proper_of, check_of, whole_of, front_of, parse_at}
 use Rattle.log_records.specs.Write.{record_bytes}
 use Rattle.log_records.specs.declared.record.Settings.{Settings}
+use Rattle.log_records.specs.declared.record.Whose.{Whose}
+use Rattle.log_records.specs.declared.record.Whose.TheVariants.{First, Flow}
 use Rattle.log_records.specs.declared.record.Record.{Record}
 use Rattle.log_records.specs.declared.record.Record.TheVariants.{NewData, Send, Ack, Loss, SetUp}
 use Rattle.replay.specs.Answers.{shown_says, shown_first, on_first, on_later, on_event}
@@ -92,17 +93,17 @@ written [] = []
 written (r ∷ rs) = record_bytes r ++ written rs
 
 -- an ACK of PSN 0 at 140, with the retx flag clear and this service time
-abbrev acked : Option ℕ → ℕ → Record
+abbrev acked : Whose → ℕ → Record
 acked whose service = Ack 140 whose 0 0 16 service 0 0 0
 
-abbrev acked_behind : List Record → Option ℕ → ℕ → List ℕ
+abbrev acked_behind : List Record → Whose → ℕ → List ℕ
 acked_behind rs whose service = written rs ++ record_bytes (acked whose service)
 
 -- the packet is sent once; or it is lost and sent again
 abbrev once : List Record
-once = SetUp settings_e ∷ NewData 0 None 8192 ∷ Send 10 None 4096 0 0 ∷ []
+once = SetUp settings_e ∷ NewData 0 First 8192 ∷ Send 10 First 4096 0 0 ∷ []
 
-abbrev again : Option ℕ → List Record
+abbrev again : Whose → List Record
 again whose =
     SetUp settings_e
     ∷ NewData 0 whose 8192
@@ -112,14 +113,14 @@ again whose =
     ∷ []
 
 unfoldable pub once_log : ℕ → List ℕ
-once_log service = acked_behind once None service
+once_log service = acked_behind once First service
 
 unfoldable pub resent_log : ℕ → List ℕ
-resent_log service = acked_behind (again None) None service
+resent_log service = acked_behind (again First) First service
 
 -- the same of flow 1, in records that have a flow number
 unfoldable pub flow_log : ℕ → List ℕ
-flow_log service = acked_behind (again (Some 1)) (Some 1) service
+flow_log service = acked_behind (again (Flow 1)) (Flow 1) service
 
 -- where the ACK's record stands in each
 abbrev once_ack : ℕ
@@ -134,7 +135,7 @@ flow_ack = 137
 -- ---- two of them differ only in the service time
 
 -- "differ only in the service times of ACK records", of the one of this kind at this offset
-pub record ServiceOnly (log other : List ℕ) (whose : Option ℕ) (at : ℕ) : Type 0 where
+pub record ServiceOnly (log other : List ℕ) (whose : Whose) (at : ℕ) : Type 0 where
   pub long : length log ≡ length other
   pub only : (i : ℕ) → inside (at + service_first whose) i (at + service_last whose) ≡ false → get_or log i 0 ≡ get_or other i 0
 
@@ -168,25 +169,25 @@ module _ (front xs ys back : List ℕ) (many : length xs ≡ length ys) where
           subst Alike far (behind_middle (i - (length front + length xs)))
 
 -- an ACK's bytes before its service time, and behind it
-abbrev ack_front : Option ℕ → List ℕ
+abbrev ack_front : Whose → List ℕ
 ack_front whose = take (service_first whose) (record_bytes (acked whose 0))
 
-abbrev ack_back : Option ℕ → List ℕ
+abbrev ack_back : Whose → List ℕ
 ack_back whose = drop (service_last whose + 1) (record_bytes (acked whose 0))
 
-acked_bytes : (whose : Option ℕ) (service : ℕ)
+acked_bytes : (whose : Whose) (service : ℕ)
     → (record_bytes (acked whose service) ≡ ack_front whose ++ (bytes_of 4 service ++ ack_back whose))
     × (length (ack_front whose) ≡ service_first whose)
 unfolding record_bytes bytes_of
-acked_bytes None service = (refl, refl)
-acked_bytes (Some flow) service = (refl, refl)
+acked_bytes First service = (refl, refl)
+acked_bytes (Flow flow) service = (refl, refl)
 
-acked_long : (whose : Option ℕ) (service other : ℕ) → length (record_bytes (acked whose service)) ≡ length (record_bytes (acked whose other))
+acked_long : (whose : Whose) (service other : ℕ) → length (record_bytes (acked whose service)) ≡ length (record_bytes (acked whose other))
 unfolding record_bytes bytes_of
-acked_long None service other = refl
-acked_long (Some flow) service other = refl
+acked_long First service other = refl
+acked_long (Flow flow) service other = refl
 
-service_only : (rs : List Record) (whose : Option ℕ) (service other : ℕ)
+service_only : (rs : List Record) (whose : Whose) (service other : ℕ)
     → ServiceOnly (acked_behind rs whose service) (acked_behind rs whose other) whose (length (written rs))
 unfolding bytes_of
 service_only rs whose service other =
@@ -213,17 +214,17 @@ service_only rs whose service other =
           ∙ sym (ap (λ (bs : List ℕ). get_or bs i 0) (bytes other)));
     }
 
-resent_only : (service other : ℕ) → ServiceOnly (resent_log service) (resent_log other) None resent_ack
+resent_only : (service other : ℕ) → ServiceOnly (resent_log service) (resent_log other) First resent_ack
 unfolding resent_log record_bytes bytes_of
-resent_only = service_only (again None) None
+resent_only = service_only (again First) First
 
-flow_only : (service other : ℕ) → ServiceOnly (flow_log service) (flow_log other) (Some 1) flow_ack
+flow_only : (service other : ℕ) → ServiceOnly (flow_log service) (flow_log other) (Flow 1) flow_ack
 unfolding flow_log record_bytes bytes_of
-flow_only = service_only (again (Some 1)) (Some 1)
+flow_only = service_only (again (Flow 1)) (Flow 1)
 
-once_only : (service other : ℕ) → ServiceOnly (once_log service) (once_log other) None once_ack
+once_only : (service other : ℕ) → ServiceOnly (once_log service) (once_log other) First once_ack
 unfolding once_log record_bytes bytes_of
-once_only = service_only once None
+once_only = service_only once First
 
 -- ---- replayed from the start, with one flow or two, of 64 slots, and 256 EV times
 
@@ -257,7 +258,7 @@ pub record Replayed : Type 0 where
   pub accepted : how_many (answered_with 0) (turns_from (resent_log 4)) ≡ 6
   pub ambiguous : last_shown (turns_from (resent_log 4)) ≡ Sample Ambiguous
   pub may : (i : ℕ) → may_differ (resent_log 4) start (turns_from (resent_log 4)) i
-      ≡ (inside (resent_ack + service_first None) i (resent_ack + service_last None) || false)
+      ≡ (inside (resent_ack + service_first First) i (resent_ack + service_last First) || false)
   -- where the packet went out once a sample is taken, and tells the service time
   pub near : last_shown (turns_from (once_log 4)) ≡ Sample (Taken 126)
   pub far : last_shown (turns_from (once_log 104)) ≡ Sample (Taken 26)
@@ -281,7 +282,7 @@ pub record ReplayedOf : Type 0 where
   pub accepted : how_many (answered_with 0) (turns_two (flow_log 4)) ≡ 6
   pub ambiguous : last_shown (turns_two (flow_log 4)) ≡ Sample Ambiguous
   pub may : (i : ℕ) → may_differ (flow_log 4) start (turns_two (flow_log 4)) i
-      ≡ (inside (flow_ack + service_first (Some 1)) i (flow_ack + service_last (Some 1)) || false)
+      ≡ (inside (flow_ack + service_first (Flow 1)) i (flow_ack + service_last (Flow 1)) || false)
 
 pub replayed_of : ReplayedOf
 unfolding flow_log lent_two record_bytes bytes_of little_endian number_at look_up proper_of check_of whole_of front_of parse_at kind_of
@@ -320,14 +321,14 @@ any_service_of service = ambiguous_does_not_matter (flow_log 4) (flow_log servic
 -- and these are different logs
 pub logs_differ : resent_log 4 ≡ resent_log 104 → ⊥
 unfolding resent_log record_bytes bytes_of
-logs_differ e = omega (arith, ap (λ (bs : List ℕ). get_or bs (resent_ack + service_first None) 0) e)
+logs_differ e = omega (arith, ap (λ (bs : List ℕ). get_or bs (resent_ack + service_first First) 0) e)
 
 pub logs_differ_of : flow_log 4 ≡ flow_log 104 → ⊥
 unfolding flow_log record_bytes bytes_of
-logs_differ_of e = omega (arith, ap (λ (bs : List ℕ). get_or bs (flow_ack + service_first (Some 1)) 0) e)
+logs_differ_of e = omega (arith, ap (λ (bs : List ℕ). get_or bs (flow_ack + service_first (Flow 1)) 0) e)
 
 -- THE PREMISE IS NEEDED: the logs differ only in the service time of an ACK, which is not ambiguous, and their answers do
-pub ambiguous_needed : ServiceOnly (once_log 4) (once_log 104) None once_ack × (AllEqual (once_log 4) (once_log 104) start lent → ⊥)
+pub ambiguous_needed : ServiceOnly (once_log 4) (once_log 104) First once_ack × (AllEqual (once_log 4) (once_log 104) start lent → ⊥)
 ambiguous_needed = (
   once_only 4 104,
   λ same. let z : ◌≡◌ {A = ℕ} 126 26 = cc (replayed.near, replayed.far, ap last_shown same.turns) in omega arith,

@@ -1,14 +1,17 @@
 -- REQUEST M-106, "Ambiguous packets must not matter", as a statement that can be read alone. The theorem
 -- `ambiguous_does_not_matter` stands in proofs/Ambiguous.
 -- Assumes nothing.
-use Rattle.std.specs.Prelude.{◌≡◌, Bool, false, ◌&&◌, ◌||◌, List, [], ◌∷◌, ℕ, ◌+◌, length, get_or, None, Ok, Some, Err, Option}
+use Rattle.std.specs.Prelude.{◌≡◌, Bool, false, ◌&&◌, ◌||◌, List, [], ◌∷◌, ℕ, ◌+◌, length, get_or}
 use Rattle.rules.specs.Test.{inside}
 use Rattle.window.specs.declared.Sampling.TheVariants.{Ambiguous}
 use Rattle.context.specs.Context.{Context}
-use Rattle.log_records.specs.Parse.{parse_at, Parsed}
+use Rattle.log_records.specs.Parse.{parse_at}
 use Rattle.log_records.specs.Write.{flow_bytes}
+use Rattle.log_records.specs.declared.record.Whose.{Whose}
 use Rattle.log_records.specs.declared.record.Record.{Record}
 use Rattle.log_records.specs.declared.record.Record.TheVariants.{NewData, Send, Ack, Nack, Loss, Path, SetUp, SetUpEvs}
+use Rattle.log_records.specs.declared.parse.Parsed.{Parsed}
+use Rattle.log_records.specs.declared.parse.Parsed.TheVariants.{Whole, End, Cut, Malformed}
 use Rattle.replay.specs.Batches.{kind_of, batch_of}
 use Rattle.replay.specs.Places.{logged, Turning, turns_of, last_place, last_context}
 use Rattle.replay.specs.declared.Place.{Place}
@@ -19,10 +22,10 @@ use Rattle.replay_report.specs.Tallies.{tally_of}
 
 -- "the service times" of ACK records: the length 2, the kind 2, the time 8, the flow number 1 in a record that has one (M-107), cum 4,
 -- map 8, trigger 4 and count 4 stand before it, and it has 4 bytes
-abbrev pub service_first : Option ℕ → ℕ
+abbrev pub service_first : Whose → ℕ
 service_first whose = 2 + 2 + 8 + flow_bytes whose + 4 + 8 + 4 + 4
 
-abbrev pub service_last : Option ℕ → ℕ
+abbrev pub service_last : Whose → ℕ
 service_last whose = service_first whose + 3
 
 -- whether byte i of a log is one of the service time of a record that stands at an offset: "ACK records" have one, of either kind
@@ -37,9 +40,10 @@ served_by (SetUp s) at i = false
 served_by (SetUpEvs s evs) at i = false
 
 unfoldable pub served_in : Parsed → ℕ → ℕ → Bool
-served_in (Ok (Some w)) at i = served_by w.logged at i
-served_in (Ok None) at i = false
-served_in (Err why) at i = false
+served_in (Whole r next) at i = served_by r at i
+served_in End at i = false
+served_in Cut at i = false
+served_in Malformed at i = false
 
 -- "whose outcome under M-103 in the first log is ambiguous": the turn at a place, which is of the record that stands there
 abbrev pub is_ambiguous : Turning → Bool
