@@ -11,6 +11,7 @@ use std::io::{Read, Seek, Write};
 use std::os::fd::OwnedFd;
 use std::os::unix::net::UnixDatagram;
 use std::process::{Child, ChildStdout, Command, Output, Stdio};
+use std::sync::{Mutex, MutexGuard, PoisonError};
 use std::thread::sleep;
 use std::time::{Duration, Instant};
 use std::{env, process};
@@ -23,6 +24,10 @@ const SHARE: usize = if EMULATED { 10 } else { 1 };
 
 /// The bytes of the log's first record.
 const FIRST: usize = 61;
+
+/// Held by the test that runs: a program that another test starts holds a copy of each pipe's end
+/// from its fork to its exec, so that an output that a test closes is not lost yet.
+static ALONE: Mutex<()> = Mutex::new(());
 
 const HEADER: &str = "rec ans inflight cwnd flying waiting backlog state\n";
 
@@ -58,6 +63,10 @@ fn log() -> Vec<u8> {
         append(record, &mut log).expect("a record that can be written");
     }
     log
+}
+
+fn alone() -> MutexGuard<'static, ()> {
+    ALONE.lock().unwrap_or_else(PoisonError::into_inner)
 }
 
 fn nscc(options: &[&str]) -> Command {
@@ -124,6 +133,7 @@ fn ends_at_first_end(options: &[&str], model: fn(&[u8]) -> String) {
 
 #[test]
 fn an_end_is_an_end() {
+    let _alone = alone();
     let cut = &log()[..FIRST - 1];
     assert_eq!(model::replay(cut), format!("{HEADER}1 12 0\n"));
     assert_eq!(model::replay(b""), HEADER);
@@ -132,11 +142,13 @@ fn an_end_is_an_end() {
 
 #[test]
 fn an_end_is_an_end_of_a_report() {
+    let _alone = alone();
     ends_at_first_end(&["-r"], |log| model::report(log).to_string());
 }
 
 #[test]
 fn a_failed_read_is_no_end() {
+    let _alone = alone();
     let log = log();
     let latest = Duration::from_millis(50);
     let why = "nscc: standard input: Resource temporarily unavailable\n";
@@ -160,6 +172,7 @@ fn a_failed_read_is_no_end() {
 /// Lines that can't be written are told, and nothing is read where not even the header can be.
 #[test]
 fn a_full_disk_is_told() {
+    let _alone = alone();
     let why = "nscc: standard output: No space left on device\n";
     let log = log();
     for (options, read) in [(&[] as &[&str], 0), (&["-p"], 0), (&["-r"], log.len())] {
@@ -176,6 +189,7 @@ fn a_full_disk_is_told() {
 
 #[test]
 fn a_closed_output_is_told() {
+    let _alone = alone();
     let why = "nscc: standard output: Bad file descriptor\n";
     for options in [&[] as &[&str], &["-r"]] {
         let stdin = in_file(&format!("closed{}", options.concat()), &log());
@@ -208,6 +222,7 @@ fn take_header(output: &mut ChildStdout) {
 /// though the log goes on.
 #[test]
 fn lines_that_are_lost_end_the_reading() {
+    let _alone = alone();
     let mut child = through_shell("trap '' PIPE;", &nscc(&[]), "")
         .stdin(Stdio::piped())
         .stdout(Stdio::piped())
