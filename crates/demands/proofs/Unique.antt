@@ -24,7 +24,7 @@ use Rattle.sender.specs.declared.Send.{Send}
 use Rattle.sender.specs.declared.Ack.{Ack}
 use Rattle.sender.specs.declared.Nack.{Nack}
 use Rattle.sender.specs.declared.Loss.{Loss}
-use Rattle.sender.proofs.Refusals.{one_outcome}
+use Rattle.sender.proofs.Refusals.{one_outcome, one_path}
 
 -- the whole outcome of a call: its answer, and the final contents of the ring's memory and of the EV times
 pub record Outcomes (A : Type 0) : Type 0 where
@@ -69,9 +69,9 @@ made_tells x y e =
 
 route_tells : Tells made_route
 route_tells x y e =
-    ap₂ (whole {T = ℕ})
-    (found_one x.answer.outcome y.answer.outcome (ap (λ (z : Routing). z.number) e) (ap (λ (z : Routing). z.ev) e))
-    (ap (λ (z : Routing). z.after) e)
+    let one = one_path (made_route y) x.answer.outcome y.answer.outcome x.answer.state y.answer.state x.slots y.slots
+    x.times y.times e refl in
+    ap₂ (whole {T = ℕ}) one.0 one.1
 
 heard_tells : Tells made_heard
 heard_tells x y e =

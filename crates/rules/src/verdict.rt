@@ -53,8 +53,8 @@ pub enum Refusal {
 // Accepted, or refused.
 pub type Verdict = Result<(), Refusal>;
 
-// What an event answers: the whole state, and its outcome, which is what the event gives beside the state or why it is refused. Refused, the
-// state is as it was given.
+// What an event answers: the whole state, and its outcome, which is what the event gives beside the state or why it is refused. A refused
+// event leaves the state as it was given; a refused setting up answers a state of zeros.
 #[derive(Clone, Copy)]
 pub struct Answer<S, T> {
     pub state: S,

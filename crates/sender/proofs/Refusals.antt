@@ -1,7 +1,7 @@
 -- What the refusals of document 01's table promise, over the definitions that the entry points' contracts cite: a refused event leaves
 -- everything as it was (`refused_same`), the number is that of the first row whose test holds (`rows_exact`), a send for which 01 names no
 -- refusal is accepted (`permitted_new`, `permitted_resend`), request M-100 refuses what was refused and tells which field (`ack_apart` and
--- its like), and a number fixes the outcome (`one_outcome`).
+-- its like), and a number fixes the outcome (`one_outcome`), with the EV that of a path choice (`one_route`, `one_path`).
 -- Assumes nothing.
 use mathlib.Core.Path.{◌≡◌, refl, sym, ap, ap₂, ◌∙◌}
 use mathlib.Core.Bool.{Bool, true, false, not, ◌&&◌, ◌||◌, and-true, true≢false}
@@ -11,11 +11,14 @@ use Prim.Native.Nat.{ℕ}
 use lib.Dec.{eqb}
 use native.Mathlib.Omega.{arith}
 use borrow.Author.Tests.{le-ltb, lt-leb, eq-eqb, eqb-false, not-true}
+use Rattle.std.specs.Prelude.{Result}
+use Rattle.std.specs.Result.{result_unwrap_or}
 use Rattle.rules.specs.Branch.{if_so, eq_yes, so_yes}
 use Rattle.rules.specs.Test.{inside, both, whole, inside_yes}
 use Rattle.rules.specs.Rows.{Row, row, first_of, first_later}
 use Rattle.rules.specs.Verdict.{Verdict, number_of}
-use Rattle.rules.proofs.Verdicts.{number_tells}
+use Rattle.rules.specs.declared.verdict.Refusal.{Refusal}
+use Rattle.rules.proofs.Verdicts.{number_tells, outcome_tells}
 use Rattle.window.specs.declared.Settings.{Settings}
 use Rattle.ledger.specs.Packets.{is_marked}
 use Rattle.ledger.specs.Bounds.{size_least}
@@ -378,3 +381,14 @@ pub one_route : (x : Routing) (v u : Verdict) (i j : ℕ) (c d : Controller) (l 
 one_route x v u i j c d l m t k e f =
     let g = e ∙ sym f in
     (number_tells v u (ap (λ (y : Routing). y.number) g), ap (λ (y : Routing). y.ev) g, ap (λ (y : Routing). y.after) g)
+
+-- .. which is told by the outcome that `path` answers, 0 where it is refused
+pub one_path : (x : Routing) (v u : Result ℕ Refusal) (c d : Controller) (l m : Memory) (t k : List ℕ)
+    → routed (number_of v) (result_unwrap_or v 0) c l t ≡ x → routed (number_of u) (result_unwrap_or u 0) d m k ≡ x
+    → (v ≡ u) × (world c l t ≡ world d m k)
+one_path x v u c d l m t k e f =
+    let g = e ∙ sym f in (
+      outcome_tells (λ (o : Result ℕ Refusal). result_unwrap_or o 0) (λ i j same. same) v u
+          (ap (λ (y : Routing). y.number) g) (ap (λ (y : Routing). y.ev) g),
+      ap (λ (y : Routing). y.after) g,
+    )
