@@ -25,8 +25,8 @@ const SHARE: usize = if EMULATED { 10 } else { 1 };
 /// The bytes of the log's first record.
 const FIRST: usize = 61;
 
-/// Held by the test that runs: a program that another test starts holds a copy of each pipe's end
-/// from its fork to its exec, so that an output that a test closes is not lost yet.
+/// Held by the test that runs: a program that another test starts may hold a copy of a pipe's end
+/// from its fork to its exec, and an output that a test closes is then not lost yet.
 static ALONE: Mutex<()> = Mutex::new(());
 
 const HEADER: &str = "rec ans inflight cwnd flying waiting backlog state\n";
